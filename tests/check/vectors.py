@@ -1,0 +1,298 @@
+#!/usr/bin/env python3
+"""The test vectors of check: document 01's task file and its refusals 1 to 6, in an account of their own.
+
+tests/check/vectors.py           writes crates/check_vectors/data/vectors and crates/check_vectors/stdout
+tests/check/vectors.py --check   writes nothing, and fails where these two files are not what it makes
+tests/check/vectors.py --list    says what each vector is for, and which line it must get
+"""
+import os
+import struct
+import sys
+
+# Document 01's names of the marks 1 to 16.
+NAMES = ['ACTION', 'EFFECT', 'CLAUSE', 'HOLDS', 'LACKS', 'ADD', 'DELETE', 'GOAL', 'START', 'always', 'sometime', 'at-end',
+         'at-most-once', 'sometime-before', 'sometime-after', 'SECOND']
+NAME = dict(enumerate(NAMES, 1))
+MARK = {name: mark for mark, name in NAME.items()}
+PREFERENCES = NAMES[9:15]
+WITH_SECOND = ['sometime-before', 'sometime-after']
+OF_FACTS = ['HOLDS', 'LACKS', 'ADD', 'DELETE']
+
+
+# ---- the account: the answer to a file, read from document 01 sentence by sentence
+
+class Refused(Exception):
+    """Number and place."""
+
+
+class Rows:
+    """The rows of a file, taken from the first to the last."""
+    def __init__(self, facts, marks, values):
+        self.facts, self.marks, self.values = facts, marks, values
+        self.next, self.last_start = 0, -1
+
+    def comes(self, *names):
+        return self.next < len(self.marks) and self.marks[self.next] in names
+
+    def allows(self, name, value):
+        if name == 'ACTION' or name in PREFERENCES:
+            return value <= 1000000
+        if name == 'START':
+            return self.last_start < value < self.facts
+        return value < self.facts if name in OF_FACTS else value == 0
+
+    def take(self, *names):
+        """Takes a row that has to come, with one of these marks and a value that the mark allows."""
+        if not self.comes(*names):
+            raise Refused(4, self.next)  # N where the rows have ended
+        name, value = self.marks[self.next], self.values[self.next]
+        if not self.allows(name, value):
+            raise Refused(5, self.next)
+        if name == 'START':
+            self.last_start = value
+        self.next += 1
+        return name
+
+    def take_any(self, *names):
+        while self.comes(*names):
+            self.take(*names)
+
+    def condition(self):
+        while self.comes('CLAUSE'):
+            self.take('CLAUSE')
+            self.take('HOLDS', 'LACKS')
+            self.take_any('HOLDS', 'LACKS')
+
+    def action(self):
+        self.take('ACTION')
+        self.condition()
+        while self.comes('EFFECT'):
+            self.take('EFFECT')
+            self.condition()
+            self.take_any('ADD')
+            self.take_any('DELETE')
+
+    def preference(self):
+        kind = self.take(*PREFERENCES)
+        self.condition()
+        if kind in WITH_SECOND:
+            self.take('SECOND')
+            self.condition()
+
+    def task(self):
+        """Takes all rows, and answers how many actions and preferences they have."""
+        actions, preferences = 0, 0
+        self.take_any('START')
+        self.take('GOAL')
+        self.condition()
+        while self.comes('ACTION'):
+            self.action()
+            actions += 1
+        while self.comes(*PREFERENCES):
+            self.preference()
+            preferences += 1
+        if self.next < len(self.marks):
+            raise Refused(4, self.next)
+        return actions, preferences
+
+
+def check(data):
+    """The line that the program has to write."""
+    if len(data) < 8:
+        return 'refused 1 0'
+    f, a, p, n = struct.unpack('<4H', data[:8])
+    if not (1 <= f <= 128 and a <= 128 and p <= 16 and n <= 12000):
+        return 'refused 2 0'
+    if len(data) != 8 + 5 * n:
+        return 'refused 3 0'
+    marks = [NAME.get(mark, 'none') for mark in data[8:8 + n]]
+    try:
+        counted = Rows(f, marks, struct.unpack(f'<{n}I', data[8 + n:])).task()
+    except Refused as refusal:
+        return 'refused %d %d' % refusal.args
+    return f'accepted {f} {a} {p} {n}' if counted == (a, p) else f'refused 6 {n}'
+
+
+# ---- making files
+
+def spelled(text):
+    """Rows in document 01's words, 'GOAL CLAUSE HOLDS 1': a value left out is 0, and '#17' is the mark 17."""
+    rows = []
+    for word in text.split():
+        if word.isdigit():
+            rows[-1] = (rows[-1][0], int(word))
+        else:
+            rows.append((int(word[1:]) if word[0] == '#' else MARK[word], 0))
+    return rows
+
+
+def file(text, F=4, A=None, P=None, N=None):
+    """A task file of rows, or of rows in words. The sizes that are left out are those that the rows have."""
+    rows = spelled(text) if isinstance(text, str) else text
+    names = [NAME.get(mark) for mark, _ in rows]
+    actions = names.count('ACTION') if A is None else A
+    preferences = sum(name in PREFERENCES for name in names) if P is None else P
+    header = struct.pack('<4H', F, actions, preferences, len(rows) if N is None else N)
+    return header + bytes(mark for mark, _ in rows) + b''.join(struct.pack('<I', value) for _, value in rows)
+
+
+def goal(n):
+    """A goal of n rows, three or more."""
+    return 'GOAL CLAUSE' + ' HOLDS 3' * (n - 2)
+
+
+# ---- the vectors: what each is for, how its line begins where that is written down here too, and the file
+
+BELT = ('START 1  GOAL CLAUSE LACKS 1  ACTION 3 EFFECT ADD 0 DELETE 1  ACTION 1 EFFECT ADD 1 DELETE 0 '
+        'always 5 CLAUSE LACKS 1  sometime 7 CLAUSE HOLDS 0')
+LONG = ' CLAUSE HOLDS 0 LACKS 3 CLAUSE LACKS 1 '
+SIX_KINDS = f'START 0 START 3 GOAL {LONG}' + 2 * f'ACTION 9 {LONG} EFFECT {LONG} ADD 0 ADD 1 DELETE 2 DELETE 3 EFFECT {LONG}' + (
+    ''.join(f'{kind} 7 {LONG}' + (f'SECOND {LONG}' if kind in WITH_SECOND else '') for kind in PREFERENCES))
+
+
+def accepted_tasks():
+    for what, text in [
+            ('GOAL alone', 'GOAL'), ('no START', goal(4)), ('START and GOAL', 'START 2 GOAL'),
+            ('actions without effects', 'GOAL ACTION 1 ACTION 2 CLAUSE HOLDS 1 ACTION 3'),
+            ('effects without ADD and DELETE', 'GOAL ACTION EFFECT EFFECT CLAUSE LACKS 2 EFFECT'),
+            ('ADD alone, DELETE alone', 'GOAL ACTION EFFECT ADD 1 EFFECT DELETE 1 EFFECT ADD 2 DELETE 0'),
+            ('empty conditions', 'GOAL always sometime at-end at-most-once sometime-before SECOND sometime-after SECOND'),
+            ('one of two conditions empty', 'GOAL sometime-before SECOND CLAUSE HOLDS 1 sometime-after CLAUSE HOLDS 1 SECOND'),
+            ('a literal twice', 'GOAL CLAUSE HOLDS 1 HOLDS 1 ACTION CLAUSE LACKS 2 LACKS 2'),
+            ('HOLDS and LACKS of one fact', 'GOAL CLAUSE HOLDS 1 LACKS 1 CLAUSE LACKS 1 CLAUSE HOLDS 1'),
+            ('a fact added twice, deleted twice, both', 'GOAL ACTION EFFECT ADD 1 ADD 1 DELETE 2 DELETE 2 EFFECT ADD 1 DELETE 1'),
+            ('an action and a preference twice', 'GOAL ACTION 1 ACTION 1 always 1 always 1'),
+            ('all six kinds, every part in its longest form', SIX_KINDS)]:
+        yield what, 'accepted', file(text)
+    yield 'a belt and a gate', 'accepted 2 2 2 18', file(BELT, F=2)
+
+
+def lengths_and_sizes():
+    for n in range(8):
+        yield f'{n} bytes', 'refused 1 0', bytes(n)
+    yield '8 bytes, N 0', 'refused 4 0', file('')
+    yield '9 bytes, N 0', 'refused 3 0', file('') + b'\0'
+    yield '9 bytes, F 0: 2 before 3', 'refused 2 0', bytes(9)
+    for f in [0, 1, 128, 129, 256, 257, 65535]:
+        yield f'F {f}', f'accepted {f} 0 0 3' if f in (1, 128) else 'refused 2 0', file('GOAL CLAUSE HOLDS 0', F=f)
+    for a in [0, 128, 129, 256]:
+        yield f'{a} actions', f'accepted 4 {a} 0 {a + 1}' if a <= 128 else 'refused 2 0', file('GOAL' + ' ACTION' * a)
+    for p in [0, 16, 17, 256]:
+        yield f'{p} preferences', f'accepted 4 0 {p} {p + 1}' if p <= 16 else 'refused 2 0', file('GOAL' + ' at-end' * p)
+    for n in [255, 256, 300, 12001]:
+        yield f'{n} rows', f'accepted 4 0 0 {n}' if n <= 12000 else 'refused 2 0', file(goal(n))
+    yield 'all sizes at their limit', 'accepted 128 128 16 12000', file(goal(11856) + ' ACTION' * 128 + ' always' * 16, F=128)
+    for header in [dict(A=256), dict(A=65535), dict(P=256), dict(P=65535), dict(N=12001), dict(N=65535), dict(F=0, N=2)]:
+        yield f'{header} before GOAL alone', 'refused 2 0', file('GOAL', **header)
+    for n in [3, 256, 300]:
+        yield f'{n} rows, one byte short', 'refused 3 0', file(goal(n))[:-1]
+        yield f'{n} rows, one byte long', 'refused 3 0', file(goal(n)) + b'\0'
+    yield '12,000 rows, one byte long', 'refused 3 0', file(goal(12000)) + b'\0'
+    for n in [0, 2, 4, 256, 259, 12000]:
+        yield f'3 rows, and N is {n}', 'refused 3 0', file(goal(3), N=n)
+    yield '3 before 4, 5 and 6', 'refused 3 0', file('ACTION 1000001', A=2) + b'\0'
+
+
+def values():
+    for name in ['ACTION', *PREFERENCES]:
+        for value in [0, 65536, 1000000, 1000001, 2 ** 24, 2 ** 32 - 1]:
+            text = f'GOAL {name} {value}' + (' SECOND' if name in WITH_SECOND else '')
+            yield f'{name} {value}', 'accepted' if value <= 1000000 else 'refused 5 1', file(text)
+    for before, names in [('', 'START'), ('GOAL CLAUSE', 'HOLDS LACKS'), ('GOAL ACTION CLAUSE', 'HOLDS LACKS'),
+                          ('GOAL ACTION EFFECT CLAUSE', 'HOLDS LACKS'), ('GOAL ACTION EFFECT', 'ADD DELETE'),
+                          ('GOAL at-end CLAUSE', 'HOLDS LACKS'), ('GOAL sometime-after SECOND CLAUSE', 'HOLDS LACKS')]:
+        for name in names.split():
+            for f, value in [(1, 0), (1, 1), (4, 3), (4, 4), (128, 127), (128, 128), (128, 256), (128, 65536), (128, 2 ** 24)]:
+                text = f'{before} {name} {value}' + (' GOAL' if name == 'START' else '')
+                answer = 'accepted' if value < f else f'refused 5 {len(spelled(before))}'
+                yield f'{before} {name} {value}, F {f}', answer, file(text, F=f)
+    for before, name in [('GOAL ACTION', 'EFFECT'), ('GOAL', 'CLAUSE'), ('', 'GOAL'), ('GOAL sometime-before', 'SECOND')]:
+        for value in [1, 256, 65536, 2 ** 24, 2 ** 32 - 1]:
+            yield f'{name} {value}', f'refused 5 {len(spelled(before))}', file(f'{before} {name} {value}')
+    for text, answer in [
+            ('START 1 START 1 GOAL', 'refused 5 1'), ('START 2 START 1 GOAL', 'refused 5 1'), ('START 0 START 1 START 3 GOAL', 'accepted'),
+            ('START 0 START 2 START 1 GOAL', 'refused 5 2'), ('START 0 START 1 START 4 GOAL', 'refused 5 2')]:
+        yield text, answer, file(text)
+    every = ' '.join(f'START {fact}' for fact in range(128))
+    yield 'START of all 128 facts', 'accepted 128 0 0 129', file(every + ' GOAL', F=128)
+    yield 'START of all 128 facts, the last again', 'refused 5 128', file(every + ' START 127 GOAL', F=128)
+
+
+def contexts():
+    """Every context against every mark, with a value that the mark allows and with one that it does not."""
+    owners = ['GOAL', 'GOAL ACTION 5', 'GOAL ACTION 5 EFFECT', *(f'GOAL {kind} 5' for kind in PREFERENCES),
+              *(f'GOAL {kind} 5 SECOND' for kind in WITH_SECOND)]
+    conditions = [owner + more for owner in owners for more in ['', ' CLAUSE', ' CLAUSE HOLDS 1']]
+    for before in ['', 'START 0', *conditions, 'GOAL ACTION 5 EFFECT ADD 1', 'GOAL ACTION 5 EFFECT DELETE 1']:
+        for mark in [*range(18), 255]:
+            name = NAME.get(mark)
+            limit = 1000000 if name in ['ACTION', *PREFERENCES] else 3 if name in ['START', *OF_FACTS] else 0
+            for value in [limit, limit + 1]:
+                yield f'{before}, then mark {mark} with {value}', '', file(f'{before} #{mark} {value}')
+
+
+def order_of_causes():
+    for what, text, answer in [
+            ('5, then 4', 'GOAL CLAUSE HOLDS 4 ADD 1', 'refused 5 2'), ('4, then 5', 'GOAL CLAUSE ADD 1 HOLDS 4', 'refused 4 2'),
+            ('5 in row 0, then 4', 'GOAL 1 GOAL', 'refused 5 0'), ('4 in row 0, then 5', '#0 7 GOAL 1', 'refused 4 0'),
+            ('5, then an end inside a task', 'GOAL 1 CLAUSE', 'refused 5 0'), ('4, then one', 'GOAL ADD 0 CLAUSE', 'refused 4 1'),
+            ('5 in row 299', goal(299) + ' HOLDS 4', 'refused 5 299'), ('4 in row 299', goal(299) + ' ADD 1', 'refused 4 299')]:
+        yield what, answer, file(text)
+    for text in ['', 'START 0', 'START 0 START 1', 'GOAL CLAUSE', goal(4) + ' CLAUSE', goal(299) + ' CLAUSE', 'GOAL ACTION CLAUSE',
+                 'GOAL ACTION EFFECT CLAUSE', 'GOAL always CLAUSE', 'GOAL sometime-before', 'GOAL sometime-before CLAUSE',
+                 'GOAL sometime-after', 'GOAL sometime-after CLAUSE HOLDS 1', 'GOAL sometime-after SECOND CLAUSE']:
+        yield f'ends inside a task: {text[-50:]}', f'refused 4 {len(spelled(text))}', file(text)
+        yield f'ends inside a task, before 6: {text[-50:]}', f'refused 4 {len(spelled(text))}', file(text, A=7, P=7)
+
+
+def counts():
+    two = 'GOAL ACTION 1 ACTION 2 always 1 sometime 2'
+    for header in [dict(A=1), dict(A=3), dict(P=1), dict(P=3), dict(A=3, P=1), dict(A=1, P=3), dict(A=4, P=0), dict(A=0, P=4)]:
+        yield f'2 actions, 2 preferences, and {header}', 'refused 6 5', file(two, **header)
+        yield f'{header}, but 4 in a later row', 'refused 4 5', file(two + ' GOAL', **header)
+        yield f'{header}, but 5 in a later row', 'refused 5 5', file(two + ' CLAUSE 1', **header)
+    for what, text, header in [
+            ('129 actions', 'GOAL' + ' ACTION' * 129, dict(A=128)), ('257 actions', 'GOAL' + ' ACTION' * 257, dict(A=1)),
+            ('17 preferences', 'GOAL' + ' at-end' * 17, dict(P=16)), ('272 preferences', 'GOAL' + ' at-end' * 272, dict(P=16)),
+            ('no action', 'GOAL', dict(A=128)), ('no preference', 'GOAL', dict(P=16)), ('300 rows', goal(300), dict(A=1))]:
+        yield f'{what}, and {header}', f'refused 6 {len(spelled(text))}', file(text, **header)
+
+
+def vectors():
+    """What each vector is for, the file, and the line that the program has to write."""
+    for family in [accepted_tasks, lengths_and_sizes, values, contexts, order_of_causes, counts]:
+        for what, answer, data in family():
+            line = check(data)
+            assert answer in ('', line, line.split()[0]), f'{what}: {line}, and not {answer}'
+            yield what, data, line
+
+
+# ---- the two stored files
+
+def record(data):
+    return struct.pack('<I', len(data)) + data
+
+
+def main(option=None):
+    made = list(vectors())
+    crate = os.path.join(os.path.dirname(os.path.abspath(__file__)), '../../crates/check_vectors')
+    for name, parts in [('data/vectors', [record(data) for _, data, _ in made]),
+                        ('stdout', [line.encode() + b'\n' for _, _, line in made])]:
+        path, at = os.path.normpath(os.path.join(crate, name)), 0
+        if option is None:
+            open(path, 'wb').write(b''.join(parts))
+        stored = open(path, 'rb').read()
+        for part, (what, _, line) in zip(parts, made):
+            if not stored.startswith(part, at):
+                sys.exit(f'{path}: differs from byte {at} on, at the vector "{what}: {line}"')
+            at += len(part)
+        if at < len(stored):
+            sys.exit(f'{path}: goes on behind the last vector, from byte {at} on')
+    if option == '--list':
+        print(*(f'{what}: {line}' for what, _, line in made), sep='\n')
+
+
+if __name__ == '__main__':
+    if sys.argv[1:] not in ([], ['--check'], ['--list']):
+        sys.exit(__doc__)
+    main(*sys.argv[1:])
