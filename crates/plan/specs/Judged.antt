@@ -1,0 +1,32 @@
+-- The judged plan: what judge answers on a task file and a plan, by document 01's 'Refused'.
+use mathlib.Core.Bool.{cond}
+use mathlib.Core.List.{List, [], _∷_}
+use Prim.Native.Nat.{ℕ, suc}
+use lib.Dec.{leb, ltb}
+use lib.ListN.{length}
+use Rattle.task.specs.Lists.{all}
+use Rattle.task.specs.File.{taskOf}
+use Rattle.task.specs.Check.{Answer, check}
+use Rattle.task.specs.Check
+use Rattle.task.specs.Verdict.{Verdict, verdict}
+
+-- a verdict, or a refusal with a number and a place
+pub data Judged : Type 0 where
+  given : Verdict → Judged
+  refused : ℕ → ℕ → Judged
+
+-- how many steps stand before the first that is not below A
+abbrev pub stepsKnown : ℕ → List ℕ → ℕ
+stepsKnown A [] = 0
+stepsKnown A (k ∷ ks) = cond (ltb k A) (suc (stepsKnown A ks)) 0
+
+-- a plan is judged on the task in b where check has accepted it
+abbrev pub judgedBy : List ℕ → List ℕ → Answer → Judged
+judgedBy b p (Check.refused n i) = refused n i
+judgedBy b p (Check.accepted z) =
+    cond (leb (length p) 2048)
+    (cond (all (λ (k : ℕ). ltb k (z .actions)) p) (given (verdict (taskOf b) p)) (refused 11 (stepsKnown (z .actions) p)))
+    (refused 10 0)
+
+unfoldable pub judged : List ℕ → List ℕ → Judged
+judged b p = judgedBy b p (check b)

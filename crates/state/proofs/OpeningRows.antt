@@ -1,0 +1,41 @@
+-- On the START rows of a task, what is read is its opening state.
+use mathlib.Core.Path.{_≡_, refl, ap, _∙_, fun-ext}
+use mathlib.Core.Bool.{Bool, true}
+use mathlib.Core.List.{List, [], _∷_, _++_, map}
+use Prim.Native.Nat.{ℕ, _+_, _≤_}
+use native.Mathlib.Nat.{zero-add}
+use lib.Dec.{T, eqb}
+use lib.ListN.{length, drop, length-map}
+use Rattle.task.specs.Marks.{START}
+use Rattle.task.specs.Lists.{elem}
+use Rattle.task.specs.Task.{Row, row, factsBelow}
+use Rattle.task.specs.File.{paired}
+use Rattle.task.specs.Meaning.{State as Facts}
+use Rattle.task.specs.Rows.{run, runAt}
+use Rattle.task.proofs.Tests.{all-map}
+use Rattle.task.proofs.Reading.{passes, Stops, fold, run-stop, run-through}
+use Rattle.state.specs.Member.{empty}
+use Rattle.state.specs.Effects.{Result}
+use Rattle.state.specs.Opening.{openRow, opened, openAt}
+use Rattle.state.proofs.EffectRows.{allMarked, marked-all}
+
+starts-read : (f : Facts) (ns : List ℕ) → fold openRow f (map (row START) ns) ≡ allMarked true f ns
+starts-read f [] = refl
+starts-read f (n ∷ ns) = starts-read (openRow f (row START n)) ns
+
+abbrev pub isStart : ℕ → Bool
+isStart m = eqb m START
+
+-- START rows at the beginning, with something else behind them
+pub opening-at : (F : ℕ) → F ≤ 128 → (ms vs ns : List ℕ) (xs : List Row)
+    → paired ms vs ≡ map (row START) ns ++ xs → Stops isStart xs → T (factsBelow F ns)
+    → openAt empty ms vs 0 ≡ record { state = λ (n : ℕ). elem n ns; next = length ns }
+unfolding runAt
+opening-at F few ms vs ns xs e h below =
+    rw e
+    (run-through openRow isStart opened empty 0 (map (row START) ns) xs (all-map (passes isStart) (row START) (λ v. tt) ns)
+    ∙ run-stop openRow isStart opened (fold openRow empty (map (row START) ns)) (0 + length (map (row START) ns)) xs h
+    ∙ (λ i. record {
+      state = (starts-read empty ns ∙ fun-ext (λ m. marked-all F few true empty ns m below)) i;
+      next = (zero-add (length (map (row START) ns)) ∙ length-map ns (row START)) i;
+    }))

@@ -1,0 +1,83 @@
+use borrow.Author.Needs.{needs}
+use borrow.Author.Tests.{eq-eqb, ne-eqb}
+use mathlib.Core.Path.{_≡_, sym, ap, _∙_}
+use Prim.Native.Nat.{ℕ, _+_, _-_}
+use denote.Ref.{now}
+use lib.Dec.{eqb}
+use lib.ListN.{length, getD}
+use Rattle.task.specs.Marks.{START}
+use Rattle.task.specs.Meaning.{State as Facts}
+use Rattle.task.proofs.Reading.{goes-on, stops-at, ends-at}
+use Rattle.state.specs.Member.{member, empty}
+use Rattle.state.specs.Opening.{openRow, opened, openAt}
+use Rattle.state.proofs.OpeningRows.{isStart}
+use Rattle.state.proofs.opening.opening.Statement.{statement}
+use Rattle.state.proofs.opening.opening.Tie as tie
+
+abbrev Inv-loop : tie.InvT-loop
+Inv-loop marks values s₀ i₀ s i = openAt (member s) marks values i ≡ openAt empty marks values 0
+
+abbrev μ-loop : tie.MeasureT-loop
+μ-loop marks values s₀ i₀ s i = length marks - i
+
+none-requires : tie.Need-none-requires Inv-loop μ-loop
+none-requires c κs = search needs
+
+loop-holds : tie.Need-loop-holds Inv-loop μ-loop
+loop-holds c = let a = c .before .before .before .args in ap (λ (f : Facts). openAt f (now (a .marks)) (now (a .values)) 0) (c .none .ensures)
+
+shared-slice-read-if1 : tie.Need-shared-slice-read-if1 Inv-loop μ-loop
+shared-slice-read-if1 c = search needs
+
+returns : tie.Need-returns Inv-loop μ-loop
+returns c =
+    let l = c .before .before .before in
+    let a = l .before .before .before .before .args in
+    sym (stops-at openRow isStart opened (member (l .loop .s)) (now (a .marks)) (now (a .values)) (l .loop .i) (search needs)
+    (ne-eqb (getD (now (a .marks)) (l .loop .i) 0) START (c .if1 .taken)))
+    ∙ l .loop .inv
+
+value-at-requires : tie.Need-value-at-requires Inv-loop μ-loop
+value-at-requires c κs = search needs
+
+with-requires : tie.Need-with-requires Inv-loop μ-loop
+with-requires c κs = search needs
+
+add-i : tie.Need-add-i Inv-loop μ-loop
+add-i c = search needs
+
+loop-less : tie.Need-loop-less Inv-loop μ-loop
+loop-less c = search needs
+
+loop-again : tie.Need-loop-again Inv-loop μ-loop
+loop-again c =
+    let l = c .before .before .before .before .before in
+    let a = l .before .before .before .before .args in
+    ap (λ (f : Facts). openAt f (now (a .marks)) (now (a .values)) (l .loop .i + 1)) (c .with .ensures ∙ rw (c .before .value-at .ensures))
+    ∙ sym (goes-on openRow isStart opened (member (l .loop .s)) (now (a .marks)) (now (a .values)) (l .loop .i) (search needs)
+    (eq-eqb (getD (now (a .marks)) (l .loop .i) 0) START (c .before .before .if1 .left)))
+    ∙ l .loop .inv
+
+returns-2 : tie.Need-returns-2 Inv-loop μ-loop
+returns-2 c =
+    let l = c .before in
+    let a = l .before .before .before .before .args in
+    sym (ends-at openRow isStart opened (member (l .loop .s)) (now (a .marks)) (now (a .values)) (l .loop .i) (search needs))
+    ∙ l .loop .inv
+
+pub opening-spec : {M : Type 1} → statement M
+opening-spec =
+    tie.close
+    (tie.spec
+    Inv-loop
+    μ-loop
+    none-requires
+    loop-holds
+    shared-slice-read-if1
+    returns
+    value-at-requires
+    with-requires
+    add-i
+    loop-less
+    loop-again
+    returns-2)

@@ -1,0 +1,27 @@
+// The opening state, read from the START rows.
+ghost use mathlib.Core.Path.{_≡_};
+ghost use Prim.Native.Nat.{_*_, _≤_};
+ghost use lib.ListN.{length};
+ghost use Rattle.state.specs.Member.{empty};
+ghost use Rattle.state.specs.Effects.{resultOf};
+ghost use Rattle.state.specs.Opening.{openAt};
+use super::effects::Applied;
+use task::marks;
+use task::rows;
+
+// The state of the facts that the START rows name, and the row behind them.
+pub fn opening(marks: &[u8], values: &[u8]) -> Applied
+    requires { ⌜ 4 * length (now marks) ≤ length (now values) ⌝ }
+    ensures { λ r. ⌜ resultOf r ≡ openAt empty (now (marks .entry)) (now (values .entry)) 0 ⌝ }
+{
+    let mut s = super::none();
+    let mut i = 0;
+    while i < marks.len() {
+        if marks[i] != marks::START {
+            return Applied { state: s, next: i };
+        }
+        s = super::with(s, rows::value_at(values, i));
+        i += 1;
+    }
+    Applied { state: s, next: i }
+}
