@@ -1,2 +1,4 @@
 pub mod Judged
 pub mod Answers
+pub mod Places
+pub mod Monitors

@@ -1,4 +1,7 @@
 // What a plan is worth on a task.
+mod monitors;
+mod places;
+
 ghost use mathlib.Core.Path.{_≡_};
 ghost use Rattle.plan.specs.Answers.{answer};
 ghost use Rattle.plan.specs.Judged.{refused};
