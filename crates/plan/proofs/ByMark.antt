@@ -1,13 +1,15 @@
--- The kind of a preference by its mark, where a match on the mark has left some marks over.
+-- The kind of a preference by its mark.
 use mathlib.Core.Path.{_≡_, refl}
 use mathlib.Core.Bool.{Bool, true, false, not, cond}
 use Prim.Native.Nat.{ℕ}
 use lib.Dec.{eqb}
 use borrow.Author.Tests.{ne-eqb}
-use Rattle.task.specs.Marks.{ALWAYS, SOMETIME, AT-END, AT-MOST-ONCE, SOMETIME-BEFORE}
-use Rattle.task.specs.Task.{Kind, always, sometime-before, sometime-after}
+use Rattle.task.specs.Marks.{ALWAYS, SOMETIME, AT-END, AT-MOST-ONCE, SOMETIME-BEFORE, SOMETIME-AFTER}
+use Rattle.task.specs.Task.{Kind, always, sometime, at-end, at-most-once, sometime-before, sometime-after, kindMark}
 use Rattle.task.specs.File.{kindOf}
 use Rattle.task.specs.Monitor.{Monitor, good}
+use Rattle.state.specs.Conditions.{inCondition}
+use Rattle.state.specs.Effects.{inEffects}
 
 pub last-kind : (m : ℕ) → (m ≡ ALWAYS → ⊥) → (m ≡ SOMETIME → ⊥) → (m ≡ AT-END → ⊥) → (m ≡ AT-MOST-ONCE → ⊥) → (m ≡ SOMETIME-BEFORE → ⊥)
     → kindOf m ≡ sometime-after
@@ -22,3 +24,20 @@ good-without-B m x s e o = rw (ne-eqb m SOMETIME s, ne-eqb m AT-END e, ne-eqb m 
     go true b = refl
     go false true = refl
     go false false = refl
+
+-- Marks behind a condition, and behind effects
+
+kinds-past : (p : ℕ → Bool) → p ALWAYS ≡ false → p SOMETIME ≡ false → p AT-END ≡ false → p AT-MOST-ONCE ≡ false
+    → p SOMETIME-BEFORE ≡ false → p SOMETIME-AFTER ≡ false → (k : Kind) → p (kindMark k) ≡ false
+kinds-past p a s e o b f always = a
+kinds-past p a s e o b f sometime = s
+kinds-past p a s e o b f at-end = e
+kinds-past p a s e o b f at-most-once = o
+kinds-past p a s e o b f sometime-before = b
+kinds-past p a s e o b f sometime-after = f
+
+pub kind-past : (k : Kind) → inCondition (kindMark k) ≡ false
+kind-past = kinds-past inCondition refl refl refl refl refl refl
+
+pub kind-past-effects : (k : Kind) → inEffects (kindMark k) ≡ false
+kind-past-effects = kinds-past inEffects refl refl refl refl refl refl

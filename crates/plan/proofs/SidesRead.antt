@@ -6,7 +6,6 @@ use Prim.Native.Nat.{ℕ, _+_, _≤_, _<_}
 use native.Mathlib.Omega.{arith}
 use lib.Dec.{T, leb, le→leb}
 use lib.ListN.{length, drop, getD, length-append, length-drop}
-use lib.Seq.{drop-drop, drop-at}
 use Rattle.task.specs.Lists.{concatMap, isEmpty}
 use Rattle.task.specs.Marks.{AT-MOST-ONCE, SOMETIME-BEFORE, SOMETIME-AFTER, SECOND}
 use Rattle.task.specs.Task.{Kind, always, sometime, at-end, at-most-once, sometime-before, sometime-after, Condition, Preference, Row, row}
@@ -18,19 +17,13 @@ use Rattle.task.proofs.Tests.{tests, as-T}
 use Rattle.task.proofs.Bytes.{length-paired}
 use Rattle.task.proofs.Parse.{one-sided-mark, two-sided-mark}
 use Rattle.task.proofs.Reading.{row-at, Stops}
+use Rattle.task.proofs.Positions.{drop-next, drop-behind, preferences-stop}
 use Rattle.state.specs.Conditions.{inCondition, start, evaluateAt}
 use Rattle.state.specs.declared.conditions.Evaluated.{Evaluated}
 use Rattle.state.proofs.ConditionRows.{condition-at, condition-ends}
 use Rattle.plan.specs.declared.monitors.Sides.{Sides}
 use Rattle.plan.specs.Monitors.{Sees}
-
--- Rows behind other rows
-
-pub drop-next : {A : Type 0} (i : ℕ) (l : List A) (x : A) (xs : List A) → drop i l ≡ x ∷ xs → drop (i + 1) l ≡ xs
-drop-next i l x xs e = sym (drop-drop 1 i l) ∙ ap (drop 1) e
-
-pub drop-behind : {A : Type 0} (i : ℕ) (l xs ys : List A) → drop i l ≡ xs ++ ys → drop (i + length xs) l ≡ ys
-drop-behind i l xs ys e = sym (drop-drop (length xs) i l) ∙ ap (drop (length xs)) e ∙ drop-at xs ys (length xs) refl
+use Rattle.plan.proofs.ByMark.{kind-past}
 
 abbrev pub headMark : List Row → ℕ
 headMark [] = 0
@@ -45,18 +38,6 @@ kind-most at-end = omega arith
 kind-most at-most-once = omega arith
 kind-most sometime-before = omega arith
 kind-most sometime-after = omega arith
-
-preferences-stop : (qs : List Preference) → Stops inCondition (concatMap preferenceRows qs)
-preferences-stop [] = tt
-preferences-stop (q ∷ qs) = go (q .kind)
-  where
-    go : (k : Kind) → inCondition (kindMark k) ≡ false
-    go always = refl
-    go sometime = refl
-    go at-end = refl
-    go at-most-once = refl
-    go sometime-before = refl
-    go sometime-after = refl
 
 -- what the loops over its conditions give
 abbrev pub sidesOne : Evaluated → Sides
@@ -112,7 +93,7 @@ module _ (ms vs : List ℕ) (σ : Facts) where
 
       stops-one : Stops inCondition (second-rows (two-sided (q .kind)) ++ more)
       unfolding second-rows
-      stops-one = rw one (preferences-stop qs)
+      stops-one = rw one (preferences-stop inCondition kind-past qs)
 
       rows-one : i + 1 + length (conditionRows (q .first)) ≡ i + length (preferenceRows q)
       rows-one = rw (one, append-nil (conditionRows (q .first))) (omega arith)
@@ -138,7 +119,7 @@ module _ (ms vs : List ℕ) (σ : Facts) where
           (drop-behind (i + 1) (paired ms vs) (conditionRows (q .first)) (second-rows (two-sided (q .kind)) ++ more) behind-head ∙ rw two)
 
       second-is : evaluateAt σ start ms vs (at + 1) ≡ record { holds = isTrue σ (q .second); next = at + 1 + length (conditionRows (q .second)) }
-      second-is = condition-at σ ms vs (at + 1) (q .second) more behind-second (preferences-stop qs)
+      second-is = condition-at σ ms vs (at + 1) (q .second) more behind-second (preferences-stop inCondition kind-past qs)
 
       rows-two : at + 1 + length (conditionRows (q .second)) ≡ i + length (preferenceRows q)
       rows-two = rw (two, length-append (conditionRows (q .first)) (row SECOND 0 ∷ conditionRows (q .second))) (omega arith)
@@ -171,8 +152,13 @@ module _ (ms vs : List ℕ) (σ : Facts) where
     pub read-two : (s : Evaluated) → s ≡ evaluateAt σ start ms vs (r .next + 1) → SOMETIME-BEFORE ≤ getD ms i 0 → Read (sidesTwo r s)
     unfolding whole
     read-two s second-read above = (
-      omega (arith, not-before (i + 1), not-before (r .next + 1), ap (λ (x : Evaluated). x .next) first-read,
-      ap (λ (x : Evaluated). x .next) second-read),
+      omega (
+        arith,
+        not-before (i + 1),
+        not-before (r .next + 1),
+        ap (λ (x : Evaluated). x .next) first-read,
+        ap (λ (x : Evaluated). x .next) second-read,
+      ),
       λ q qs e ok. ap₂ sidesTwo first-read (second-read ∙ ap (λ (x : Evaluated). evaluateAt σ start ms vs (x .next + 1)) first-read)
           ∙ two-sides i h q qs e ok
           (two-sided-mark (q .kind) (le→leb SOMETIME-BEFORE (kindMark (q .kind)) (omega (arith, mark-is i h q qs e ok)))),

@@ -18,9 +18,10 @@ use Rattle.task.specs.Monitor.{Monitor, step}
 use Rattle.task.proofs.Tests.{all-at}
 use Rattle.task.proofs.Back.{kind-back}
 use Rattle.task.proofs.Reading.{row-at, row-end}
+use Rattle.task.proofs.Positions.{drop-behind}
 use Rattle.plan.specs.declared.monitors.Sides.{Sides}
 use Rattle.plan.specs.Monitors.{monitorAt, Sees, Watched}
-use Rattle.plan.proofs.SidesRead.{drop-behind, mark-is}
+use Rattle.plan.proofs.SidesRead.{mark-is}
 
 -- k monitors have seen σ, and the next preference stands at row i
 pub record Seen-by (ms vs : List ℕ) (last : Bool) (σ before : Facts) (qs : List Preference) (now : Facts) (k i : ℕ) : Type 0 where

@@ -127,7 +127,11 @@ pub fn watch(marks: &[u8], values: &[u8], at: usize, s: State, set: State, last:
     let mut i = at;
     while i < marks.len() {
         let q = read_sides(marks, values, i, s);
-        m = put_monitor(m, k, stepped(marks[i], last, monitor_at(m, k), q.phi, q.psi));
+        m = put_monitor(
+            m,
+            k,
+            stepped(marks[i], last, monitor_at(m, k), q.phi, q.psi),
+        );
         k += 1;
         i = q.next;
     }

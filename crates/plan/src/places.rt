@@ -53,7 +53,7 @@ pub fn action(marks: &[u8], values: &[u8], k: usize) -> Found
 
 // The row of preference 0, or the number of rows.
 pub fn preferences(marks: &[u8]) -> usize
-    ensures { λ r. ⌜ r ≡ length (upTo opensPreference (now (marks .entry))) ⌝ }
+    ensures { λ r. ⌜ (r ≡ length (upTo opensPreference (now (marks .entry)))) × (r ≤ length (now (marks .entry))) ⌝ }
 {
     let mut i = 0;
     while i < marks.len() {

@@ -4,6 +4,7 @@ use mathlib.Core.Bool.{Bool, true}
 use mathlib.Core.List.{List, [], _∷_, _++_, map}
 use Prim.Native.Nat.{ℕ, _+_, _≤_}
 use native.Mathlib.Nat.{zero-add}
+use native.Mathlib.Omega.{arith}
 use lib.Dec.{T, eqb}
 use lib.ListN.{length, drop, length-map}
 use Rattle.task.specs.Marks.{START}
@@ -13,7 +14,8 @@ use Rattle.task.specs.File.{paired}
 use Rattle.task.specs.Meaning.{State as Facts}
 use Rattle.task.specs.Rows.{run, runAt}
 use Rattle.task.proofs.Tests.{all-map}
-use Rattle.task.proofs.Reading.{passes, Stops, fold, run-stop, run-through}
+use Rattle.task.proofs.Bytes.{length-paired}
+use Rattle.task.proofs.Reading.{passes, Stops, fold, run-stop, run-through, run-ends}
 use Rattle.state.specs.Member.{empty}
 use Rattle.state.specs.Effects.{Result}
 use Rattle.state.specs.Opening.{openRow, opened, openAt}
@@ -39,3 +41,12 @@ opening-at F few ms vs ns xs e h below =
       state = (starts-read empty ns ∙ fun-ext (λ m. marked-all F few true empty ns m below)) i;
       next = (zero-add (length (map (row START) ns)) ∙ length-map ns (row START)) i;
     }))
+
+-- the row behind the START rows, whatever the rows are
+pub opening-ends : (ms vs : List ℕ) → openAt empty ms vs 0 .next ≤ length ms
+unfolding runAt
+opening-ends ms vs = build (run-ends openRow isStart opened empty 0 (paired ms vs))
+  where
+    build : (f : Facts) × (j : ℕ) × (0 ≤ j) × (j ≤ 0 + length (paired ms vs)) × (run openRow isStart opened empty 0 (paired ms vs) ≡ opened f j)
+        → run openRow isStart opened empty 0 (paired ms vs) .next ≤ length ms
+    build (f, j, lo, hi, e) = let n = ap (λ (r : Result). r .next) e in omega (arith, length-paired ms vs)

@@ -1,6 +1,6 @@
 use borrow.Author.Needs.{needs}
 use mathlib.Core.Path.{_≡_, sym, _∙_}
-use Prim.Native.Nat.{_+_, _-_}
+use Prim.Native.Nat.{_+_, _-_, _≤_}
 use native.Mathlib.Nat.{zero-add}
 use denote.Ref.{now}
 use lib.ListN.{length, drop}
@@ -11,13 +11,13 @@ use Rattle.plan.proofs.places.preferences.Statement.{statement}
 use Rattle.plan.proofs.places.preferences.Tie as tie
 
 abbrev Inv-loop : tie.InvT-loop
-Inv-loop marks i₀ i = i + length (upTo opensPreference (drop i marks)) ≡ length (upTo opensPreference marks)
+Inv-loop marks i₀ i = (i ≤ length marks) × (i + length (upTo opensPreference (drop i marks)) ≡ length (upTo opensPreference marks))
 
 abbrev μ-loop : tie.MeasureT-loop
 μ-loop marks i₀ i = length marks - i
 
 loop-holds : tie.Need-loop-holds Inv-loop μ-loop
-loop-holds c = zero-add _
+loop-holds c = (search needs, zero-add _)
 
 shared-slice-read-is-preference : tie.Need-shared-slice-read-is-preference Inv-loop μ-loop
 shared-slice-read-is-preference c = search needs
@@ -27,10 +27,12 @@ is-preference-requires c κs = search needs
 
 returns : tie.Need-returns Inv-loop μ-loop
 returns c =
-    let l = c .before .before .before .before in
-    sym (upTo-here opensPreference (now (l .before .before .args .marks)) (l .loop .i) (search needs)
-    (sym (c .before .is-preference .ensures) ∙ c .if1 .taken))
-    ∙ l .loop .inv
+    let l = c .before .before .before .before in (
+      sym (upTo-here opensPreference (now (l .before .before .args .marks)) (l .loop .i) (search needs)
+          (sym (c .before .is-preference .ensures) ∙ c .if1 .taken))
+          ∙ l .loop .inv .1,
+      search needs,
+    )
 
 add-i : tie.Need-add-i Inv-loop μ-loop
 add-i c = search needs
@@ -40,15 +42,17 @@ loop-less c = search needs
 
 loop-again : tie.Need-loop-again Inv-loop μ-loop
 loop-again c =
-    let l = c .before .before .before .before in
-    upTo-on opensPreference (now (l .before .before .args .marks)) (l .loop .i) (search needs)
-    (sym (c .before .is-preference .ensures) ∙ c .if1 .left)
-    ∙ l .loop .inv
+    let l = c .before .before .before .before in (
+      search needs,
+      upTo-on opensPreference (now (l .before .before .args .marks)) (l .loop .i) (search needs)
+          (sym (c .before .is-preference .ensures) ∙ c .if1 .left)
+          ∙ l .loop .inv .1,
+    )
 
 returns-2 : tie.Need-returns-2 Inv-loop μ-loop
 returns-2 c =
     let l = c .before in
-    sym (upTo-end opensPreference (now (l .before .before .args .marks)) (l .loop .i) (search needs)) ∙ l .loop .inv
+    (sym (upTo-end opensPreference (now (l .before .before .args .marks)) (l .loop .i) (search needs)) ∙ l .loop .inv .1, search needs)
 
 pub preferences-spec : {M : Type 1} → statement M
 preferences-spec =

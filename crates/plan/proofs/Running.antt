@@ -1,0 +1,121 @@
+-- A plan run step by step comes to the verdict on it.
+use mathlib.Core.Path.{_≡_, refl, sym, ap, ap₂, _∙_, fun-ext, subst⁻¹}
+use mathlib.Core.Bool.{Bool, true, false, cond, _&&_}
+use mathlib.Core.List.{List, [], _∷_, map}
+use Prim.Native.Nat.{ℕ, suc, _+_, _*_, _≤_, _<_}
+use native.Mathlib.Nat.{add-zero, zero-add}
+use native.Mathlib.Numerals.{add-one}
+use native.Mathlib.Omega.{arith}
+use lib.Dec.{T, ltb, ltb→lt}
+use lib.IntN.{pos, _-ℤ_}
+use lib.ListN.{length, drop, getD, drop-of-length-le}
+use lib.Seq.{drop-cons}
+use Rattle.task.specs.Lists.{all, sum, lastOr}
+use Rattle.task.specs.Task.{Task, Preference}
+use Rattle.task.specs.Meaning.{State as Facts, isTrue, opening, after, actionAt, applies, runs, reached, final, cost, seen, isMet, preferenceAt}
+use Rattle.task.specs.Monitor.{Monitor, fresh, step, good}
+use Rattle.task.specs.Verdict.{Verdict, solved, stopped, goal-missed, stepsApplied, verdict}
+use Rattle.task.proofs.Tests.{all-at}
+use Rattle.task.proofs.Watched.{stepAll, watchAll, good-watched}
+use Rattle.state.specs.Member.{member, empty}
+use Rattle.plan.specs.Monitors.{monitorAt}
+use Rattle.plan.specs.Reads.{Reads}
+use Rattle.plan.specs.Steps.{Leads, solvedBy, lastVerdict, MonitorsAre}
+use Rattle.plan.specs.declared.steps.Position.{Position}
+
+-- the verdict on the steps from step i on, in state σ, with monitors μ and cost c so far
+abbrev pub verdictFrom : Task → Facts → (Preference → Monitor) → ℕ → ℕ → List ℕ → Verdict
+verdictFrom t σ μ c i [] = lastVerdict t σ μ c
+verdictFrom t σ μ c i (k ∷ ks) =
+    cond (applies t σ k) (verdictFrom t (after σ (actionAt t k)) (stepAll false μ σ) (c + actionAt t k .cost) (i + 1) ks) (stopped i)
+
+-- with the amounts as they come out
+abbrev outcome : Task → Facts → (Preference → Monitor) → List ℕ → ℕ → ℕ → Verdict
+outcome t σ μ p c i =
+    cond (runs t σ p) (cond (isTrue (lastOr σ (reached t σ p)) (t .goal)) (solvedBy t (watchAll t μ σ p) c) goal-missed) (stopped i)
+
+step-by-step : (t : Task) (σ : Facts) (μ : Preference → Monitor) (c i : ℕ) (p : List ℕ)
+    → verdictFrom t σ μ c i p ≡ outcome t σ μ p (c + cost t p) (i + stepsApplied t σ p)
+step-by-step t σ μ c i [] = ap (λ (n : ℕ). outcome t σ μ [] n i) (sym (add-zero c))
+step-by-step t σ μ c i (k ∷ ks) =
+    go (applies t σ k) refl (step-by-step t (after σ (actionAt t k)) (stepAll false μ σ) (c + actionAt t k .cost) (i + 1) ks)
+  where
+    go : (b : Bool) → applies t σ k ≡ b
+        → verdictFrom t (after σ (actionAt t k)) (stepAll false μ σ) (c + actionAt t k .cost) (i + 1) ks
+        ≡ outcome t (after σ (actionAt t k)) (stepAll false μ σ) ks (c + actionAt t k .cost + cost t ks)
+        (i + 1 + stepsApplied t (after σ (actionAt t k)) ks)
+        → verdictFrom t σ μ c i (k ∷ ks) ≡ outcome t σ μ (k ∷ ks) (c + cost t (k ∷ ks)) (i + stepsApplied t σ (k ∷ ks))
+    go true a e =
+        let costs : c + actionAt t k .cost + cost t ks ≡ c + (actionAt t k .cost + cost t ks) = omega arith in
+        let steps : i + 1 + stepsApplied t (after σ (actionAt t k)) ks ≡ i + suc (stepsApplied t (after σ (actionAt t k)) ks) = omega arith in
+        rw a (e ∙ ap₂ (outcome t (after σ (actionAt t k)) (stepAll false μ σ) ks) costs steps)
+    go false a e = rw a (ap stopped (sym (add-zero i)))
+
+-- monitors that begin fresh come to the amounts of the verdict
+pub from-the-opening : (t : Task) (p : List ℕ) → verdictFrom t (opening t) (λ (q : Preference). fresh) 0 0 p ≡ verdict t p
+unfolding verdict
+from-the-opening t p =
+    step-by-step t (opening t) (λ (q : Preference). fresh) 0 0 p
+    ∙ ap₂ (outcome t (opening t) (λ (q : Preference). fresh) p) (zero-add (cost t p)) (zero-add (stepsApplied t (opening t) p))
+    ∙ ap (λ (ok : Preference → Bool). cond (runs t (opening t) p) (cond (isTrue (final t p) (t .goal))
+    (solved (cost t p) (cost t p + sum (map (λ (q : Preference). cond (ok q) 0 (q .weight)) (t .preferences)))
+    (pos (sum (map (λ (q : Preference). cond (ok q) (q .weight) 0) (t .preferences))) -ℤ pos (cost t p))
+    (λ (k : ℕ). getD (map ok (t .preferences)) k false)) goal-missed) (stopped (stepsApplied t (opening t) p)))
+    (fun-ext (good-watched t p))
+
+-- The loop over the steps
+
+-- position p stands before step i, with some monitors
+pub record Stands (t : Task) (plan : List ℕ) (p : Position) (i : ℕ) : Type 0 where
+  pub monitors : Preference → Monitor
+  pub are : MonitorsAre t p monitors
+  pub same : verdictFrom t (member (p .state)) monitors (p .cost) i (drop i plan) ≡ verdict t plan
+
+abbrev pub Known : Task → List ℕ → Type 0
+Known t plan = T (all (λ (k : ℕ). ltb k (length (t .actions))) plan)
+
+-- what holds before step i
+pub record Running (ms vs plan : List ℕ) (p : Position) (i : ℕ) : Type 0 where
+  pub steps-left : i ≤ length plan
+  pub little : p .cost ≤ i * 4294967296
+  pub stands : (t : Task) → Reads t ms vs → Known t plan → Stands t plan p i
+
+module _ (t : Task) (plan : List ℕ) where
+  pub begins : (p : Position) → member (p .state) ≡ opening t → member (p .set) ≡ empty → p .cost ≡ 0 → Stands t plan p 0
+  begins p s m c = record {
+    monitors = λ q. fresh;
+    are = λ j h. ap (λ (f : Facts). monitorAt f j) m;
+    same = ap₂ (λ (f : Facts) (n : ℕ). verdictFrom t f (λ (q : Preference). fresh) n 0 plan) s c ∙ from-the-opening t plan;
+  }
+
+  module _ (p : Position) (i : ℕ) (s : Stands t plan p i) where
+    pub ends : length plan ≤ i → lastVerdict t (member (p .state)) (s .monitors) (p .cost) ≡ verdict t plan
+    ends h =
+        ap (verdictFrom t (member (p .state)) (s .monitors) (p .cost) i) (sym (drop-of-length-le plan {i = i} h)) ∙ s .same
+
+    module _ (h : i < length plan) (k : ℕ) (read : k ≡ getD plan i 0) where
+      pub known : Known t plan → k < length (t .actions)
+      known all-known =
+          subst⁻¹ (λ (j : ℕ). j < length (t .actions)) read
+          (ltb→lt (getD plan i 0) (length (t .actions)) (all-at (λ (j : ℕ). ltb j (length (t .actions))) plan i 0 all-known h))
+
+      here : cond (applies t (member (p .state)) k)
+          (verdictFrom t (after (member (p .state)) (actionAt t k)) (stepAll false (s .monitors) (member (p .state)))
+          (p .cost + actionAt t k .cost) (i + 1) (drop (suc i) plan)) (stopped i)
+          ≡ verdict t plan
+      here =
+          ap (λ (j : ℕ). verdictFrom t (member (p .state)) (s .monitors) (p .cost) i (j ∷ drop (suc i) plan)) read
+          ∙ ap (verdictFrom t (member (p .state)) (s .monitors) (p .cost) i) (sym (drop-cons plan i 0 h)) ∙ s .same
+
+      pub stops : applies t (member (p .state)) k ≡ false → stopped i ≡ verdict t plan
+      stops e = rw e at here
+
+      pub goes-on : (q : Position) → Leads t k p q → Stands t plan q (i + 1)
+      goes-on q l = record {
+        monitors = stepAll false (s .monitors) (member (p .state));
+        are = λ j b. l .monitors j b
+            ∙ ap (λ (m : Monitor). step (preferenceAt t j .kind) false m (seen (preferenceAt t j) (member (p .state)))) (s .are j b);
+        same =
+            (λ z. verdictFrom t (l .state z) (stepAll false (s .monitors) (member (p .state))) (l .cost z) (i + 1) (drop (add-one i z) plan))
+            ∙ (rw (l .applying) at here);
+      }

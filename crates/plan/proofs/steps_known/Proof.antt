@@ -1,0 +1,67 @@
+use borrow.Author.Needs.{needs}
+use mathlib.Core.Path.{_≡_, sym, _∙_}
+use Prim.Native.Nat.{_+_, _-_, _≤_}
+use native.Mathlib.Nat.{zero-add}
+use native.Mathlib.Omega.{arith}
+use denote.Ref.{now}
+use lib.ListN.{length, drop}
+use Rattle.plan.specs.Judged.{stepsKnown}
+use Rattle.plan.proofs.Judging.{known-here, known-on, known-end}
+use Rattle.plan.proofs.steps_known.Statement.{statement}
+use Rattle.plan.proofs.steps_known.Tie as tie
+
+abbrev Inv-loop : tie.InvT-loop
+Inv-loop actions plan i₀ i = i + stepsKnown actions (drop i plan) ≡ stepsKnown actions plan
+
+abbrev μ-loop : tie.MeasureT-loop
+μ-loop actions plan i₀ i = length plan - i
+
+loop-holds : tie.Need-loop-holds Inv-loop μ-loop
+loop-holds c = zero-add _
+
+shared-slice-read-wide : tie.Need-shared-slice-read-wide Inv-loop μ-loop
+shared-slice-read-wide c = search needs
+
+wide-requires : tie.Need-wide-requires Inv-loop μ-loop
+wide-requires c κs = search needs
+
+returns : tie.Need-returns Inv-loop μ-loop
+returns c =
+    let l = c .before .before .before .before in
+    let a = l .before .before .args in
+    sym (known-here (a .actions) (now (a .plan)) (l .loop .i) (search needs) (omega (arith, c .if1 .taken, c .before .wide .ensures)))
+    ∙ l .loop .inv
+
+add-i : tie.Need-add-i Inv-loop μ-loop
+add-i c = search needs
+
+loop-less : tie.Need-loop-less Inv-loop μ-loop
+loop-less c = search needs
+
+loop-again : tie.Need-loop-again Inv-loop μ-loop
+loop-again c =
+    let l = c .before .before .before .before in
+    let a = l .before .before .args in
+    known-on (a .actions) (now (a .plan)) (l .loop .i) (search needs) (omega (arith, c .if1 .left, c .before .wide .ensures))
+    ∙ l .loop .inv
+
+returns-2 : tie.Need-returns-2 Inv-loop μ-loop
+returns-2 c =
+    let l = c .before in
+    let a = l .before .before .args in
+    sym (known-end (a .actions) (now (a .plan)) (l .loop .i) (search needs)) ∙ l .loop .inv
+
+pub steps-known-spec : {M : Type 1} → statement M
+steps-known-spec =
+    tie.close
+    (tie.spec
+    Inv-loop
+    μ-loop
+    loop-holds
+    shared-slice-read-wide
+    wide-requires
+    returns
+    add-i
+    loop-less
+    loop-again
+    returns-2)

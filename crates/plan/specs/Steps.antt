@@ -1,0 +1,73 @@
+-- What one step, the end of a plan and a whole run give, on marks and values that spell a task.
+use mathlib.Core.Path.{_≡_}
+use mathlib.Core.Bool.{Bool, true, false, cond}
+use mathlib.Core.List.{List, _++_, map}
+use Prim.Native.Nat.{ℕ, _+_, _≤_, _<_}
+use lib.Dec.{T, ltb}
+use lib.IntN.{pos, _-ℤ_}
+use lib.ListN.{length, drop, getD}
+use Rattle.task.specs.Lists.{all, sum}
+use Rattle.task.specs.Task.{Task, Preference, Row, conditionRows}
+use Rattle.task.specs.File.{paired}
+use Rattle.task.specs.Meaning.{State as Facts, isTrue, after, actionAt, applies, seen, preferenceAt}
+use Rattle.task.specs.Monitor.{Monitor, step, good}
+use Rattle.task.specs.Verdict
+use Rattle.task.specs.Verdict.{verdict}
+use Rattle.state.specs.Member.{member}
+use Rattle.plan.specs.Answers.{asVerdict}
+use Rattle.plan.specs.Monitors.{monitorAt}
+use Rattle.plan.specs.Reads.{Reads, PreferencesAt}
+use Rattle.plan.specs.declared.Verdict.{Verdict}
+use Rattle.plan.specs.declared.steps.Position.{Position}
+use Rattle.plan.specs.declared.steps.Moved.{Moved}
+use Rattle.plan.specs.declared.steps.Moved.the-variants.{To, Stopped}
+
+-- a step by action k of t leads from p to q
+pub record Leads (t : Task) (k : ℕ) (p q : Position) : Type 0 where
+  pub applying : applies t (member (p .state)) k ≡ true
+  pub state : member (q .state) ≡ after (member (p .state)) (actionAt t k)
+  pub cost : q .cost ≡ p .cost + actionAt t k .cost
+  pub monitors : (j : ℕ) → j < length (t .preferences)
+      → monitorAt (member (q .set)) j
+      ≡ step (preferenceAt t j .kind) false (monitorAt (member (p .set)) j) (seen (preferenceAt t j) (member (p .state)))
+
+abbrev pub Moving : Task → ℕ → Position → Moved → Type 0
+Moving t k p (To q) = Leads t k p q
+Moving t k p Stopped = applies t (member (p .state)) k ≡ false
+
+-- whatever the rows are, a step costs less than 2 ^ 32
+abbrev pub CostsLittle : Position → Moved → Type 0
+CostsLittle p (To q) = q .cost < p .cost + 4294967296
+CostsLittle p Stopped = Unit {0}
+
+abbrev pub Moves : List ℕ → List ℕ → ℕ → ℕ → Position → Moved → Type 0
+Moves ms vs at k p r =
+    CostsLittle p r × ((t : Task) → Reads t ms vs → PreferencesAt t ms vs at → k < length (t .actions) → Moving t k p r)
+
+-- The verdict on a plan whose goal holds, of cost c, by monitors that have seen all states
+module _ (t : Task) (μ : Preference → Monitor) (c : ℕ) where
+  abbrev pub isGood : Preference → Bool
+  isGood q = good (q .kind) (μ q)
+
+  abbrev pub solvedBy : Verdict.Verdict
+  solvedBy =
+      Verdict.solved c (c + sum (map (λ (q : Preference). cond (isGood q) 0 (q .weight)) (t .preferences)))
+      (pos (sum (map (λ (q : Preference). cond (isGood q) (q .weight) 0) (t .preferences))) -ℤ pos c)
+      (λ (k : ℕ). getD (map isGood (t .preferences)) k false)
+
+-- the verdict behind the last step, in the last state σ, by monitors that have seen those before it
+abbrev pub lastVerdict : Task → Facts → (Preference → Monitor) → ℕ → Verdict.Verdict
+lastVerdict t σ μ c =
+    cond (isTrue σ (t .goal)) (solvedBy t (λ (q : Preference). step (q .kind) true (μ q) (seen q σ)) c) Verdict.goal-missed
+
+abbrev pub MonitorsAre : Task → Position → (Preference → Monitor) → Type 0
+MonitorsAre t p μ = (j : ℕ) → j < length (t .preferences) → monitorAt (member (p .set)) j ≡ μ (preferenceAt t j)
+
+abbrev pub Finishes : List ℕ → List ℕ → ℕ → ℕ → Position → Verdict → Type 0
+Finishes ms vs at goal p r =
+    (t : Task) → Reads t ms vs → PreferencesAt t ms vs at → goal ≡ length (t .start) + 1
+    → (μ : Preference → Monitor) → MonitorsAre t p μ → asVerdict r ≡ lastVerdict t (member (p .state)) μ (p .cost)
+
+abbrev pub Runs : List ℕ → List ℕ → List ℕ → Verdict → Type 0
+Runs ms vs plan r =
+    (t : Task) → Reads t ms vs → T (all (λ (k : ℕ). ltb k (length (t .actions))) plan) → asVerdict r ≡ verdict t plan

@@ -1,0 +1,93 @@
+// A plan's steps, one after the other.
+ghost use mathlib.Core.Path.{_≡_};
+ghost use Prim.Native.Nat.{_+_, _*_, _^_, _≤_, _<_};
+ghost use lib.ListN.{length};
+ghost use Rattle.plan.specs.Steps.{Moves, Finishes, Runs};
+use super::Verdict;
+use super::amounts;
+use super::monitors;
+use super::places;
+use state::State;
+use state::conditions;
+use state::effects;
+use state::opening;
+
+// Where a plan has come to: the state, the monitors that have seen those before it, and the cost.
+pub struct Position {
+    pub state: State,
+    pub set: State,
+    pub cost: u64,
+}
+
+pub enum Moved {
+    To(Position),
+    Stopped,
+}
+
+// A step as a number of actions to pass.
+pub fn wide(k: u8) -> usize
+    ensures { λ r. ⌜ r ≡ k ⌝ }
+{
+    k as usize
+}
+
+// One step by action k; the preferences stand from row `at` on.
+fn step(marks: &[u8], values: &[u8], at: usize, k: usize, p: Position) -> Moved
+    requires { ⌜ (4 * length (now marks) ≤ length (now values)) × (length (now marks) ≤ 12000) × (p .cost < 2 ^ 62) ⌝ }
+    ensures { λ r. ⌜ Moves (now (marks .entry)) (now (values .entry)) at k p r ⌝ }
+{
+    let s = p.state;
+    let set = monitors::watch(marks, values, at, s, p.set, false);
+    let a = places::action(marks, values, k);
+    let pre = conditions::condition(marks, values, a.next, s);
+    if !pre.holds {
+        return Moved::Stopped;
+    }
+    let next = effects::after(marks, values, pre.next, s);
+    let state = next.state;
+    Moved::To(Position {
+        state,
+        set,
+        cost: p.cost + (a.cost as u64),
+    })
+}
+
+// The verdict behind the last step; the goal's condition stands from row `goal` on.
+fn finish(marks: &[u8], values: &[u8], at: usize, goal: usize, p: Position) -> Verdict
+    requires { ⌜ (4 * length (now marks) ≤ length (now values)) × (length (now marks) ≤ 12000) × (p .cost < 2 ^ 62) × (at ≤ length (now marks)) ⌝ }
+    ensures { λ r. ⌜ Finishes (now (marks .entry)) (now (values .entry)) at goal p r ⌝ }
+{
+    let s = p.state;
+    let set = monitors::watch(marks, values, at, s, p.set, true);
+    let g = conditions::condition(marks, values, goal, s);
+    if !g.holds {
+        return Verdict::GoalMissed;
+    }
+    Verdict::Solved(amounts::worth(p.cost, amounts::total(marks, values, at, set)))
+}
+
+// The verdict on a plan of known steps.
+pub fn run(marks: &[u8], values: &[u8], plan: &[u8]) -> Verdict
+    requires { ⌜ (4 * length (now marks) ≤ length (now values)) × (length (now marks) ≤ 12000) × (length (now plan) ≤ 2048) ⌝ }
+    ensures { λ r. ⌜ Runs (now (marks .entry)) (now (values .entry)) (now (plan .entry)) r ⌝ }
+{
+    let start = opening::opening(marks, values);
+    let goal = start.next + 1;
+    let state = start.state;
+    let at = places::preferences(marks);
+    let mut p = Position {
+        state,
+        set: state::none(),
+        cost: 0,
+    };
+    let mut i = 0;
+    while i < plan.len() {
+        let moved = step(marks, values, at, wide(plan[i]), p);
+        let Moved::To(q) = moved else {
+            return Verdict::Stopped(i);
+        };
+        p = q;
+        i += 1;
+    }
+    finish(marks, values, at, goal, p)
+}

@@ -1,0 +1,94 @@
+-- Where the parts of a task stand among its rows, and what stands behind each.
+use mathlib.Core.Path.{_≡_, refl, sym, ap, _∙_}
+use mathlib.Core.Bool.{Bool, false}
+use mathlib.Core.List.{List, [], _∷_, _++_, map, append-nil}
+use Prim.Native.Nat.{ℕ, _+_}
+use lib.Dec.{T}
+use lib.ListN.{length, drop, length-map}
+use lib.Seq.{drop-drop, drop-at}
+use Rattle.task.specs.Lists.{concatMap, upTo}
+use Rattle.task.specs.Marks.{ACTION, EFFECT, GOAL, START}
+use Rattle.task.specs.Task.{Kind, Effect, Action, Preference, Task, Row, row, kindMark, conditionRows, effectRows, actionRows, preferenceRows, taskRows}
+use Rattle.task.specs.File.{isPreference}
+use Rattle.task.proofs.Tests.{noneOf, without, all-both, all-map, all-concat, upTo-none, as-true}
+use Rattle.task.proofs.Back.{fromGoal, task-grouped, condition-passes, effects-pass, kind-passes}
+use Rattle.task.proofs.Reading.{Stops}
+
+-- Rows behind other rows
+
+pub drop-next : {A : Type 0} (i : ℕ) (l : List A) (x : A) (xs : List A) → drop i l ≡ x ∷ xs → drop (i + 1) l ≡ xs
+drop-next i l x xs e = sym (drop-drop 1 i l) ∙ ap (drop 1) e
+
+pub drop-behind : {A : Type 0} (i : ℕ) (l xs ys : List A) → drop i l ≡ xs ++ ys → drop (i + length xs) l ≡ ys
+drop-behind i l xs ys e = sym (drop-drop (length xs) i l) ∙ ap (drop (length xs)) e ∙ drop-at xs ys (length xs) refl
+
+-- the rows behind n others are ys
+abbrev pub Behind : List Row → ℕ → List Row → Type 0
+Behind rows n ys = (xs : List Row) × (rows ≡ xs ++ ys) × (length xs ≡ n)
+
+pub behind-drop : (rows : List Row) (n : ℕ) (ys : List Row) → Behind rows n ys → drop n rows ≡ ys
+behind-drop rows n ys (xs, e, l) = ap (drop n) e ∙ drop-at xs ys n l
+
+-- What may stand behind a condition, and behind effects
+
+abbrev pub tailRows : List Action → List Preference → List Row
+tailRows l qs = concatMap actionRows l ++ concatMap preferenceRows qs
+
+module _ (p : ℕ → Bool) (kinds : (k : Kind) → p (kindMark k) ≡ false) where
+  pub preferences-stop : (qs : List Preference) → Stops p (concatMap preferenceRows qs)
+  preferences-stop [] = tt
+  preferences-stop (q ∷ qs) = kinds (q .kind)
+
+  module _ (action : p ACTION ≡ false) where
+    pub tail-stops : (l : List Action) (qs : List Preference) → Stops p (tailRows l qs)
+    tail-stops [] qs = preferences-stop qs
+    tail-stops (a ∷ l) qs = action
+
+    pub effects-stop : p EFFECT ≡ false → (es : List Effect) (l : List Action) (qs : List Preference)
+        → Stops p (concatMap effectRows es ++ tailRows l qs)
+    effects-stop e [] l qs = tail-stops l qs
+    effects-stop e (f ∷ es) l qs = e
+
+-- START rows, then GOAL
+
+pub starts-behind : (t : Task) → Behind (taskRows t) (length (t .start)) (fromGoal t)
+starts-behind t = (map (row START) (t .start), task-grouped t, length-map (t .start) (row START))
+
+pub goal-behind : (t : Task) → drop (length (t .start) + 1) (taskRows t) ≡ conditionRows (t .goal) ++ tailRows (t .actions) (t .preferences)
+goal-behind t =
+    drop-next (length (t .start)) (taskRows t) (row GOAL 0) (conditionRows (t .goal) ++ tailRows (t .actions) (t .preferences))
+    (behind-drop (taskRows t) (length (t .start)) (fromGoal t) (starts-behind t))
+
+-- Before the preferences no row has a preference's mark
+
+abbrev front : Task → List Row
+front t = map (row START) (t .start) ++ (row GOAL 0 ∷ conditionRows (t .goal)) ++ concatMap actionRows (t .actions)
+
+action-no-preference : (a : Action) → T (noneOf isPreference (actionRows a))
+action-no-preference a =
+    all-both (without isPreference) (conditionRows (a .precondition)) (concatMap effectRows (a .effects))
+    (condition-passes (without isPreference) (λ v. tt) (λ v. tt) (λ v. tt) (a .precondition))
+    (effects-pass (without isPreference) (λ v. tt) (λ v. tt) (λ v. tt) (λ v. tt) (λ v. tt) (λ v. tt) (a .effects))
+
+front-no-preference : (t : Task) → T (noneOf isPreference (front t))
+front-no-preference t =
+    all-both (without isPreference) (map (row START) (t .start) ++ (row GOAL 0 ∷ conditionRows (t .goal))) (concatMap actionRows (t .actions))
+    (all-both (without isPreference) (map (row START) (t .start)) (row GOAL 0 ∷ conditionRows (t .goal))
+    (all-map (without isPreference) (row START) (λ v. tt) (t .start))
+    (condition-passes (without isPreference) (λ v. tt) (λ v. tt) (λ v. tt) (t .goal)))
+    (all-concat (without isPreference) actionRows action-no-preference (t .actions))
+
+pub kind-preference : (k : Kind) (v : ℕ) → T (isPreference (row (kindMark k) v))
+kind-preference k v = kind-passes isPreference (λ v. tt) (λ v. tt) (λ v. tt) (λ v. tt) (λ v. tt) (λ v. tt) k v
+
+up-to-preferences : (qs : List Preference) → upTo isPreference (concatMap preferenceRows qs) ≡ []
+up-to-preferences [] = refl
+up-to-preferences (q ∷ qs) = rw (as-true (isPreference (row (kindMark (q .kind)) (q .weight))) (kind-preference (q .kind) (q .weight)))
+
+pub preferences-behind : (t : Task) → drop (length (upTo isPreference (taskRows t))) (taskRows t) ≡ concatMap preferenceRows (t .preferences)
+preferences-behind t =
+    let before : upTo isPreference (taskRows t) ≡ front t ++ [] =
+    upTo-none isPreference (front t) (concatMap preferenceRows (t .preferences)) (front-no-preference t)
+    ∙ ap (λ (xs : List Row). front t ++ xs) (up-to-preferences (t .preferences)) in
+    drop-at (front t) (concatMap preferenceRows (t .preferences)) (length (upTo isPreference (taskRows t)))
+    (sym (ap length before ∙ ap length (append-nil (front t))))
