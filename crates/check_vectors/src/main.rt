@@ -34,7 +34,7 @@ fn check_next(fd: i32) -> bool {
     let Next::Record(n) = next else {
         return false;
     };
-    write_answer(task::check(vectors::body(&buf, n)));
+    write_answer(task::check(text::front(&buf, n)));
     true
 }
 

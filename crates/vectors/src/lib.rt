@@ -1,6 +1,4 @@
 // A file of test vectors: records one after the other, each a little-endian length of 32 bits and then that many bytes.
-ghost use mathlib.Core.Path.{_≡_};
-ghost use lib.ListN.{take};
 ghost use Rattle.vectors.specs.Records.{Filled};
 
 // What stands next in a file: a record of so many bytes, or none.
@@ -35,12 +33,4 @@ pub fn next_record(fd: i32, buf: &mut [u8]) -> Next
     }
     let n = task::rows::word(length[0], length[1], length[2], length[3]);
     read_body(fd, buf, n as usize)
-}
-
-// The record of n bytes at the start of the buffer; the whole buffer where it has no more than that. Unlike `&buf[..n]`
-// it asks the caller for no proof.
-pub fn body(buf: &[u8], n: usize) -> &[u8]
-    ensures { λ r. ⌜ now r ≡ take n (now (buf .entry)) ⌝ }
-{
-    if n <= buf.len() { &buf[..n] } else { buf }
 }

@@ -1,0 +1,68 @@
+-- The text from the rows, and the text of the task that they spell.
+use mathlib.Core.Path.{_≡_, ap, _∙_, subst}
+use mathlib.Core.List.{List}
+use Prim.Native.Nat.{ℕ, _+_, _*_, _-_, _≤_}
+use native.Mathlib.Omega.{arith}
+use lib.Dec.{T, leb→le}
+use lib.ListN.{length, take, drop, length-drop}
+use lib.Seq.{take-all}
+use Rattle.task.specs.Task.{Row, Task, taskRows}
+use Rattle.task.specs.File.{Sizes, taskOf, paired, rows}
+use Rattle.task.specs.Check.{check, accepted, sizesAllowed}
+use Rattle.task.specs.Check
+use Rattle.task.proofs.Tests.{tests}
+use Rattle.task.proofs.Spelled.{Spelling, accepted-spelling}
+use Rattle.plan.specs.Judged.{Judged, judged}
+use Rattle.text.specs.Area.{Wrote, Filled}
+use Rattle.text.proofs.Writing.{from-start}
+use Rattle.report.specs.Report.{reportOf, reportOn}
+use Rattle.report.specs.Rows.{reportOfRows}
+use Rattle.report.proofs.Spelled.{task-report}
+
+spelled-report : (t : Task) (xs : List Row) → xs ≡ taskRows t → (n : ℕ) (j : Judged) → reportOfRows xs n j ≡ reportOf t n j
+spelled-report t xs e n j = ap (λ (ys : List Row). reportOfRows ys n j) e ∙ task-report t n j
+
+pub reported : (b : List ℕ) (xs : List Row) (n : ℕ) (j : Judged) (r : ℕ) (out : List ℕ) → Wrote b 0 (reportOfRows xs n j) r out
+    → Filled b (reportOfRows xs n j) r out × ((t : Task) → xs ≡ taskRows t → Filled b (reportOf t n j) r out)
+reported b xs n j r out w =
+    (from-start w, λ t e. subst (λ (l : List ℕ). Filled b l r out) (spelled-report t xs e n j) (from-start w))
+
+-- For a caller that has judged the plan p on the file b, and lends the two parts of the file
+
+-- an accepted file of n rows: its parts are its rows
+pub record Lent (b : List ℕ) (n : ℕ) : Type 0 where
+  pub exact : length b ≡ 8 + 5 * n
+  pub few : n ≤ 12000
+  pub parts : paired (take (8 + n - 8) (drop 8 b)) (take (length b - (8 + n)) (drop (8 + n) b)) ≡ rows b
+
+pub lent : (b : List ℕ) (z : Sizes) → check b ≡ accepted z → Lent b (z .rows)
+lent b z h = build (accepted-spelling b z h)
+  where
+    build : Spelling b z → Lent b (z .rows)
+    build s =
+        let n : ℕ = z .rows in
+        let sizes-fine : T (sizesAllowed z) = s .allowed in
+        let e : 8 + n - 8 ≡ n = omega arith in
+        let short : length (drop (8 + n) b) ≤ length b - (8 + n) = omega (arith, length-drop (8 + n) b) in
+        record {
+          exact = s .exact;
+          few = leb→le n 12000 (search tests);
+          parts = rw (e, take-all (length b - (8 + n)) (drop (8 + n) b) short, s .same);
+        }
+
+module _ (b p : List ℕ) (j : Judged) (q : j ≡ judged b p) (out : List ℕ) (r : ℕ) (out′ : List ℕ) where
+  pub on-accepted : (z : Sizes) → check b ≡ accepted z
+      → Filled out (reportOfRows (paired (take (8 + z .rows - 8) (drop 8 b)) (take (length b - (8 + z .rows)) (drop (8 + z .rows) b))) (length p) j) r out′
+      → Filled out (reportOn b p) r out′
+  unfolding reportOn
+  on-accepted z h =
+      subst (λ (l : List ℕ). Filled out l r out′)
+      (spelled-report (taskOf b) _ (lent b z h .parts ∙ accepted-spelling b z h .spelled) (length p) j
+      ∙ ap (reportOf (taskOf b) (length p)) q)
+
+  -- no rows are read for a refused file
+  pub on-refused : (n i : ℕ) → check b ≡ Check.refused n i → (xs : List Row)
+      → Filled out (reportOfRows xs (length p) j) r out′ → Filled out (reportOn b p) r out′
+  unfolding reportOn judged
+  on-refused n i h xs =
+      subst (λ (l : List ℕ). Filled out l r out′) (ap (reportOfRows xs (length p)) q ∙ rw h)

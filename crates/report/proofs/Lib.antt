@@ -1,0 +1,7 @@
+-- What the rows of a task come to
+pub mod Spelled
+pub mod Examples
+-- What the code writes
+pub mod Listing
+pub mod Signed
+pub mod Answering

@@ -1,0 +1,87 @@
+-- The lines that a loop over the rows writes.
+use mathlib.Core.Path.{_≡_, refl, sym, ap, _∙_}
+use mathlib.Core.Bool.{Bool, true, false, and-false}
+use mathlib.Core.List.{List, [], _++_, append-assoc, append-nil}
+use Prim.Native.Nat.{ℕ, _+_, _*_, _^_, _<_, _≤_}
+use native.Mathlib.Nat.{div-eq-of-lt, lt-of-lt-of-le}
+use native.Mathlib.Omega.{arith}
+use lib.ListN.{length, getD, drop}
+use lib.Pow.{pow-mono}
+use borrow.Author.Tests.{le-leb, lt-leb}
+use Rattle.task.specs.Task.{Row, row}
+use Rattle.task.specs.File.{paired, isPreference}
+use Rattle.task.specs.Check.{count}
+use Rattle.task.specs.Rows.{valueAt}
+use Rattle.task.proofs.Reading.{row-at, row-end}
+use Rattle.state.specs.Member.{bit, member}
+use Rattle.state.proofs.Bits.{zero-law}
+use Rattle.state.proofs.Words.{by-words}
+use Rattle.text.specs.Area.{Wrote}
+use Rattle.text.proofs.Writing.{then, no-bytes}
+use Rattle.report.specs.Rows.{rowLine, rowLines}
+
+-- The met preferences
+
+no-high-bit : (w k : ℕ) → w < 2 ^ 64 → 64 ≤ k → bit w k ≡ false
+unfolding bit
+no-high-bit w k h l = rw (div-eq-of-lt (lt-of-lt-of-le h (pow-mono l)))
+
+-- as the facts of a state whose second word is empty
+pub met-set : (w : ℕ) → w < 2 ^ 64 → member (record { low = w; high = 0 }) ≡ bit w
+met-set w h =
+    by-words (record { low = w; high = 0 }) (bit w) (λ i k. refl)
+    (λ i k. zero-law i ∙ sym (no-high-bit w (64 + i) h (omega arith)))
+    (λ m k. no-high-bit w m h (omega arith))
+
+-- One row
+
+module _ (m v : ℕ) where
+  pub opens : 10 ≤ m → m ≤ 15 → isPreference (row m v) ≡ true
+  opens a b = rw (le-leb 10 m a, le-leb m 15 b)
+
+  pub too-low : m < 10 → isPreference (row m v) ≡ false
+  too-low a = rw (lt-leb 10 m a)
+
+  pub too-high : 15 < m → isPreference (row m v) ≡ false
+  too-high b = rw (lt-leb m 15 b, and-false)
+
+-- The rows one after the other
+
+-- the lines of the first i rows are written: p is the place behind them, and k the number of the next preference
+pub record Listed (met : ℕ → Bool) (ms vs b : List ℕ) (at : ℕ) (out : List ℕ) (p k i : ℕ) : Type 0 where
+  pub within : i ≤ length ms
+  pub counted : k ≤ i
+  pub near : p ≤ at + 65 * i
+  pub lines : List ℕ
+  pub wrote : Wrote b at lines p out
+  pub rest : lines ++ rowLines met k (drop i (paired ms vs)) ≡ rowLines met 0 (paired ms vs)
+
+module _ (met : ℕ → Bool) (ms vs b : List ℕ) (at : ℕ) where
+  pub no-rows : Listed met ms vs b at b at 0 0
+  no-rows = record { within = omega arith; counted = omega arith; near = omega arith; lines = []; wrote = no-bytes b at; rest = refl }
+
+  module _ (out : List ℕ) (p k i : ℕ) (l : Listed met ms vs b at out p k i) where
+    pub next-row : (q j : ℕ) (out′ : List ℕ) → i < length ms
+        → Wrote out p (rowLine met k (row (getD ms i 0) (valueAt vs i))) q out′
+        → j ≡ count (isPreference (row (getD ms i 0) (valueAt vs i))) k → q ≤ p + 65 → j ≤ k + 1
+        → Listed met ms vs b at out′ q j (i + 1)
+    unfolding rowLines
+    next-row q j out′ h w e n s =
+        let x : Row = row (getD ms i 0) (valueAt vs i) in
+        record {
+          within = omega arith;
+          counted = omega (arith, l .counted);
+          near = omega (arith, l .near);
+          lines = l .lines ++ rowLine met k x;
+          wrote = then (l .wrote) w;
+          rest =
+              rw (e, append-assoc (l .lines) (rowLine met k x) (rowLines met (count (isPreference x) k) (drop (i + 1) (paired ms vs))))
+              (ap (λ (xs : List Row). l .lines ++ rowLines met k xs) (sym (row-at ms vs i h)) ∙ l .rest);
+        }
+
+    pub all-rows : length ms ≤ i → Wrote b at (rowLines met 0 (paired ms vs)) p out × (p ≤ at + 65 * length ms)
+    unfolding rowLines
+    all-rows h =
+        let e : l .lines ≡ rowLines met 0 (paired ms vs) =
+        sym (append-nil (l .lines)) ∙ ap (λ (xs : List Row). l .lines ++ rowLines met k xs) (sym (row-end ms vs i h)) ∙ l .rest in
+        (rw (← e) (l .wrote), omega (arith, l .near, l .within))

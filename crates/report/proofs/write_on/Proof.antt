@@ -1,0 +1,109 @@
+use mathlib.Core.Path.{_≡_, sym, ap, _∙_}
+use native.Mathlib.Omega.{arith}
+use lib.ListN.{length-take, length-drop}
+use denote.Ref.{now}
+use Rattle.task.specs.Check.{check, accepted}
+use Rattle.task.specs.Answers.{asSizes}
+use Rattle.task.specs.Answers.{answer as checked}
+use Rattle.report.proofs.Answering.{Lent, lent, on-accepted, on-refused}
+use borrow.Author.Needs.{needs}
+use Rattle.report.proofs.write_on.Statement.{statement}
+use Rattle.report.proofs.write_on.Tie as tie
+
+-- where the file was accepted
+was-accepted : (c : tie.After-c) → check (now (c .before .before .before .before .before .before .args .file)) ≡ accepted (asSizes (c .c .given .0 .0))
+was-accepted c = sym (c .before .before .check .ensures) ∙ ap checked (c .c .given .1)
+
+lengths : (c : tie.After-c) → Lent (now (c .before .before .before .before .before .before .args .file)) (c .c .given .0 .0 .rows)
+lengths c = lent (now (c .before .before .before .before .before .before .args .file)) (asSizes (c .c .given .0 .0)) (was-accepted c)
+
+check-requires : tie.Need-check-requires
+check-requires c κs = search needs
+
+enum-known-c : tie.Need-enum-known-c
+enum-known-c c = search needs
+
+enum-told : tie.Need-enum-told
+enum-told c = search needs
+
+slice-aggregate-write-judged : tie.Need-slice-aggregate-write-judged
+slice-aggregate-write-judged c = search needs
+
+slice-aggregate-write-judged-2 : tie.Need-slice-aggregate-write-judged-2
+slice-aggregate-write-judged-2 c = search needs
+
+write-judged-requires : tie.Need-write-judged-requires
+write-judged-requires c κs = search needs
+
+same-length : tie.Need-same-length
+same-length c = search needs
+
+returns : tie.Need-returns
+returns c =
+    let w = c .before .before in
+    let t = w .before .before .before .before in
+    let k = t .before .before in
+    let a = k .before .before .before .before .args in
+    on-refused (now (a .file)) (now (a .plan)) _ (k .before .before .before .before .pre) (now (a .out)) (w .write-judged .result)
+    (w .write-judged .last .1 .1 .1 .1 .0) _ _ (sym (k .check .ensures) ∙ ap checked (t .enum-told .given .1)) _ (w .write-judged .ensures .0)
+
+add-middle : tie.Need-add-middle
+add-middle c = let l = lengths (c .before .before) in search needs
+
+sub-write-judged : tie.Need-sub-write-judged
+sub-write-judged c = search needs
+
+part-write-judged-start : tie.Need-part-write-judged-start
+part-write-judged-start c = search needs
+
+part-write-judged-end : tie.Need-part-write-judged-end
+part-write-judged-end c = let l = lengths (c .before .before) in search needs
+
+sub-write-judged-2 : tie.Need-sub-write-judged-2
+sub-write-judged-2 c = let l = lengths (c .before .before .before) in search needs
+
+part-write-judged-start-2 : tie.Need-part-write-judged-start-2
+part-write-judged-start-2 c = let l = lengths (c .before .before .before) in search needs
+
+part-write-judged-end-2 : tie.Need-part-write-judged-end-2
+part-write-judged-end-2 c = search needs
+
+write-judged-requires-2 : tie.Need-write-judged-requires-2
+write-judged-requires-2 c κs =
+    let l = lengths (c .before .before .before .before .before) in
+    (simp (length-take, length-drop) (omega (arith, l .exact)), simp (length-take, length-drop) (omega (arith, l .few)))
+
+same-length-2 : tie.Need-same-length-2
+same-length-2 c = search needs
+
+returns-2 : tie.Need-returns-2
+returns-2 c =
+    let w = c .before .before in
+    let d = w .before .before .before .before .before .before in
+    let s = d .before .before .before .before .before .before in
+    let a = s .args in
+    on-accepted (now (a .file)) (now (a .plan)) _ (s .pre) (now (a .out)) (w .write-judged2 .result)
+    (w .write-judged2 .last .1 .1 .1 .1 .0) (asSizes (d .c .given .0 .0)) (was-accepted d) (w .write-judged2 .ensures .0)
+
+pub write-on-spec : {M : Type 1} → statement M
+write-on-spec =
+    tie.close
+    (tie.spec
+    check-requires
+    enum-known-c
+    enum-told
+    slice-aggregate-write-judged
+    slice-aggregate-write-judged-2
+    write-judged-requires
+    same-length
+    returns
+    add-middle
+    sub-write-judged
+    part-write-judged-start
+    part-write-judged-end
+    sub-write-judged-2
+    part-write-judged-start-2
+    part-write-judged-end-2
+    write-judged-requires-2
+    same-length-2
+    returns-2)

@@ -1,0 +1,69 @@
+-- The text of a judged plan: document 01, 'A belt and a gate'.
+use mathlib.Core.Bool.{Bool, true, false}
+use mathlib.Core.List.{List, _++_}
+use Prim.Native.Nat.{ℕ, suc}
+use lib.IntN.{ℤ, pos, negsuc}
+use lib.ListN.{length}
+use Rattle.task.specs.Lists.{concatFrom}
+use Rattle.task.specs.Task.{Kind, always, sometime, at-end, at-most-once, sometime-before, sometime-after, Preference, Task}
+use Rattle.task.specs.File.{taskOf}
+use Rattle.task.specs.Verdict.{Verdict, solved, stopped, goal-missed}
+use Rattle.plan.specs.Judged.{Judged, given, refused, judged}
+use Rattle.text.specs.Ascii.{ascii}
+use Rattle.text.specs.Text.{decimal, refusedLine}
+
+-- kinds are spelled as in the table of marks
+abbrev pub kindWord : Kind → List ℕ
+kindWord always = ascii "always"
+kindWord sometime = ascii "sometime"
+kindWord at-end = ascii "at-end"
+kindWord at-most-once = ascii "at-most-once"
+kindWord sometime-before = ascii "sometime-before"
+kindWord sometime-after = ascii "sometime-after"
+
+abbrev pub outcomeWord : Bool → List ℕ
+outcomeWord true = ascii "met"
+outcomeWord false = ascii "missed"
+
+-- below 0 it has a minus sign
+abbrev pub integer : ℤ → List ℕ
+integer (pos n) = decimal n
+integer (negsuc n) = ascii "-" ++ decimal (suc n)
+
+-- the plan's length and cost
+unfoldable pub solvedLine : ℕ → ℕ → List ℕ
+solvedLine steps cost = ascii "solved steps " ++ decimal steps ++ ascii " cost " ++ decimal cost ++ ascii "\n"
+
+-- number, kind, weight and outcome
+unfoldable pub preferenceLine : ℕ → Kind → ℕ → Bool → List ℕ
+preferenceLine k kind weight isMet =
+    decimal k ++ ascii " " ++ kindWord kind ++ ascii " " ++ decimal weight ++ ascii " " ++ outcomeWord isMet ++ ascii "\n"
+
+unfoldable pub amountsLine : ℕ → ℤ → List ℕ
+amountsLine metric utility = ascii "metric " ++ decimal metric ++ ascii " utility " ++ integer utility ++ ascii "\n"
+
+unfoldable pub stoppedLine : ℕ → List ℕ
+stoppedLine step = ascii "stopped " ++ decimal step ++ ascii "\n"
+
+-- The text of a plan of n steps, with the lines of the preferences by the numbers of the met ones
+
+abbrev pub verdictText : ((ℕ → Bool) → List ℕ) → ℕ → Verdict → List ℕ
+verdictText lines n (solved cost metric utility met) = solvedLine n cost ++ lines met ++ amountsLine metric utility
+verdictText lines n (stopped step) = stoppedLine step
+verdictText lines n goal-missed = ascii "goal missed\n"
+
+abbrev pub textWith : ((ℕ → Bool) → List ℕ) → ℕ → Judged → List ℕ
+textWith lines n (given v) = verdictText lines n v
+textWith lines n (refused number place) = refusedLine number place
+
+-- a line per preference, numbered from 0
+abbrev pub preferenceLines : Task → (ℕ → Bool) → List ℕ
+preferenceLines t met =
+    concatFrom (λ (k : ℕ) (p : Preference). preferenceLine k (p .kind) (p .weight) (met k)) 0 (t .preferences)
+
+abbrev pub reportOf : Task → ℕ → Judged → List ℕ
+reportOf t = textWith (preferenceLines t)
+
+-- what program judge writes on the task file b and the plan p
+unfoldable pub reportOn : List ℕ → List ℕ → List ℕ
+reportOn b p = reportOf (taskOf b) (length p) (judged b p)

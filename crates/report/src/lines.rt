@@ -1,0 +1,115 @@
+// The lines of the text, one by one. Each function writes from a place on and answers the place behind.
+ghost use mathlib.Core.Path.{_≡_};
+ghost use Prim.Native.Nat.{_+_, _^_, _≤_, _<_};
+ghost use lib.IntN.{natAbs};
+ghost use Rattle.task.specs.File.{kindOf};
+ghost use Rattle.text.specs.Area.{Wrote};
+ghost use Rattle.report.specs.Report.{kindWord, outcomeWord, integer, solvedLine, preferenceLine, amountsLine, stoppedLine};
+use task::marks;
+
+// Writes the kind that a mark opens.
+fn put_kind(out: &mut [u8], at: usize, mark: u8) -> usize
+    requires { ⌜ at + 15 < 2 ^ 64 ⌝ }
+    ensures { λ r. ⌜ Wrote (now (out .entry)) at (kindWord (kindOf mark)) r (now (out .exit)) ⌝ }
+    ensures { λ r. ⌜ r ≤ at + 15 ⌝ }
+{
+    match mark {
+        marks::ALWAYS => text::put_word(out, at, b"always"),
+        marks::SOMETIME => text::put_word(out, at, b"sometime"),
+        marks::AT_END => text::put_word(out, at, b"at-end"),
+        marks::AT_MOST_ONCE => text::put_word(out, at, b"at-most-once"),
+        marks::SOMETIME_BEFORE => text::put_word(out, at, b"sometime-before"),
+        _ => text::put_word(out, at, b"sometime-after"),
+    }
+}
+
+fn put_outcome(out: &mut [u8], at: usize, met: bool) -> usize
+    requires { ⌜ at + 6 < 2 ^ 64 ⌝ }
+    ensures { λ r. ⌜ Wrote (now (out .entry)) at (outcomeWord met) r (now (out .exit)) ⌝ }
+    ensures { λ r. ⌜ r ≤ at + 6 ⌝ }
+{
+    if met {
+        text::put_word(out, at, b"met")
+    } else {
+        text::put_word(out, at, b"missed")
+    }
+}
+
+// Writes the line of preference k, whose kind is the one that the mark opens.
+pub fn put_preference(
+    out: &mut [u8],
+    at: usize,
+    k: usize,
+    mark: u8,
+    weight: u32,
+    met: bool,
+) -> usize
+    requires { ⌜ at + 65 < 2 ^ 64 ⌝ }
+    ensures { λ r. ⌜ Wrote (now (out .entry)) at (preferenceLine k (kindOf mark) weight met) r (now (out .exit)) ⌝ }
+    ensures { λ r. ⌜ r ≤ at + 65 ⌝ }
+{
+    let a = text::put_decimal(&mut *out, at, k as u64);
+    let b = text::put_byte(&mut *out, a, b' ');
+    let c = put_kind(&mut *out, b, mark);
+    let d = text::put_byte(&mut *out, c, b' ');
+    let e = text::put_decimal(&mut *out, d, weight as u64);
+    let f = text::put_byte(&mut *out, e, b' ');
+    let g = put_outcome(&mut *out, f, met);
+    text::put_byte(&mut *out, g, b'\n')
+}
+
+// Writes the first line of a plan that solves.
+pub fn put_solved(out: &mut [u8], at: usize, steps: usize, cost: u64) -> usize
+    requires { ⌜ at + 60 < 2 ^ 64 ⌝ }
+    ensures { λ r. ⌜ Wrote (now (out .entry)) at (solvedLine steps cost) r (now (out .exit)) ⌝ }
+    ensures { λ r. ⌜ r ≤ at + 60 ⌝ }
+{
+    let a = text::put_word(&mut *out, at, b"solved steps ");
+    let b = text::put_decimal(&mut *out, a, steps as u64);
+    let c = text::put_word(&mut *out, b, b" cost ");
+    let d = text::put_decimal(&mut *out, c, cost);
+    text::put_byte(&mut *out, d, b'\n')
+}
+
+// How far a number is from 0. Below 0 that is one more than the number with its bits flipped.
+fn magnitude(n: i64) -> u64
+    ensures { λ r. ⌜ r ≡ natAbs n ⌝ }
+{
+    if n < 0 { (!n) as u64 + 1 } else { n as u64 }
+}
+
+// Writes a number, with a minus sign where it is below 0.
+fn put_integer(out: &mut [u8], at: usize, n: i64) -> usize
+    requires { ⌜ at + 21 < 2 ^ 64 ⌝ }
+    ensures { λ r. ⌜ Wrote (now (out .entry)) at (integer n) r (now (out .exit)) ⌝ }
+    ensures { λ r. ⌜ r ≤ at + 21 ⌝ }
+{
+    if n < 0 {
+        let a = text::put_byte(&mut *out, at, b'-');
+        text::put_decimal(out, a, magnitude(n))
+    } else {
+        text::put_decimal(out, at, magnitude(n))
+    }
+}
+
+// Writes the last line of a plan that solves.
+pub fn put_amounts(out: &mut [u8], at: usize, metric: u64, utility: i64) -> usize
+    requires { ⌜ at + 58 < 2 ^ 64 ⌝ }
+    ensures { λ r. ⌜ Wrote (now (out .entry)) at (amountsLine metric utility) r (now (out .exit)) ⌝ }
+{
+    let a = text::put_word(&mut *out, at, b"metric ");
+    let b = text::put_decimal(&mut *out, a, metric);
+    let c = text::put_word(&mut *out, b, b" utility ");
+    let d = put_integer(&mut *out, c, utility);
+    text::put_byte(&mut *out, d, b'\n')
+}
+
+// Writes the line of a plan that stops.
+pub fn put_stopped(out: &mut [u8], at: usize, step: usize) -> usize
+    requires { ⌜ at + 29 < 2 ^ 64 ⌝ }
+    ensures { λ r. ⌜ Wrote (now (out .entry)) at (stoppedLine step) r (now (out .exit)) ⌝ }
+{
+    let a = text::put_word(&mut *out, at, b"stopped ");
+    let b = text::put_decimal(&mut *out, a, step as u64);
+    text::put_byte(&mut *out, b, b'\n')
+}

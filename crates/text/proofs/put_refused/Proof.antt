@@ -1,0 +1,52 @@
+use Rattle.text.specs.Text.{refusedLine}
+use Rattle.text.proofs.Writing.{then}
+use borrow.Author.Needs.{needs}
+use Rattle.text.proofs.put_refused.Statement.{statement}
+use Rattle.text.proofs.put_refused.Tie as tie
+
+slice-aggregate-put-word : tie.Need-slice-aggregate-put-word
+slice-aggregate-put-word c = search needs
+
+put-word-requires : tie.Need-put-word-requires
+put-word-requires c κs = search needs
+
+put-decimal-requires : tie.Need-put-decimal-requires
+put-decimal-requires c κs = search needs
+
+put-byte-requires : tie.Need-put-byte-requires
+put-byte-requires c κs = search needs
+
+put-decimal-requires-2 : tie.Need-put-decimal-requires-2
+put-decimal-requires-2 c κs = search needs
+
+put-byte-requires-2 : tie.Need-put-byte-requires-2
+put-byte-requires-2 c κs = search needs
+
+same-length : tie.Need-same-length
+same-length c = search needs
+
+returns : tie.Need-returns
+unfolding refusedLine
+returns c =
+    let e = c .before .before in
+    let d = e .before .before .before .before in
+    let s = d .before .before .before .before in
+    let n = s .before .before .before .before in
+    let w = n .before .before .before .before in (
+      then (then (then (then (w .put-word .ensures) (n .put-decimal .ensures .0)) (s .put-byte .ensures)) (d .put-decimal2 .ensures .0))
+          (e .put-byte2 .ensures),
+      search needs,
+    )
+
+pub put-refused-spec : {M : Type 1} → statement M
+put-refused-spec =
+    tie.close
+    (tie.spec
+    slice-aggregate-put-word
+    put-word-requires
+    put-decimal-requires
+    put-byte-requires
+    put-decimal-requires-2
+    put-byte-requires-2
+    same-length
+    returns)

@@ -1,0 +1,29 @@
+-- Numbers as bytes, and the line of a refusal.
+use mathlib.Core.Bool.{Bool, true, false}
+use mathlib.Core.List.{List, [], _∷_, _++_}
+use Prim.Native.Nat.{ℕ, zero, suc, _+_, _/_, _%_}
+use Prim.Native.Char.{code}
+use lib.Dec.{ltb}
+use Rattle.text.specs.Ascii.{ascii}
+
+abbrev pub digit : ℕ → List ℕ
+digit d = (code "0" + d) ∷ []
+
+-- below ten one digit; from there on the digits of n / 10, and then the last. By cases, so that no more is computed than
+-- n has digits
+abbrev pub digitsBy : Bool → (ℕ → List ℕ) → ℕ → List ℕ
+digitsBy true digits n = digit n
+digitsBy false digits n = digits (n / 10) ++ digit (n % 10)
+
+-- the last k digits of n, or all where it has fewer
+abbrev pub lastDigits : ℕ → ℕ → List ℕ
+lastDigits zero n = []
+lastDigits (suc k) n = digitsBy (ltb n 10) (lastDigits k) n
+
+-- all digits: n has no more than n + 1
+unfoldable pub decimal : ℕ → List ℕ
+decimal n = lastDigits (suc n) n
+
+-- `refused`, number and place
+unfoldable pub refusedLine : ℕ → ℕ → List ℕ
+refusedLine number place = ascii "refused " ++ decimal number ++ ascii " " ++ decimal place ++ ascii "\n"

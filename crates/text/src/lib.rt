@@ -1,0 +1,67 @@
+// Words and numbers, written as text into a lent area. What does not fit is dropped: each function answers the place
+// behind what it was to write, so that a place beyond the area's length says how much was missing.
+ghost use mathlib.Core.Path.{_≡_};
+ghost use mathlib.Core.List.{[], _∷_};
+ghost use Prim.Native.Nat.{_+_, _^_, _≤_, _<_};
+ghost use lib.ListN.{length, take};
+ghost use Rattle.text.specs.Text.{decimal, refusedLine};
+ghost use Rattle.text.specs.Area.{Wrote};
+
+// The first n bytes of an area, or all where it has no more. Unlike `&area[..n]` it asks the caller for no proof.
+pub fn front(area: &[u8], n: usize) -> &[u8]
+    ensures { λ r. ⌜ now r ≡ take n (now (area .entry)) ⌝ }
+{
+    if n <= area.len() { &area[..n] } else { area }
+}
+
+// Writes one byte.
+pub fn put_byte(out: &mut [u8], at: usize, byte: u8) -> usize
+    requires { ⌜ at + 1 < 2 ^ 64 ⌝ }
+    ensures { λ r. ⌜ Wrote (now (out .entry)) at (byte ∷ []) r (now (out .exit)) ⌝ }
+{
+    if at < out.len() {
+        out[at] = byte;
+    }
+    at + 1
+}
+
+// Writes the bytes of a word.
+pub fn put_word(out: &mut [u8], at: usize, word: &[u8]) -> usize
+    requires { ⌜ at + length (now word) < 2 ^ 64 ⌝ }
+    ensures { λ r. ⌜ Wrote (now (out .entry)) at (now (word .entry)) r (now (out .exit)) ⌝ }
+{
+    let mut k = at;
+    let mut i = 0;
+    while i < word.len() {
+        k = put_byte(&mut *out, k, word[i]);
+        i += 1;
+    }
+    k
+}
+
+// Writes a number in decimal.
+pub fn put_decimal(out: &mut [u8], at: usize, n: u64) -> usize
+    requires { ⌜ at + 20 < 2 ^ 64 ⌝ }
+    ensures { λ r. ⌜ Wrote (now (out .entry)) at (decimal n) r (now (out .exit)) ⌝ }
+    ensures { λ r. ⌜ r ≤ at + 20 ⌝ }
+{
+    if n < 10 {
+        put_byte(out, at, b'0' + n as u8)
+    } else {
+        let k = put_decimal(&mut *out, at, n / 10);
+        put_byte(out, k, b'0' + (n % 10) as u8)
+    }
+}
+
+// Writes the line of a refusal.
+pub fn put_refused(out: &mut [u8], at: usize, number: u64, place: u64) -> usize
+    requires { ⌜ at + 50 < 2 ^ 64 ⌝ }
+    ensures { λ r. ⌜ Wrote (now (out .entry)) at (refusedLine number place) r (now (out .exit)) ⌝ }
+    ensures { λ r. ⌜ r ≤ at + 50 ⌝ }
+{
+    let a = put_word(&mut *out, at, b"refused ");
+    let b = put_decimal(&mut *out, a, number);
+    let c = put_byte(&mut *out, b, b' ');
+    let d = put_decimal(&mut *out, c, place);
+    put_byte(&mut *out, d, b'\n')
+}

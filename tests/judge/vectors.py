@@ -1,0 +1,377 @@
+#!/usr/bin/env python3
+"""The test vectors of judge: task files and plans, and the texts that document 01 wants for them.
+
+tests/judge/vectors.py           writes crates/judge_vectors/data/vectors and crates/judge_vectors/stdout
+tests/judge/vectors.py --check   writes nothing, and fails where these two files are not what it makes
+tests/judge/vectors.py --list    says what each vector is for, and its text with | between the lines
+
+The vectors stand in data/vectors one after the other, each as two records: the task file, then the plan. A record is a length
+(32 bits, little-endian) and as many bytes. The texts stand in stdout in the same order.
+
+Where a text comes from:
+- refused 1 to 6: the account in tests/check/vectors.py. Refused 10 and 11: the function `refusal` below.
+- A verdict: the outside engine, which is the logic program meaning.lp run by gringo and clasp (Debian packages of these names).
+- A verdict on a task with a sometime-after preference: written by hand, in the function `sometime_after`, by document 01's house
+  reading (j > i). PDDL3 has another meaning (j >= i), so meaning.lp leaves this kind out and is never given such a task.
+Where an answer stands beside any other vector, it was written by hand too, and has to agree with the text.
+"""
+import itertools
+import json
+import os
+import random
+import re
+import runpy
+import struct
+import subprocess
+import sys
+
+HERE = os.path.dirname(os.path.abspath(__file__))
+ACCOUNT = runpy.run_path(os.path.join(HERE, '../check/vectors.py'))
+check, file, record = ACCOUNT['check'], ACCOUNT['file'], ACCOUNT['record']
+NAME, PREFERENCES, BELT = ACCOUNT['NAME'], ACCOUNT['PREFERENCES'], ACCOUNT['BELT']
+
+
+# ---- the texts
+
+def rows(data):
+    """The rows of an accepted file."""
+    n, = struct.unpack_from('<H', data, 6)
+    return list(zip([NAME[mark] for mark in data[8:8 + n]], struct.unpack_from(f'<{n}I', data, 8 + n)))
+
+
+def refusal(data, plan):
+    """The refused line, or nothing for a plan that is judged."""
+    line = check(data)
+    if line.startswith('refused'):
+        return line + '\n'
+    if len(plan) > 2048:
+        return 'refused 10 0\n'
+    actions = int(line.split()[2])
+    return next((f'refused 11 {i}\n' for i, step in enumerate(plan) if step >= actions), '')
+
+
+def facts(t, data, plan):
+    """An accepted task and a plan as the facts that meaning.lp is given, t being the vector's number."""
+    yield f'fact({t},0..{data[0] - 1}). length({t},{len(plan)}).'
+    yield from (f'step({t},{i},{step}).' for i, step in enumerate(plan))
+    a = e = k = c = -1  # the last action, effect, preference and clause; effects and clauses are numbered through the whole file
+    condition = ''  # the one that clauses and literals belong to
+    for name, value in rows(data):
+        a, e, k, c = a + (name == 'ACTION'), e + (name == 'EFFECT'), k + (name in PREFERENCES), c + (name == 'CLAUSE')
+        row = 'preference' if name in PREFERENCES else name
+        opened = {'GOAL': 'goal', 'ACTION': f'pre({a})', 'EFFECT': f'when({a},{e})', 'preference': f'phi({k})', 'SECOND': f'psi({k})'}
+        condition = opened.get(row, condition)
+        says = {'START': f'start({t},{value}).', 'ACTION': f'action({t},{a},{value}).', 'EFFECT': f'effect({t},{a},{e}).',
+                'ADD': f'gives({t},{a},{e},holds,{value}).', 'DELETE': f'gives({t},{a},{e},lacks,{value}).',
+                'preference': f'preference({t},{k},"{name}",{value}).', 'CLAUSE': f'clause({t},{condition},{c}).',
+                'HOLDS': f'literal({t},{condition},{c},holds,{value}).', 'LACKS': f'literal({t},{condition},{c},lacks,{value}).'}
+        yield says.get(row, '')
+
+
+def derived(program):
+    """The atoms in the one model of the program, each as a list: predicate, vector, what it says."""
+    ground = subprocess.run(['gringo', os.path.join(HERE, 'meaning.lp'), '-'], input=program.encode(), stdout=subprocess.PIPE, check=True)
+    clasp = subprocess.run(['clasp', '-n2', '--outf=2'], input=ground.stdout, stdout=subprocess.PIPE)
+    answer = json.loads(clasp.stdout)
+    assert answer['Models'] == {'Number': 1, 'More': 'no'}, answer['Models']
+    for atom in answer['Call'][0]['Witnesses'][0]['Value']:
+        predicate, *numbers = re.findall(r'[^(),]+', atom)
+        yield predicate, *map(int, numbers)
+
+
+def verdict(atoms, data, plan):
+    """The text of what was derived, {predicate: what it says}."""
+    if atoms.keys() == {'stopped'}:
+        return 'stopped %d\n' % tuple(atoms['stopped'])
+    if atoms.keys() == {'goal_missed'}:
+        return 'goal missed\n'
+    assert not atoms.keys() & {'stopped', 'goal_missed'}
+    (cost,), (metric,), (utility,) = atoms['cost'], atoms['metric'], atoms['utility']
+    lines = [f'solved steps {len(plan)} cost {cost}']
+    for k, (kind, weight) in enumerate(row for row in rows(data) if row[0] in PREFERENCES):
+        outcome, = [word for word in ('met', 'missed') if k in atoms.get(word, [])]
+        lines.append(f'{k} {kind} {weight} {outcome}')
+    return '\n'.join([*lines, f'metric {metric} utility {utility}\n'])
+
+
+# ---- the vectors: what each is for, the task file, the plan, and the answer where it is written down here: the whole text with |
+# between the lines, or its first line, or that line's first word, or the outcomes of all preferences
+
+MOST = 1000000
+PHI, PHI_PSI = 'CLAUSE HOLDS 0', 'CLAUSE HOLDS 0 SECOND CLAUSE HOLDS 1'
+SETTERS = 'ACTION 1 EFFECT DELETE 0 DELETE 1 ACTION 2 EFFECT ADD 0 DELETE 1 ACTION 3 EFFECT ADD 1 DELETE 0 ACTION 4 EFFECT ADD 0 ADD 1 '
+
+
+def traced(trace, preferences):
+    """A task and a plan whose states have φ (fact 0) and ψ (fact 1) as a trace says: - neither, f φ alone, p ψ alone, b both.
+    The four actions make these four states, whatever the state before, at the costs 1 to 4."""
+    opening, *plan = ('-fpb'.index(letter) for letter in trace)
+    starts = ['', 'START 0', 'START 1', 'START 0 START 1'][opening]
+    return file(f'{starts} GOAL {SETTERS} {preferences}', F=2), plan
+
+
+def belt():
+    for plan, answer in [([0], 'solved steps 1 cost 3|0 always 5 missed|1 sometime 7 met|metric 8 utility 4'), ([], 'goal missed'),
+                         ([1], 'goal missed'), ([0, 1], 'goal missed'), ([0, 1, 0], 'missed met'), ([2], 'refused 11 0')]:
+        yield f'the belt, plan {plan}', file(BELT, F=2), plan, answer
+
+
+def kinds():
+    """PDDL3's five kinds on traces picked by hand, document 01's (a) to (h) among them, and then on all short traces."""
+    for kind, met, missed in [
+            ('always', 'f ff fff fffffff', '- -- --- -ff f-f ff- f-- --f fffff-'),
+            ('sometime', 'f f-- -f- --f ff- fff -----f', '- -- ---'),
+            ('at-end', 'f -f ff --f fff f-f', '- f- ff- f-- -f- ---'),
+            ('at-most-once', '- f -- f- -f ff ff- -ff -f- fff --f f-- -fff- ---ff', 'f-f f--f ff-f f-ff -f-f f-f- f-f-f ff--ff -f-f-f'),
+            ('sometime-before', '- p -p --- pf p-f pb -pf -pb p-b pff pfpf pp--f', 'f b f- b- -f -b fp bf ff -fp -bf fpf bpf fpb -f-p')]:
+        for trace in met.split() + missed.split():
+            task_and_plan = traced(trace, f'{kind} 5 ' + (PHI_PSI if kind == 'sometime-before' else PHI))
+            yield f'{kind} {trace}', *task_and_plan, 'met' if trace in met.split() else 'missed'
+    four = f'always 1 {PHI} sometime 2 {PHI} at-end 4 {PHI} at-most-once 8 {PHI}'
+    for what, letters, most, preferences in [('four kinds', '-f', 5, four), ('sometime-before', '-fpb', 3, f'sometime-before 1 {PHI_PSI}')]:
+        for trace in itertools.chain(*(itertools.product(letters, repeat=states) for states in range(1, most + 1))):
+            yield f'{what} on all traces, ' + ''.join(trace), *traced(trace, preferences), ''
+
+
+def stopped_and_missed():
+    ladder = ('START 0 GOAL CLAUSE HOLDS 3 ACTION 1 CLAUSE HOLDS 0 EFFECT ADD 1 DELETE 0 ACTION 2 CLAUSE HOLDS 1 EFFECT ADD 2 DELETE 1 '
+              'ACTION 4 CLAUSE HOLDS 2 EFFECT ADD 3 DELETE 2 ACTION 0 EFFECT DELETE 3 sometime 8 CLAUSE HOLDS 1')
+    for plan, answer in [
+            ([0, 1, 2], 'solved steps 3 cost 7|0 sometime 8 met|metric 7 utility 1'), ([3, 0, 3, 1, 2], 'solved steps 5 cost 7'),
+            ([], 'goal missed'), ([0], 'goal missed'), ([0, 1], 'goal missed'), ([0, 1, 2, 3], 'goal missed'),
+            ([1], 'stopped 0'), ([1, 0, 1, 2], 'stopped 0'), ([2, 2], 'stopped 0'), ([0, 0], 'stopped 1'), ([0, 2, 1, 2], 'stopped 1'),
+            ([0, 1, 0, 2], 'stopped 2'), ([0, 1, 1], 'stopped 2'), ([0, 1, 2, 2], 'stopped 3'), ([0, 1, 2, 0, 3], 'stopped 3')]:
+        yield f'ladder, plan {plan}', file(ladder), plan, answer
+
+
+def facts_of_both_words():
+    """Each fact is told from the 127 others: it ends as a word says, and they are the opposite all the time."""
+    every = ''.join(f'START {g} ' for g in range(128))
+    for f in [0, 31, 32, 63, 64, 95, 96, 127]:
+        def preferences(word, opposite):
+            each = [f' CLAUSE {opposite} {g}' for g in range(128)]
+            return f'at-end 1 CLAUSE {word} {f} always 2' + ''.join(each[:f] + each[f + 1:]) + ' at-end 4' + ''.join(each)
+
+        alone, gone = preferences('HOLDS', 'LACKS'), preferences('LACKS', 'HOLDS')
+        adding = file(f'GOAL CLAUSE HOLDS {f} ACTION CLAUSE LACKS {f} EFFECT CLAUSE LACKS {f} ADD {f} {alone}', F=128)
+        deleting = file(f'{every} GOAL CLAUSE LACKS {f} ACTION CLAUSE HOLDS {f} EFFECT CLAUSE HOLDS {f} DELETE {f} {gone}', F=128)
+        yield f'fact {f} at the start', file(f'START {f} GOAL CLAUSE HOLDS {f} {alone}', F=128), [], 'met met missed'
+        for what, task in [('added', adding), ('deleted', deleting)]:
+            yield f'fact {f} {what}', task, [0], 'met met missed'
+            yield f'fact {f} not yet {what}', task, [], 'goal missed'
+            yield f'fact {f} {what} twice', task, [0, 0], 'stopped 1'
+
+
+def empty_conditions():
+    six = 'always 1 sometime 2 at-end 4 at-most-once 8 sometime-before 16 SECOND sometime-before 32 SECOND CLAUSE HOLDS 0'
+    for n, action in itertools.product(range(3), ['ACTION 1', 'ACTION 1 EFFECT ADD 0']):
+        yield f'all conditions empty, {n} steps of {action}', file(f'GOAL {action} {six}'), [0] * n, 'met met met met missed missed'
+    for trace, answer in [('f', 'missed'), ('-', 'met'), ('-f', 'met'), ('f-', 'missed'), ('ff', 'missed'), ('--f', 'met')]:
+        yield f'empty ψ, {trace}', *traced(trace, 'sometime-before 9 CLAUSE HOLDS 0 SECOND'), answer
+
+
+def conditions():
+    """A condition in each state of the facts 0 and 1, as each part of a task that is a condition."""
+    for condition, truths in [
+            ('CLAUSE HOLDS 0 HOLDS 1', [0, 1, 1, 1]), ('CLAUSE HOLDS 0 CLAUSE HOLDS 1', [0, 0, 0, 1]),
+            ('CLAUSE HOLDS 0 LACKS 0', [1, 1, 1, 1]), ('CLAUSE HOLDS 0 CLAUSE LACKS 0', [0, 0, 0, 0]),
+            ('CLAUSE HOLDS 0 HOLDS 0 CLAUSE HOLDS 0', [0, 1, 0, 1]), ('CLAUSE LACKS 0 HOLDS 1 CLAUSE HOLDS 0 LACKS 1', [1, 0, 0, 1]),
+            ('CLAUSE LACKS 0 LACKS 1', [1, 1, 1, 0]), ('CLAUSE HOLDS 0 HOLDS 1 CLAUSE HOLDS 0 LACKS 1 CLAUSE LACKS 0 HOLDS 1', [0, 0, 0, 1])]:
+        for opening, true in zip(['', 'START 0', 'START 1', 'START 0 START 1'], truths):
+            for part, task, plan, answers in [
+                    ('goal', f'GOAL {condition}', [], ('goal missed', 'solved')),
+                    ('precondition', f'GOAL ACTION {condition}', [0], ('stopped 0', 'solved')),
+                    ('effect condition', f'GOAL ACTION EFFECT {condition} ADD 2 at-end 1 CLAUSE HOLDS 2', [0], ('missed', 'met')),
+                    ('φ', f'GOAL always 1 {condition}', [], ('missed', 'met')),
+                    ('ψ', f'GOAL ACTION EFFECT ADD 2 sometime-before 1 CLAUSE HOLDS 2 SECOND {condition}', [0], ('missed', 'met'))]:
+                yield f'{condition} as {part}, {opening or "no START"}', file(f'{opening} {task}'), plan, answers[true]
+
+
+def effects():
+    swap = 'EFFECT CLAUSE HOLDS 0 ADD 1 DELETE 0 EFFECT CLAUSE HOLDS 1 ADD 0 DELETE 1'
+    chain = 'EFFECT CLAUSE HOLDS 0 ADD 1 EFFECT CLAUSE HOLDS 1 ADD 2'
+    counter = ('EFFECT CLAUSE HOLDS 0 DELETE 0 EFFECT CLAUSE LACKS 0 ADD 0 '
+               'EFFECT CLAUSE HOLDS 0 CLAUSE HOLDS 1 DELETE 1 EFFECT CLAUSE HOLDS 0 CLAUSE LACKS 1 ADD 1')
+    for what, opening, action, steps, last in [  # the facts of the opening state, and those of the last
+            ('adds and deletes one fact that lacks', [], 'EFFECT ADD 1 DELETE 1', 1, [1]),  # document 01's (l)
+            ('adds and deletes one fact that holds', [1], 'EFFECT ADD 1 DELETE 1', 1, [1]),
+            ('one effect adds, a later one deletes', [], 'EFFECT ADD 1 EFFECT DELETE 1', 1, [1]),
+            ('one effect deletes, a later one adds', [1], 'EFFECT DELETE 1 EFFECT ADD 1', 1, [1]),
+            ('deletes, and the adding effect does not fire', [1], 'EFFECT CLAUSE LACKS 1 ADD 1 EFFECT DELETE 1', 1, []),
+            ('adds, and the deleting effect does not fire', [], 'EFFECT ADD 1 EFFECT CLAUSE HOLDS 1 DELETE 1', 1, [1]),
+            ('swap', [0], swap, 1, [1]), ('swap and swap back', [0], swap, 2, [0]), ('swap of two held', [0, 1], swap, 1, [0, 1]),
+            ('a chain goes one link a step', [0], chain, 1, [0, 1]), ('a chain, two steps', [0], chain, 2, [0, 1, 2]),
+            ('a delete does not hinder a later effect', [0], 'EFFECT DELETE 0 EFFECT CLAUSE HOLDS 0 ADD 3', 1, [3]),
+            *((f'a counter, {n} steps', [], counter, n, [bit for bit in (0, 1) if n >> bit & 1]) for n in range(5)),
+            ('no effect fires', [2], 'EFFECT CLAUSE HOLDS 3 ADD 0 EFFECT CLAUSE LACKS 2 DELETE 2', 1, [2]),
+            ('no effects', [2], '', 1, [2]), ('effects of nothing', [2], 'EFFECT EFFECT CLAUSE HOLDS 2', 1, [2]),
+            ('adds a held fact twice, deletes a lacking one twice', [2], 'EFFECT ADD 2 ADD 2 DELETE 3 DELETE 3', 1, [2])]:
+        starts = ''.join(f'START {f} ' for f in opening)
+        preferences = ''.join(f' at-end {f + 1} CLAUSE HOLDS {f}' for f in range(4))
+        answer = ' '.join('met' if f in last else 'missed' for f in range(4))
+        yield what, file(f'{starts} GOAL ACTION 6 {action} {preferences}'), [0] * steps, answer
+
+
+def amounts():
+    yield 'P 0', file('GOAL ACTION 4'), [0, 0], 'solved steps 2 cost 8|metric 8 utility -8'
+    yield 'A 0', file(f'GOAL sometime 3 {PHI}'), [], 'solved steps 0 cost 0|0 sometime 3 missed|metric 3 utility 0'
+    yield 'A 0 and P 0', file('GOAL'), [], 'solved steps 0 cost 0|metric 0 utility 0'
+    for what, weights in [('0', [0] * 16), ('1,000,000', [MOST] * 16), ('1 to 16', range(1, 17)), ('repeated', [3, 1, 4, 5] * 4)]:
+        for outcome, words in [('all met', ['LACKS']), ('all missed', ['HOLDS']), ('every third met', ['LACKS', 'HOLDS', 'HOLDS'])]:
+            sixteen = ''.join(f' {PREFERENCES[k % 3]} {weight} CLAUSE {words[k % len(words)]} 0' for k, weight in enumerate(weights))
+            yield f'P 16, weights {what}, {outcome}', file(f'GOAL ACTION 5 {sixteen}'), [0], 'solved steps 1 cost 5'
+    for cost, weight, utility in [(0, 0, 0), (0, MOST, MOST), (MOST, 0, -MOST), (MOST, MOST, 0), (3, 7, 4), (7, 3, -4)]:
+        for outcome, phi, sums in [('met', '', f'{cost} utility {utility}'), ('missed', PHI, f'{cost + weight} utility {-cost}')]:
+            yield f'cost {cost}, weight {weight} {outcome}', file(f'GOAL ACTION {cost} always {weight} {phi}'), [0], (
+                f'solved steps 1 cost {cost}|0 always {weight} {outcome}|metric {sums}')
+    yield 'different costs', file('GOAL' + ''.join(f' ACTION {1 << a}' for a in range(8))), [7, 0, 3, 3, 5, 0], 'solved steps 6 cost 178'
+    yield '128 actions', file('GOAL' + ''.join(f' ACTION {a}' for a in range(128))), [127, 0, 64, 127], 'solved steps 4 cost 318'
+    yield '12,000 rows, the last makes the goal true', file('GOAL CLAUSE' + ' HOLDS 3' * 11997 + ' LACKS 3'), [], 'solved steps 0 cost 0'
+
+
+def long_plans():
+    """φ comes in few states here, as meaning.lp goes through all i, j, k of an at-most-once preference."""
+    task = file('GOAL CLAUSE LACKS 0 ACTION 1000000 ACTION 1000000 EFFECT ADD 0 ACTION 1 CLAUSE LACKS 0', F=1)
+    yield '2,048 steps', task, [0] * 2048, 'solved steps 2048 cost 2048000000|metric 2048000000 utility -2048000000'
+    yield '2,048 steps, goal missed', task, [0] * 2047 + [1], 'goal missed'
+    yield '2,048 steps, stopped at the last', task, [0] * 2046 + [1, 2], 'stopped 2047'
+    yield '2,048 steps, 16 preferences missed', file('GOAL ACTION 1000000' + f' always 1000000 {PHI}' * 16, F=1), [0] * 2048, '|'.join([
+        'solved steps 2048 cost 2048000000', *(f'{k} always 1000000 missed' for k in range(16)), 'metric 2064000000 utility -2048000000'])
+    five = f'always 1 CLAUSE LACKS 0 sometime 2 {PHI} at-end 4 {PHI} at-most-once 8 {PHI} sometime-before 16 {PHI_PSI}'
+    for what, trace, answer in [
+            ('2,049 states, φ in the last alone', '-' * 2048 + 'f', 'missed met met met missed'),
+            ('2,049 states, φ in none', '-' * 2049, 'met missed missed met met'),
+            ('2,049 states, φ in 2,047 alone, ψ in 0', 'p' + '-' * 2046 + 'f-', 'missed met missed met met'),
+            ('2,049 states, φ in 2,046 and 2,048, ψ in 0', 'p' + '-' * 2045 + 'f-f', 'missed met met missed met'),
+            ('266 states, φ in 0 and 256', 'f' + '-' * 255 + 'f' + '-' * 9, 'missed met missed missed missed'),
+            ('259 states, φ in 256, ψ in 255', '-' * 255 + 'pf--', 'missed met missed met met'),
+            ('258 states, φ and ψ in 256', '-' * 256 + 'b-', 'missed met missed met missed'),
+            ('262 states, φ in 250 to 260', '-' * 250 + 'f' * 11 + '-', 'missed met missed met missed')]:
+        yield what, *traced(trace, five), answer
+
+
+def refused():
+    task = file('GOAL ACTION ACTION CLAUSE HOLDS 0')  # action 1 does not apply
+    for what, plan, answer in [
+            ('2,049 steps', [0] * 2049, '10 0'), ('2,304 steps', [0] * 2304, '10 0'), ('65,536 steps', [0] * 65536, '10 0'),
+            ('2,049 steps, one would stop', [0, 1] + [0] * 2047, '10 0'), ('2,049 steps, one unknown', [2] + [0] * 2048, '10 0'),
+            ('2,049 steps, the last unknown', [0] * 2048 + [2], '10 0'), ('2,048 steps, the last unknown', [0] * 2047 + [2], '11 2047'),
+            ('step A', [2], '11 0'), ('step 255', [255], '11 0'), ('an unknown step in the middle', [0, 2, 0], '11 1'),
+            ('several unknown steps', [0, 0, 128, 3, 2], '11 2'), ('unknown behind one that would stop', [1, 0, 2], '11 2')]:
+        yield what, task, plan, f'refused {answer}'
+    yield 'unknown, and the goal would be missed', file(f'GOAL {PHI} ACTION'), [0, 1], 'refused 11 1'
+    yield 'A 0, a step', file('GOAL'), [0], 'refused 11 0'
+    yield '128 actions, step 128', file('GOAL' + ' ACTION' * 128), [127, 128], 'refused 11 1'
+    for what, data, answer in [
+            ('no byte', b'', '1 0'), ('7 bytes', task[:7], '1 0'), ('F 0', file('GOAL', F=0), '2 0'), ('A 129', file('GOAL', A=129), '2 0'),
+            ('P 17', file('GOAL', P=17), '2 0'), ('one byte short', task[:-1], '3 0'), ('one byte long', task + b'\0', '3 0'),
+            ('N 0', file(''), '4 0'), ('an unknown mark', file('GOAL #17'), '4 1'), ('ends in a clause', file('GOAL ACTION CLAUSE'), '4 3'),
+            ('no SECOND', file('GOAL sometime-after'), '4 2'), ('a fact too high', file('GOAL CLAUSE HOLDS 4'), '5 2'),
+            ('START not rising', file('START 1 START 1 GOAL'), '5 1'), ('a weight too high', file('GOAL always 1000001'), '5 1'),
+            ('an action too many', file('GOAL ACTION', A=0), '6 2'), ('a preference too few', file('GOAL', P=1), '6 1')]:
+        for plan in [[], [255], [0] * 2049]:
+            yield f'{what}, plan of {len(plan)}', data, plan, f'refused {answer}'
+
+
+def sometime_after():
+    """The house reading: for each state i with φ there is j > i with ψ. All texts are written by hand."""
+    for trace, steps, cost, outcome, metric, utility in [  # -b and fp are document 01's (i) and (j)
+            ('-', 0, 0, 'met', 0, 5), ('p', 0, 0, 'met', 0, 5), ('f', 0, 0, 'missed', 5, 0), ('b', 0, 0, 'missed', 5, 0),
+            ('fp', 1, 3, 'met', 3, 2), ('-b', 1, 4, 'missed', 9, -4), ('pf', 1, 2, 'missed', 7, -2), ('b-', 1, 1, 'missed', 6, -1),
+            ('bp', 1, 3, 'met', 3, 2), ('fb', 1, 4, 'missed', 9, -4), ('--p', 2, 4, 'met', 4, 1), ('f-p', 2, 4, 'met', 4, 1),
+            ('ffp', 2, 5, 'met', 5, 0), ('fpf', 2, 5, 'missed', 10, -5), ('bbp', 2, 7, 'met', 7, -2), ('fpfp', 3, 8, 'met', 8, -3),
+            ('fp--', 3, 5, 'met', 5, 0), ('pbb-', 3, 9, 'missed', 14, -9)]:
+        yield f'sometime-after {trace}', *traced(trace, f'sometime-after 5 {PHI_PSI}'), (
+            f'solved steps {steps} cost {cost}|0 sometime-after 5 {outcome}|metric {metric} utility {utility}')
+    for what, preferences, text in [
+            ('empty φ and ψ', 'sometime-after 5 SECOND', '0 sometime-after 5 missed|metric 8 utility -3'),
+            ('empty φ', 'sometime-after 5 SECOND CLAUSE HOLDS 1', '0 sometime-after 5 missed|metric 8 utility -3'),
+            ('empty ψ', 'sometime-after 5 CLAUSE HOLDS 0 SECOND', '0 sometime-after 5 met|metric 3 utility 2'),
+            ('among others', f'always 1 {PHI} sometime-after 2 {PHI_PSI} sometime-before 4 {PHI_PSI} '
+             'sometime-after 8 CLAUSE HOLDS 1 SECOND CLAUSE HOLDS 0',
+             '0 always 1 missed|1 sometime-after 2 met|2 sometime-before 4 missed|3 sometime-after 8 missed|metric 16 utility -1')]:
+        yield f'sometime-after fp, {what}', *traced('fp', preferences), 'solved steps 1 cost 3|' + text
+    for plan, text in [([0], 'stopped 0'), ([], 'goal missed'), ([1], 'refused 11 0')]:
+        yield f'sometime-after, {text}', file(f'GOAL {PHI} ACTION CLAUSE HOLDS 1 sometime-after 5 SECOND'), plan, text
+
+
+def random_tasks(count=200, seed=2009):
+    """Small tasks of PDDL3's five kinds. The conditions of goals and actions are mostly easy, so that most plans solve."""
+    r = random.Random(seed)
+
+    def one_of(choices):  # by random() alone, which gives the same numbers in every version of Python
+        return choices[int(r.random() * len(choices))]
+
+    def some(counts, part):
+        return ''.join(part() for _ in range(one_of(counts)))
+
+    def fact(*names):
+        return lambda: f' {one_of(names)} {one_of(used)}'
+
+    def condition(clauses, literals):
+        return some(clauses, lambda: ' CLAUSE' + some(literals, fact('HOLDS', 'LACKS')))
+
+    def effect():
+        return ' EFFECT' + condition([0, 1, 1, 2], [1, 1, 2]) + some([0, 1, 1, 1, 2], fact('ADD')) + some([0, 1, 1, 2], fact('DELETE'))
+
+    def action():
+        return f' ACTION {one_of([0, 1, 2, 5, 9, MOST])}' + condition([0, 0, 0, 1], [3]) + some([1, 2, 3, 4], effect)
+
+    def preference():
+        kind, phi, psi = one_of(PREFERENCES[:5]), condition([0, 1, 1, 1, 1, 2], [1, 1, 2]), condition([0, 1, 1, 1, 1, 2], [1, 1, 2])
+        return f' {kind} {one_of([0, 1, 4, 7, 30, MOST])}' + phi + (' SECOND' + psi if kind == 'sometime-before' else '')
+
+    for number in range(count):
+        used = one_of([[0, 1], [0, 1, 2], [0, 1, 2, 3], [0, 63, 64, 127]])
+        starts = ''.join(f'START {f} ' for f in used if r.random() < 0.4)
+        goal_and_actions = 'GOAL' + condition([0, 0, 0, 1], [2, 3]) + some([2, 3, 4], action)
+        data = file(starts + goal_and_actions + some([1, 2, 3, 4, 6], preference), F=used[-1] + 1)
+        yield f'random {number}', data, [one_of(range(data[2])) for _ in range(one_of([0, 1, 2, 4, 6, 8, 10, 12]))], ''
+
+
+def vectors():
+    """What each vector is for, the task file, the plan, and the text."""
+    families = [belt, kinds, stopped_and_missed, facts_of_both_words, empty_conditions, conditions, effects, amounts, long_plans, refused,
+                sometime_after, random_tasks]
+    made = [(what, data, bytes(plan), answer) for family in families for what, data, plan, answer in family()]
+    texts = {t: refusal(data, plan) for t, (_, data, plan, _) in enumerate(made)}
+    for t, (_, data, _, answer) in enumerate(made):
+        if not texts[t] and 'sometime-after' in dict(rows(data)):
+            texts[t] = answer.replace('|', '\n') + '\n'
+    atoms = {t: {} for t in texts if not texts[t]}
+    for predicate, t, *said in derived('\n'.join(fact for t in atoms for fact in facts(t, *made[t][1:3]))):
+        atoms[t].setdefault(predicate, []).extend(said)
+    for t, (what, data, plan, answer) in enumerate(made):
+        text = texts[t] or verdict(atoms[t], data, plan)
+        first, *others = text.splitlines()
+        forms = ['', '|'.join([first, *others]), first, first.split()[0], ' '.join(line.split()[-1] for line in others[:-1])]
+        assert answer in forms, f'{what}: {answer}, but the text is {text}'
+        yield what, data, plan, text
+
+
+# ---- the two stored files
+
+def main(option=None):
+    made = list(vectors())
+    crate = os.path.normpath(os.path.join(HERE, '../../crates/judge_vectors'))
+    for name, parts in [('data/vectors', [record(data) + record(plan) for _, data, plan, _ in made]),
+                        ('stdout', [text.encode() for _, _, _, text in made])]:
+        path, at = os.path.join(crate, name), 0
+        if option is None:
+            os.makedirs(os.path.dirname(path), exist_ok=True)
+            open(path, 'wb').write(b''.join(parts))
+        stored = open(path, 'rb').read()
+        for part, (what, *_) in zip(parts, made):
+            if not stored.startswith(part, at):
+                sys.exit(f'{path}: differs from byte {at} on, at the vector "{what}"')
+            at += len(part)
+        if at < len(stored):
+            sys.exit(f'{path}: goes on behind the last vector, from byte {at} on')
+    if option == '--list':
+        print(*(f'{what}: {"|".join(text.splitlines())}' for what, _, _, text in made), sep='\n')
+
+
+if __name__ == '__main__':
+    if sys.argv[1:] not in ([], ['--check'], ['--list']):
+        sys.exit(__doc__)
+    main(*sys.argv[1:])

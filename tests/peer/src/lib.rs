@@ -1,0 +1,31 @@
+//! Task files with soft rules: check a file, judge a plan on it, translate it
+//! into a classical task. Written plainly from the specification, to compare
+//! another implementation with.
+
+pub mod decode;
+pub mod encode;
+pub mod judge;
+pub mod meaning;
+pub mod random;
+pub mod task;
+pub mod translate;
+
+pub use decode::{check, decode, Sizes};
+pub use encode::encode;
+pub use judge::{judge, refused_text, report, verdict, Verdict};
+pub use meaning::run;
+pub use task::{Action, Clause, Condition, Effect, Kind, Literal, Preference, Task};
+pub use translate::{complete, translate, translated};
+
+/// Why something is refused, and where: a row, a step, or 0.
+#[derive(Clone, Copy, PartialEq, Eq, Debug)]
+pub struct Refusal {
+    pub number: u8,
+    pub place: u16,
+}
+
+/// A refusal as a result. Rows and steps that are refused fit 16 bits.
+fn refuse<T>(number: u8, place: usize) -> Result<T, Refusal> {
+    let place = u16::try_from(place).expect("a place fits 16 bits");
+    Err(Refusal { number, place })
+}

@@ -1,0 +1,118 @@
+//! Program peer: the operations on files, and random cases.
+
+use peer::random::{case, MAX_FILE};
+use peer::{check, decode, judge, refused_text, report, translate, Verdict};
+use std::collections::BTreeMap;
+use std::fs;
+
+const USAGE: &str = "usage:
+  peer check FILE
+  peer judge TASK PLAN
+  peer translate TASK OUT
+  peer case SEED DIR      write the files task and plan of a random case
+  peer tally FIRST COUNT  count the answers on the cases of seeds from FIRST";
+
+const NO_FILE: &str = "no file\n";
+
+fn main() {
+    let arguments: Vec<String> = std::env::args().skip(1).collect();
+    let words: Vec<&str> = arguments.iter().map(String::as_str).collect();
+    match answer(&words) {
+        Some(text) => print!("{text}"),
+        None => {
+            eprintln!("{USAGE}");
+            std::process::exit(2);
+        }
+    }
+}
+
+/// What to print; none if the words are no command.
+fn answer(words: &[&str]) -> Option<String> {
+    match words {
+        ["check", file] => Some(check_file(file)),
+        ["judge", task, plan] => Some(judge_files(task, plan)),
+        ["translate", task, out] => Some(translate_file(task, out)),
+        ["case", seed, folder] => Some(write_case(seed.parse().ok()?, folder)),
+        ["tally", first, count] => Some(tally(first.parse().ok()?, count.parse().ok()?)),
+        _ => None,
+    }
+}
+
+fn check_file(path: &str) -> String {
+    let Ok(file) = fs::read(path) else {
+        return NO_FILE.to_string();
+    };
+    match check(&file) {
+        Ok(s) => format!(
+            "accepted {} {} {} {}\n",
+            s.facts, s.actions, s.preferences, s.rows
+        ),
+        Err(refusal) => refused_text(refusal),
+    }
+}
+
+fn judge_files(task: &str, plan: &str) -> String {
+    let (Ok(task), Ok(plan)) = (fs::read(task), fs::read(plan)) else {
+        return NO_FILE.to_string();
+    };
+    report(&task, &plan)
+}
+
+/// The output file is opened only once the translation stands.
+fn translate_file(task: &str, out: &str) -> String {
+    let Ok(task) = fs::read(task) else {
+        return NO_FILE.to_string();
+    };
+    match translate(&task, MAX_FILE) {
+        Ok(bytes) => match fs::write(out, bytes) {
+            Ok(()) => String::new(),
+            Err(_) => NO_FILE.to_string(),
+        },
+        Err(refusal) => refused_text(refusal),
+    }
+}
+
+fn write_case(seed: u64, folder: &str) -> String {
+    let case = case(seed);
+    let written = fs::create_dir_all(folder)
+        .and_then(|()| fs::write(format!("{folder}/task"), &case.file))
+        .and_then(|()| fs::write(format!("{folder}/plan"), &case.plan));
+    match written {
+        Ok(()) => format!("room {}\n", case.room),
+        Err(_) => NO_FILE.to_string(),
+    }
+}
+
+/// How often each answer comes up.
+fn tally(first: u64, count: u64) -> String {
+    let mut counts: BTreeMap<String, u64> = BTreeMap::new();
+    let mut add = |answer: String| *counts.entry(answer).or_insert(0) += 1;
+    for seed in first..first + count {
+        let case = case(seed);
+        add(match check(&case.file) {
+            Ok(_) => "check accepted".to_string(),
+            Err(refusal) => format!("check refused {:2}", refusal.number),
+        });
+        add(match judge(&case.file, &case.plan) {
+            Ok(Verdict::Solved { .. }) => "judge solved".to_string(),
+            Ok(Verdict::Stopped(_)) => "judge stopped".to_string(),
+            Ok(Verdict::GoalMissed) => "judge goal missed".to_string(),
+            Err(refusal) => format!("judge refused {:2}", refusal.number),
+        });
+        add(match translate(&case.file, case.room) {
+            Ok(_) => "translate written".to_string(),
+            Err(refusal) => format!("translate refused {:2}", refusal.number),
+        });
+        if let Ok(Verdict::Solved { met, .. }) = judge(&case.file, &case.plan) {
+            let task = decode(&case.file).expect("judged, so accepted");
+            for (k, preference) in task.preferences.iter().enumerate() {
+                let outcome = if met >> k & 1 == 1 { "met" } else { "missed" };
+                add(format!("preference {} {outcome}", preference.kind.name()));
+            }
+        }
+    }
+    counts
+        .iter()
+        .map(|(answer, count)| format!("{count:>8} {answer}\n"))
+        .collect()
+}

@@ -1,0 +1,112 @@
+//! What a task means: states, actions, preferences, and plans that solve.
+
+use crate::task::*;
+
+/// Which facts are held: entry f says it of fact f.
+pub type State = [bool; MAX_FACTS];
+
+pub fn opening(task: &Task) -> State {
+    let mut state = [false; MAX_FACTS];
+    for &fact in &task.start {
+        state[fact] = true;
+    }
+    state
+}
+
+pub fn literal_true(literal: Literal, state: &State) -> bool {
+    state[literal.fact] == literal.holds
+}
+
+/// A clause is true if some literal is.
+pub fn clause_true(clause: &Clause, state: &State) -> bool {
+    clause.iter().any(|&literal| literal_true(literal, state))
+}
+
+/// A condition is true if every clause is.
+pub fn condition_true(condition: &Condition, state: &State) -> bool {
+    condition.iter().all(|clause| clause_true(clause, state))
+}
+
+/// The state an action reaches from a state where it applies. All effect
+/// conditions are read in the state before; deletes go out, then adds come in.
+pub fn after(action: &Action, state: &State) -> State {
+    let fires = |effect: &&Effect| condition_true(&effect.condition, state);
+    let firing: Vec<&Effect> = action.effects.iter().filter(fires).collect();
+    let mut next = *state;
+    for effect in &firing {
+        for &fact in &effect.deletes {
+            next[fact] = false;
+        }
+    }
+    for effect in &firing {
+        for &fact in &effect.adds {
+            next[fact] = true;
+        }
+    }
+    next
+}
+
+/// States 0 to n of a plan of n steps, or the first step that doesn't apply.
+/// Every step must be the number of an action.
+pub fn states(task: &Task, plan: &[u8]) -> Result<Vec<State>, usize> {
+    let mut list = vec![opening(task)];
+    for (i, &step) in plan.iter().enumerate() {
+        let action = &task.actions[usize::from(step)];
+        if !condition_true(&action.precondition, &list[i]) {
+            return Err(i);
+        }
+        list.push(after(action, &list[i]));
+    }
+    Ok(list)
+}
+
+/// Whether a preference is met over states 0 to n (at least state 0).
+pub fn met(preference: &Preference, states: &[State]) -> bool {
+    let n = states.len() - 1;
+    let truth = |condition: &Condition| -> Vec<bool> {
+        states
+            .iter()
+            .map(|state| condition_true(condition, state))
+            .collect()
+    };
+    let phi = truth(&preference.phi);
+    let psi = truth(&preference.psi);
+    match preference.kind {
+        // φ in every state.
+        Kind::Always => (0..=n).all(|i| phi[i]),
+        // φ in some state.
+        Kind::Sometime => (0..=n).any(|i| phi[i]),
+        // φ in state n.
+        Kind::AtEnd => phi[n],
+        // The states with φ form at most one unbroken run: a run begins where φ
+        // is true and there is no state before, or φ is false in it.
+        Kind::AtMostOnce => {
+            let begins = |i: &usize| phi[*i] && (*i == 0 || !phi[*i - 1]);
+            (0..=n).filter(begins).count() <= 1
+        }
+        // For each state i with φ there is j < i with ψ.
+        Kind::SometimeBefore => (0..=n).all(|i| !phi[i] || (0..i).any(|j| psi[j])),
+        // For each state i with φ there is j > i with ψ.
+        Kind::SometimeAfter => (0..=n).all(|i| !phi[i] || (i + 1..=n).any(|j| psi[j])),
+    }
+}
+
+/// The cost of a list of action numbers that solves a task, whatever its length;
+/// none if it doesn't solve. Preferences play no part.
+pub fn run(task: &Task, list: &[usize]) -> Option<u128> {
+    let mut state = opening(task);
+    let mut cost: u128 = 0;
+    for &step in list {
+        let action = task.actions.get(step)?;
+        if !condition_true(&action.precondition, &state) {
+            return None;
+        }
+        cost += u128::from(action.cost);
+        state = after(action, &state);
+    }
+    if condition_true(&task.goal, &state) {
+        Some(cost)
+    } else {
+        None
+    }
+}

@@ -1,0 +1,562 @@
+//! Random cases by seed: a task file, often damaged, a plan and an output room.
+//! Shapes and choices are weighed so that every answer comes up often.
+
+use crate::encode::{encode, rows, spell, Row};
+use crate::meaning::{after, condition_true, opening, State};
+use crate::task::*;
+use crate::translate::{translate, translated};
+
+/// The length of the longest accepted file.
+pub const MAX_FILE: usize = 8 + 5 * MAX_ROWS;
+
+#[derive(Clone, PartialEq, Eq, Debug)]
+pub struct Case {
+    pub file: Vec<u8>,
+    pub plan: Vec<u8>,
+    /// The length of the output area lent to translate.
+    pub room: usize,
+}
+
+/// The random case of a seed.
+pub fn case(seed: u64) -> Case {
+    let r = &mut Random::new(seed);
+    let shape = Shape::any(r);
+    let (mut task, mut plan) = task_and_plan(r, &shape);
+    if r.chance(2) {
+        pad(r, &mut task);
+    }
+    if r.chance(4) {
+        unknown_step(r, &task, &mut plan);
+    }
+    let mut file = encode(&task);
+    if r.chance(30) {
+        file = damaged(r, &task);
+    }
+    let room = room(r, &file);
+    Case { file, plan, room }
+}
+
+/// A small source of random numbers (splitmix64).
+pub struct Random(u64);
+
+impl Random {
+    pub fn new(seed: u64) -> Random {
+        Random(seed)
+    }
+
+    pub fn draw(&mut self) -> u64 {
+        self.0 = self.0.wrapping_add(0x9E37_79B9_7F4A_7C15);
+        let mut z = self.0;
+        z = (z ^ (z >> 30)).wrapping_mul(0xBF58_476D_1CE4_E5B9);
+        z = (z ^ (z >> 27)).wrapping_mul(0x94D0_49BB_1331_11EB);
+        z ^ (z >> 31)
+    }
+
+    /// A number from 0 up to, not including, `bound`.
+    pub fn below(&mut self, bound: usize) -> usize {
+        (self.draw() % bound as u64) as usize
+    }
+
+    /// A number from `low` to `high`, both included.
+    pub fn between(&mut self, low: usize, high: usize) -> usize {
+        low + self.below(high - low + 1)
+    }
+
+    /// True in so many of a hundred draws.
+    pub fn chance(&mut self, percent: usize) -> bool {
+        self.below(100) < percent
+    }
+
+    pub fn pick<T: Copy>(&mut self, choices: &[T]) -> T {
+        choices[self.below(choices.len())]
+    }
+}
+
+/// How large the parts of a task are.
+#[derive(Clone, Debug)]
+pub struct Shape {
+    pub facts: usize,
+    pub actions: usize,
+    pub preferences: usize,
+    /// The most clauses of a condition.
+    pub clauses: usize,
+    /// The most literals of a clause.
+    pub literals: usize,
+    /// The most effects of an action.
+    pub effects: usize,
+    /// The length of the plan aimed at.
+    pub steps: usize,
+}
+
+impl Shape {
+    pub fn any(r: &mut Random) -> Shape {
+        match r.below(100) {
+            0..=63 => Shape::small(r),
+            64..=78 => Shape::middle(r),
+            79..=88 => Shape::wide(r),
+            89..=95 => Shape::at_limits(r),
+            _ => Shape::long(r),
+        }
+    }
+
+    pub fn small(r: &mut Random) -> Shape {
+        Shape {
+            facts: r.between(1, 6),
+            actions: r.between(0, 4),
+            preferences: r.between(0, 4),
+            clauses: 2,
+            literals: 3,
+            effects: 3,
+            steps: steps(r),
+        }
+    }
+
+    fn middle(r: &mut Random) -> Shape {
+        Shape {
+            facts: r.between(1, 30),
+            actions: r.between(1, 12),
+            preferences: r.between(0, 10),
+            clauses: 4,
+            literals: 4,
+            effects: 4,
+            steps: steps(r),
+        }
+    }
+
+    /// Facts on both sides of the word border and up to the last.
+    fn wide(r: &mut Random) -> Shape {
+        let many = r.between(60, 128);
+        Shape {
+            facts: r.pick(&[63, 64, 65, 66, 113, 126, 127, 128, many, many]),
+            actions: r.between(1, 6),
+            preferences: r.between(0, 4),
+            clauses: 3,
+            literals: 3,
+            effects: 3,
+            steps: steps(r),
+        }
+    }
+
+    /// Just at or over the facts or actions a translation may have.
+    fn at_limits(r: &mut Random) -> Shape {
+        let many = r.between(0, 16);
+        let preferences = r.pick(&[0, 1, 15, 16, 16, many]);
+        let total = r.pick(&[127, 128, 128, 129]);
+        let few = r.between(1, 8);
+        let (facts, actions) = match r.below(3) {
+            0 => (total - 2 - 3 * preferences, few),
+            1 => (few, total - 1 - 2 * preferences),
+            _ => (total - 2 - 3 * preferences, 128 - 1 - 2 * preferences),
+        };
+        Shape {
+            facts,
+            actions,
+            preferences,
+            clauses: 1,
+            literals: 2,
+            effects: 1,
+            steps: steps(r),
+        }
+    }
+
+    /// Long conditions, up to some thousand rows.
+    fn long(r: &mut Random) -> Shape {
+        let many = r.between(1, 100);
+        Shape {
+            facts: r.pick(&[5, 64, 80, 100, many]),
+            actions: r.between(0, 10),
+            preferences: r.between(0, 8),
+            clauses: r.between(1, 30),
+            literals: r.between(1, 20),
+            effects: r.between(0, 6),
+            steps: r.between(0, 10),
+        }
+    }
+}
+
+/// The length of a plan: mostly short, now and then at the limit or over it.
+fn steps(r: &mut Random) -> usize {
+    match r.below(1000) {
+        0..=749 => r.between(0, 8),
+        750..=919 => r.between(9, 40),
+        920..=949 => r.between(41, 300),
+        950..=959 => r.between(2_000, 2_048),
+        960..=969 => 2_048,
+        970..=984 => 2_049,
+        985..=998 => r.between(2_050, 2_400),
+        _ => 100_000,
+    }
+}
+
+/// A task of a shape, and a plan that often solves it.
+pub fn task_and_plan(r: &mut Random, shape: &Shape) -> (Task, Vec<u8>) {
+    let pool = pool(r, shape.facts);
+    let often = r.pick(&[10, 50, 90]);
+    let chance = |fact: &usize| if pool.contains(fact) { often } else { 5 };
+    let start = (0..shape.facts)
+        .filter(|fact| r.chance(chance(fact)))
+        .collect();
+    let mut task = Task {
+        facts: shape.facts,
+        start,
+        goal: vec![],
+        actions: vec![],
+        preferences: vec![],
+    };
+    let state = opening(&task);
+    let parts = &mut Parts { r, pool, shape };
+    task.actions = (0..shape.actions).map(|_| parts.action(&state)).collect();
+    task.preferences = (0..shape.preferences).map(|_| parts.preference()).collect();
+    let (plan, last) = plan(parts.r, &task, shape.steps);
+    task.goal = match parts.r.chance(75) {
+        true => parts.condition(Some(&last)),
+        false => parts.condition(None),
+    };
+    (task, plan)
+}
+
+/// The few facts that most rows speak of, so that they touch each other.
+fn pool(r: &mut Random, facts: usize) -> Vec<usize> {
+    if facts <= 6 {
+        return (0..facts).collect();
+    }
+    let mut pool: Vec<usize> = (0..4).map(|_| r.below(facts)).collect();
+    for fact in [0, 63, 64, 127, facts - 1] {
+        if fact < facts && r.chance(50) {
+            pool.push(fact);
+        }
+    }
+    pool
+}
+
+/// The parts of a random task.
+struct Parts<'a> {
+    r: &'a mut Random,
+    pool: Vec<usize>,
+    shape: &'a Shape,
+}
+
+impl Parts<'_> {
+    fn fact(&mut self) -> usize {
+        if self.r.chance(90) {
+            self.r.pick(&self.pool)
+        } else {
+            self.r.below(self.shape.facts)
+        }
+    }
+
+    /// A cost or a weight.
+    fn amount(&mut self) -> u32 {
+        let small = self.r.below(20);
+        let any = self.r.below(MAX_AMOUNT as usize + 1);
+        self.r.pick(&[0, 1, small, small, any, MAX_AMOUNT as usize]) as u32
+    }
+
+    fn literal(&mut self) -> Literal {
+        Literal {
+            holds: self.r.chance(50),
+            fact: self.fact(),
+        }
+    }
+
+    /// A clause, made true in a state if one is given.
+    fn clause(&mut self, length: usize, state: Option<&State>) -> Clause {
+        let mut clause: Clause = (0..length).map(|_| self.literal()).collect();
+        if let Some(state) = state {
+            let chosen = &mut clause[self.r.below(length)];
+            chosen.holds = state[chosen.fact];
+        }
+        clause
+    }
+
+    /// A condition, made true in a state if one is given.
+    fn condition(&mut self, state: Option<&State>) -> Condition {
+        let clauses = self.r.between(0, self.shape.clauses);
+        (0..clauses)
+            .map(|_| {
+                let length = self.r.between(1, self.shape.literals);
+                self.clause(length, state)
+            })
+            .collect()
+    }
+
+    fn effect(&mut self) -> Effect {
+        let condition = match self.r.chance(40) {
+            true => vec![],
+            false => self.condition(None),
+        };
+        let (adds, deletes) = (self.r.between(0, 2), self.r.between(0, 2));
+        let mut effect = Effect {
+            condition,
+            adds: (0..adds).map(|_| self.fact()).collect(),
+            deletes: (0..deletes).map(|_| self.fact()).collect(),
+        };
+        if self.r.chance(15) {
+            let both = self.fact();
+            effect.adds.push(both);
+            effect.deletes.push(both);
+        }
+        effect
+    }
+
+    /// Two effects that turn a fact over.
+    fn turn(&mut self) -> [Effect; 2] {
+        let fact = self.fact();
+        let when = |holds| vec![vec![Literal { holds, fact }]];
+        [
+            Effect {
+                condition: when(true),
+                adds: vec![],
+                deletes: vec![fact],
+            },
+            Effect {
+                condition: when(false),
+                adds: vec![fact],
+                deletes: vec![],
+            },
+        ]
+    }
+
+    /// An action, most often one that applies in the opening state.
+    fn action(&mut self, opening: &State) -> Action {
+        let cost = self.amount();
+        let precondition = match self.r.below(10) {
+            0..=3 => vec![],
+            4..=7 => self.condition(Some(opening)),
+            _ => self.condition(None),
+        };
+        let effects = self.r.between(0, self.shape.effects);
+        let mut effects: Vec<Effect> = (0..effects).map(|_| self.effect()).collect();
+        if self.r.chance(40) {
+            effects.extend(self.turn());
+        }
+        Action {
+            cost,
+            precondition,
+            effects,
+        }
+    }
+
+    /// The condition of a preference, often one that a few facts decide.
+    fn rule(&mut self) -> Condition {
+        match self.r.chance(50) {
+            true => vec![self.clause(1, None)],
+            false => self.condition(None),
+        }
+    }
+
+    fn preference(&mut self) -> Preference {
+        let kind = self.r.pick(&Kind::ALL);
+        let weight = self.amount();
+        let phi = self.rule();
+        let psi = match kind.has_second() {
+            true => self.rule(),
+            false => vec![],
+        };
+        Preference {
+            kind,
+            weight,
+            phi,
+            psi,
+        }
+    }
+}
+
+/// A plan of about so many steps, and the last state it is known to reach. Most
+/// plans take only steps that apply and end early where none does.
+fn plan(r: &mut Random, task: &Task, steps: usize) -> (Vec<u8>, State) {
+    let mut state = opening(task);
+    let mut plan = Vec::new();
+    let actions = task.actions.len();
+    if actions == 0 {
+        return (plan, state);
+    }
+    let careless = if r.chance(30) {
+        r.below(steps + 1)
+    } else {
+        steps
+    };
+    let simulated = if steps > MAX_STEPS { 0 } else { careless };
+    while plan.len() < simulated {
+        let applies = |&a: &usize| condition_true(&task.actions[a].precondition, &state);
+        let able: Vec<usize> = (0..actions).filter(applies).collect();
+        if able.is_empty() {
+            return (plan, state);
+        }
+        let step = r.pick(&able);
+        plan.push(step as u8);
+        state = after(&task.actions[step], &state);
+    }
+    while plan.len() < steps {
+        plan.push(r.below(actions) as u8);
+    }
+    (plan, state)
+}
+
+/// Puts one or two steps that are no action into a plan.
+fn unknown_step(r: &mut Random, task: &Task, plan: &mut Vec<u8>) {
+    let actions = task.actions.len();
+    for _ in 0..r.between(1, 2) {
+        let any = r.between(actions, 255);
+        let step = r.pick(&[actions, actions + 1, any, 255]) as u8;
+        if plan.is_empty() {
+            plan.push(step);
+        } else {
+            let at = r.below(plan.len());
+            plan[at] = step;
+        }
+    }
+}
+
+/// Lengthens the goal until the task, or its translation, has just the most rows
+/// allowed or one more.
+fn pad(r: &mut Random, task: &mut Task) {
+    let aim = MAX_ROWS + r.below(2);
+    let now = match r.chance(30) {
+        true => task.rows(),
+        false => translated(task, aim).map_or(aim, |translation| translation.rows()),
+    };
+    let mut missing = aim.saturating_sub(now);
+    while missing >= 2 {
+        let mut rows = r.between(2, 3_000).min(missing);
+        if missing - rows == 1 {
+            rows = missing;
+        }
+        // Two literals that deny each other make the clause true.
+        let fact = r.below(task.facts);
+        let literal = |i: usize| Literal {
+            holds: i % 2 == 1,
+            fact,
+        };
+        task.goal.push((0..rows - 1).map(literal).collect());
+        missing -= rows;
+    }
+}
+
+/// The file of a task with one fault or two in it.
+fn damaged(r: &mut Random, task: &Task) -> Vec<u8> {
+    let mut sizes = [task.facts, task.actions.len(), task.preferences.len()].map(|s| s as u16);
+    let mut rows = rows(task);
+    if r.chance(3) {
+        rows = noise(r);
+    }
+    let (in_rows, in_bytes) = r.pick(&[(1, 0), (1, 0), (1, 0), (2, 0), (0, 1), (0, 1), (1, 1)]);
+    for _ in 0..in_rows {
+        damage_rows(r, &mut sizes, &mut rows);
+    }
+    let mut file = spell(sizes, &rows);
+    for _ in 0..in_bytes {
+        damage_bytes(r, &mut file);
+    }
+    file
+}
+
+/// Rows without order.
+fn noise(r: &mut Random) -> Vec<Row> {
+    let count = r.between(0, 12);
+    let row = |_| Row {
+        mark: r.below(18) as u8,
+        value: r.below(3) as u32,
+    };
+    (0..count).map(row).collect()
+}
+
+/// One fault among the rows or the counts; the length of the file stays right.
+fn damage_rows(r: &mut Random, sizes: &mut [u16; 3], rows: &mut Vec<Row>) {
+    if rows.is_empty() {
+        return;
+    }
+    let count = rows.len();
+    let (at, other) = (r.below(count), r.below(count));
+    let facts = u32::from(sizes[0]);
+    match r.below(13) {
+        0 => rows[at].mark = r.below(18) as u8,
+        1 => rows[at].mark = r.pick(&[0, 1, 2, 3, 8, 9, 10, 14, 16, 17, 32, 128, 255]),
+        2 | 3 => rows[at].value = past_limit(r, rows[at], facts),
+        4 => rows.swap(at, other),
+        5 => rows.swap(at, (at + 1) % count),
+        6 => {
+            rows.remove(at);
+        }
+        7 => rows.insert(other, rows[at]),
+        8 => {
+            let row = Row {
+                mark: r.between(1, 16) as u8,
+                value: r.below(2) as u32,
+            };
+            rows.insert(at, row);
+        }
+        9 => rows.truncate(at),
+        10 | 11 => {
+            // A count one off, within its range.
+            let (which, most) = r.pick(&[(1, MAX_ACTIONS), (2, MAX_PREFERENCES)]);
+            let count = usize::from(sizes[which]);
+            let changed = if r.chance(50) {
+                count + 1
+            } else {
+                count.saturating_sub(1)
+            };
+            sizes[which] = changed.min(most) as u16;
+        }
+        _ => sizes[0] = r.between(1, sizes[0] as usize) as u16,
+    }
+}
+
+/// A value just past what its mark allows, or just allowed, or far off.
+fn past_limit(r: &mut Random, row: Row, facts: u32) -> u32 {
+    let high = row
+        .value
+        .wrapping_add(r.pick(&[1 << 8, 1 << 16, 1 << 24, 1 << 31]));
+    match row.mark {
+        1 | 10..=15 => r.pick(&[MAX_AMOUNT, MAX_AMOUNT + 1, u32::MAX, high]),
+        2 | 3 | 8 | 16 => r.pick(&[1, 2, u32::MAX, high]),
+        _ => r.pick(&[facts - 1, facts, facts + 1, 128, u32::MAX, high]),
+    }
+}
+
+/// One fault in the bytes of a file.
+fn damage_bytes(r: &mut Random, file: &mut Vec<u8>) {
+    let at = r.below(file.len());
+    match r.below(10) {
+        0 | 1 => file.truncate(r.between(0, 8)),
+        2 => {
+            let fault = r.pick(&[(0, 0), (0, 129), (2, 129), (4, 17), (6, 12_001)]);
+            set_size(file, fault.0, fault.1);
+        }
+        3 => {
+            let size = 2 * r.below(4);
+            let value = r.pick(&[0, 1, 2, 16, 17, 128, 129, 256, 12_000, 12_001, 65_535]);
+            set_size(file, size, value);
+        }
+        4 => {
+            let less = r.between(1, 5);
+            file.truncate(r.pick(&[at, file.len().saturating_sub(less)]));
+        }
+        5 => {
+            let more = r.between(1, 5);
+            file.extend((0..more).map(|_| r.below(256) as u8));
+        }
+        6 => {
+            let rows = u16::from_le_bytes([file[6], file[7]]);
+            let wrong = r.pick(&[rows + 1, rows.saturating_sub(1)]);
+            set_size(file, 6, wrong);
+        }
+        7 => file[at] = r.below(256) as u8,
+        _ => file[at] ^= 1 << r.below(8),
+    }
+}
+
+fn set_size(file: &mut [u8], at: usize, size: u16) {
+    file[at..at + 2].copy_from_slice(&size.to_le_bytes());
+}
+
+/// The room lent to translate: mostly enough for any translation, otherwise
+/// about the length needed or far less.
+fn room(r: &mut Random, file: &[u8]) -> usize {
+    if r.chance(85) {
+        return MAX_FILE;
+    }
+    let needed = translate(file, MAX_FILE).map_or(MAX_FILE, |bytes| bytes.len());
+    let less = r.below(needed);
+    r.pick(&[needed, needed - 1, needed + 1, less, 0, 8])
+}

@@ -1,0 +1,171 @@
+//! A task as a tree, and the limits of the task file.
+
+pub const MAX_FACTS: usize = 128;
+pub const MAX_ACTIONS: usize = 128;
+pub const MAX_PREFERENCES: usize = 16;
+pub const MAX_ROWS: usize = 12_000;
+/// The largest cost and the largest weight.
+pub const MAX_AMOUNT: u32 = 1_000_000;
+pub const MAX_STEPS: usize = 2_048;
+
+/// The marks of the rows. Marks 10 to 15 are those of `Kind`.
+pub mod mark {
+    pub const ACTION: u8 = 1;
+    pub const EFFECT: u8 = 2;
+    pub const CLAUSE: u8 = 3;
+    pub const HOLDS: u8 = 4;
+    pub const LACKS: u8 = 5;
+    pub const ADD: u8 = 6;
+    pub const DELETE: u8 = 7;
+    pub const GOAL: u8 = 8;
+    pub const START: u8 = 9;
+    pub const SECOND: u8 = 16;
+}
+
+/// HOLDS fact, or LACKS fact.
+#[derive(Clone, Copy, PartialEq, Eq, Debug)]
+pub struct Literal {
+    pub holds: bool,
+    pub fact: usize,
+}
+
+/// True if some literal is.
+pub type Clause = Vec<Literal>;
+
+/// True if every clause is.
+pub type Condition = Vec<Clause>;
+
+#[derive(Clone, PartialEq, Eq, Debug)]
+pub struct Effect {
+    pub condition: Condition,
+    pub adds: Vec<usize>,
+    pub deletes: Vec<usize>,
+}
+
+#[derive(Clone, PartialEq, Eq, Debug)]
+pub struct Action {
+    pub cost: u32,
+    pub precondition: Condition,
+    pub effects: Vec<Effect>,
+}
+
+#[derive(Clone, Copy, PartialEq, Eq, Debug)]
+pub enum Kind {
+    Always,
+    Sometime,
+    AtEnd,
+    AtMostOnce,
+    SometimeBefore,
+    SometimeAfter,
+}
+
+#[derive(Clone, PartialEq, Eq, Debug)]
+pub struct Preference {
+    pub kind: Kind,
+    pub weight: u32,
+    pub phi: Condition,
+    /// Read only for the kinds with two conditions; empty for the others.
+    pub psi: Condition,
+}
+
+#[derive(Clone, PartialEq, Eq, Debug)]
+pub struct Task {
+    /// How many facts there are; they are numbered from 0.
+    pub facts: usize,
+    /// The facts of the opening state, strictly rising.
+    pub start: Vec<usize>,
+    pub goal: Condition,
+    pub actions: Vec<Action>,
+    pub preferences: Vec<Preference>,
+}
+
+impl Kind {
+    pub const ALL: [Kind; 6] = [
+        Kind::Always,
+        Kind::Sometime,
+        Kind::AtEnd,
+        Kind::AtMostOnce,
+        Kind::SometimeBefore,
+        Kind::SometimeAfter,
+    ];
+
+    /// The kind that a mark opens, if it opens a preference.
+    pub fn of_mark(mark: u8) -> Option<Kind> {
+        match mark {
+            10 => Some(Kind::Always),
+            11 => Some(Kind::Sometime),
+            12 => Some(Kind::AtEnd),
+            13 => Some(Kind::AtMostOnce),
+            14 => Some(Kind::SometimeBefore),
+            15 => Some(Kind::SometimeAfter),
+            _ => None,
+        }
+    }
+
+    pub fn mark(self) -> u8 {
+        match self {
+            Kind::Always => 10,
+            Kind::Sometime => 11,
+            Kind::AtEnd => 12,
+            Kind::AtMostOnce => 13,
+            Kind::SometimeBefore => 14,
+            Kind::SometimeAfter => 15,
+        }
+    }
+
+    pub fn name(self) -> &'static str {
+        match self {
+            Kind::Always => "always",
+            Kind::Sometime => "sometime",
+            Kind::AtEnd => "at-end",
+            Kind::AtMostOnce => "at-most-once",
+            Kind::SometimeBefore => "sometime-before",
+            Kind::SometimeAfter => "sometime-after",
+        }
+    }
+
+    /// Whether the kind has SECOND and the condition ψ.
+    pub fn has_second(self) -> bool {
+        matches!(self, Kind::SometimeBefore | Kind::SometimeAfter)
+    }
+}
+
+// How many rows each part takes in a file.
+
+pub fn condition_rows(condition: &Condition) -> usize {
+    condition.iter().map(|clause| 1 + clause.len()).sum()
+}
+
+impl Effect {
+    pub fn rows(&self) -> usize {
+        1 + condition_rows(&self.condition) + self.adds.len() + self.deletes.len()
+    }
+}
+
+impl Action {
+    pub fn rows(&self) -> usize {
+        1 + condition_rows(&self.precondition)
+            + self.effects.iter().map(Effect::rows).sum::<usize>()
+    }
+}
+
+impl Preference {
+    pub fn rows(&self) -> usize {
+        let second = if self.kind.has_second() {
+            1 + condition_rows(&self.psi)
+        } else {
+            0
+        };
+        1 + condition_rows(&self.phi) + second
+    }
+}
+
+impl Task {
+    pub fn rows(&self) -> usize {
+        self.start.len()
+            + 1
+            + condition_rows(&self.goal)
+            + self.actions.iter().map(Action::rows).sum::<usize>()
+            + self.preferences.iter().map(Preference::rows).sum::<usize>()
+    }
+}

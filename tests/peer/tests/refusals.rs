@@ -1,0 +1,241 @@
+//! Refusals 1 to 6, their places and their order.
+
+mod common;
+
+use common::*;
+use peer::*;
+
+fn answer(facts: u16, actions: u16, preferences: u16, words: &str) -> Result<(), Refusal> {
+    check(&file(facts, actions, preferences, words)).map(|_| ())
+}
+
+#[test]
+fn one_to_three() {
+    let belt = belt();
+    for length in 0..8 {
+        assert_eq!(check(&belt[..length]), refused(1, 0));
+    }
+    // 1 before 2: too short, whatever the sizes.
+    assert_eq!(check(&[0; 7]), refused(1, 0));
+    for length in 8..98 {
+        assert_eq!(check(&belt[..length]), refused(3, 0));
+    }
+    assert_eq!(check(&[belt.clone(), vec![0]].concat()), refused(3, 0));
+    // 2 before 3, each size by itself.
+    for (at, size) in [
+        (0, 0u16),
+        (0, 129),
+        (0, 256),
+        (2, 129),
+        (4, 17),
+        (6, 12_001),
+        (6, 65_535),
+    ] {
+        let mut file = belt.clone();
+        file[at..at + 2].copy_from_slice(&size.to_le_bytes());
+        assert_eq!(check(&file), refused(2, 0));
+        assert_eq!(check(&file[..20]), refused(2, 0));
+    }
+    let mut file = belt.clone();
+    file[6] = 17;
+    assert_eq!(check(&file), refused(3, 0));
+}
+
+#[test]
+fn accepted_without() {
+    assert_eq!(answer(1, 0, 0, "GOAL"), Ok(()));
+    assert_eq!(
+        answer(128, 1, 0, "START 0 START 127 GOAL ACTION 1000000"),
+        Ok(())
+    );
+    assert_eq!(
+        answer(
+            1,
+            1,
+            0,
+            "GOAL ACTION EFFECT EFFECT DELETE 0 EFFECT ADD 0 ADD 0"
+        ),
+        Ok(())
+    );
+    assert_eq!(
+        answer(1, 0, 2, "GOAL sometime-after SECOND always 1000000"),
+        Ok(())
+    );
+    assert_eq!(
+        answer(
+            1,
+            0,
+            0,
+            "GOAL CLAUSE HOLDS 0 HOLDS 0 LACKS 0 CLAUSE HOLDS 0"
+        ),
+        Ok(())
+    );
+}
+
+#[test]
+fn rows_end_inside_a_task() {
+    assert_eq!(answer(1, 0, 0, ""), refused(4, 0));
+    assert_eq!(answer(1, 0, 0, "START 0"), refused(4, 1));
+    assert_eq!(answer(1, 0, 0, "GOAL CLAUSE"), refused(4, 2));
+    assert_eq!(answer(1, 1, 0, "GOAL ACTION CLAUSE"), refused(4, 3));
+    assert_eq!(answer(1, 1, 0, "GOAL ACTION EFFECT CLAUSE"), refused(4, 4));
+    assert_eq!(answer(1, 0, 1, "GOAL always CLAUSE"), refused(4, 3));
+    assert_eq!(answer(1, 0, 1, "GOAL sometime-before"), refused(4, 2));
+    assert_eq!(
+        answer(1, 0, 1, "GOAL sometime-after CLAUSE LACKS 0"),
+        refused(4, 4)
+    );
+    assert_eq!(
+        answer(1, 0, 1, "GOAL sometime-after SECOND CLAUSE"),
+        refused(4, 4)
+    );
+}
+
+/// All sixteen marks, none, and two that don't exist, behind every kind of beginning.
+#[test]
+fn marks_that_may_come() {
+    let marks = [
+        "M0",
+        "ACTION",
+        "EFFECT",
+        "CLAUSE",
+        "HOLDS",
+        "LACKS",
+        "ADD",
+        "DELETE",
+        "GOAL",
+        "START",
+        "always",
+        "sometime",
+        "at-end",
+        "at-most-once",
+        "sometime-before",
+        "sometime-after",
+        "SECOND",
+        "M17",
+        "M255",
+    ];
+    const KINDS: &str = "always sometime at-end at-most-once sometime-before sometime-after";
+    let table = [
+        ("", "START GOAL"),
+        ("START 0", "START GOAL"),
+        ("GOAL", "CLAUSE ACTION kinds"),
+        ("GOAL CLAUSE", "HOLDS LACKS"),
+        ("GOAL CLAUSE HOLDS 0", "HOLDS LACKS CLAUSE ACTION kinds"),
+        ("GOAL ACTION", "CLAUSE EFFECT ACTION kinds"),
+        ("GOAL ACTION CLAUSE", "HOLDS LACKS"),
+        (
+            "GOAL ACTION CLAUSE LACKS",
+            "HOLDS LACKS CLAUSE EFFECT ACTION kinds",
+        ),
+        (
+            "GOAL ACTION EFFECT",
+            "CLAUSE ADD DELETE EFFECT ACTION kinds",
+        ),
+        ("GOAL ACTION EFFECT CLAUSE", "HOLDS LACKS"),
+        (
+            "GOAL ACTION EFFECT CLAUSE HOLDS",
+            "HOLDS LACKS CLAUSE ADD DELETE EFFECT ACTION kinds",
+        ),
+        ("GOAL ACTION EFFECT ADD", "ADD DELETE EFFECT ACTION kinds"),
+        ("GOAL ACTION EFFECT DELETE", "DELETE EFFECT ACTION kinds"),
+        (
+            "GOAL ACTION EFFECT ADD DELETE",
+            "DELETE EFFECT ACTION kinds",
+        ),
+        ("GOAL always", "CLAUSE kinds"),
+        ("GOAL sometime CLAUSE", "HOLDS LACKS"),
+        ("GOAL at-end CLAUSE LACKS", "HOLDS LACKS CLAUSE kinds"),
+        ("GOAL at-most-once", "CLAUSE kinds"),
+        ("GOAL sometime-before", "CLAUSE SECOND"),
+        ("GOAL sometime-after CLAUSE", "HOLDS LACKS"),
+        (
+            "GOAL sometime-before CLAUSE HOLDS",
+            "HOLDS LACKS CLAUSE SECOND",
+        ),
+        ("GOAL sometime-after SECOND", "CLAUSE kinds"),
+        ("GOAL sometime-after SECOND CLAUSE", "HOLDS LACKS"),
+        (
+            "GOAL sometime-before SECOND CLAUSE HOLDS",
+            "HOLDS LACKS CLAUSE kinds",
+        ),
+    ];
+    for (beginning, may) in table {
+        let may = may.replace("kinds", KINDS);
+        let row = rows(beginning).len() as u16;
+        for mark in marks {
+            // The value is wrong for every mark: 5 on this row says the mark may come.
+            let number = if may.split(' ').any(|word| word == mark) {
+                5
+            } else {
+                4
+            };
+            let words = format!("{beginning} {mark} 1000001");
+            assert_eq!(answer(1, 0, 0, &words), refused(number, row), "{words}");
+        }
+    }
+}
+
+#[test]
+fn values() {
+    assert_eq!(answer(3, 0, 0, "START 3 GOAL"), refused(5, 0));
+    assert_eq!(answer(3, 0, 0, "START 1 START 1 GOAL"), refused(5, 1));
+    assert_eq!(answer(3, 0, 0, "START 2 START 1 GOAL"), refused(5, 1));
+    assert_eq!(answer(3, 0, 0, "GOAL 1"), refused(5, 0));
+    assert_eq!(answer(3, 0, 0, "GOAL CLAUSE 1 HOLDS 0"), refused(5, 1));
+    assert_eq!(
+        answer(3, 0, 0, "GOAL CLAUSE HOLDS 2 LACKS 3"),
+        refused(5, 3)
+    );
+    assert_eq!(answer(3, 1, 0, "GOAL ACTION 1000001"), refused(5, 1));
+    assert_eq!(answer(3, 1, 0, "GOAL ACTION EFFECT 1"), refused(5, 2));
+    assert_eq!(answer(3, 1, 0, "GOAL ACTION EFFECT ADD 3"), refused(5, 3));
+    assert_eq!(
+        answer(3, 1, 0, "GOAL ACTION EFFECT ADD 2 DELETE 4294967295"),
+        refused(5, 4)
+    );
+    assert_eq!(answer(3, 0, 1, "GOAL always 1000001"), refused(5, 1));
+    assert_eq!(
+        answer(3, 0, 1, "GOAL sometime-after SECOND 1"),
+        refused(5, 2)
+    );
+    assert_eq!(answer(3, 0, 0, "START 256 GOAL"), refused(5, 0));
+    assert_eq!(answer(3, 0, 0, "START 16777216 GOAL"), refused(5, 0));
+}
+
+#[test]
+fn counts() {
+    assert_eq!(answer(1, 1, 0, "GOAL"), refused(6, 1));
+    assert_eq!(answer(1, 0, 0, "GOAL ACTION"), refused(6, 2));
+    assert_eq!(answer(1, 0, 1, "GOAL"), refused(6, 1));
+    assert_eq!(answer(1, 0, 0, "GOAL always"), refused(6, 2));
+    let many = "ACTION ".repeat(200);
+    assert_eq!(answer(1, 128, 0, &format!("GOAL {many}")), refused(6, 201));
+}
+
+#[test]
+fn first_faulty_row_decides() {
+    // 5 on an earlier row, then 4; and the other way round.
+    assert_eq!(answer(1, 0, 0, "GOAL 1 M0"), refused(5, 0));
+    assert_eq!(answer(1, 0, 0, "GOAL HOLDS 9 GOAL 1"), refused(4, 1));
+    // 4 before 5 on one row.
+    assert_eq!(answer(1, 0, 0, "GOAL GOAL 1"), refused(4, 1));
+    // Counts come after all rows and after their end.
+    assert_eq!(answer(1, 0, 0, "GOAL ACTION ACTION M17"), refused(4, 3));
+    assert_eq!(answer(1, 0, 0, "GOAL ACTION CLAUSE HOLDS 1"), refused(5, 3));
+    assert_eq!(answer(1, 0, 0, "GOAL ACTION CLAUSE"), refused(4, 3));
+}
+
+/// Judge and translate give a task's own refusal first.
+#[test]
+fn task_before_plan_and_translation() {
+    let broken = file(127, 0, 0, "GOAL ACTION");
+    assert_eq!(judge(&broken, &[9; 3_000]), refused(6, 2));
+    assert_eq!(translate(&broken, 0), refused(6, 2));
+    let wide = file(127, 0, 0, "GOAL");
+    assert_eq!(translate(&wide, 0), refused(7, 0));
+    // An unknown step wins over one that doesn't apply before it.
+    let stops = file(1, 1, 0, "GOAL ACTION CLAUSE HOLDS 0");
+    assert_eq!(judge(&stops, &[0, 0, 1]), refused(11, 2));
+    assert_eq!(judge(&stops, &[0, 0, 0]), Ok(Verdict::Stopped(0)));
+}
