@@ -1,12 +1,11 @@
 -- The facts S and B of one monitor, put into the set of all monitors.
-use mathlib.Core.Path.{_≡_, refl, sym, ap, _∙_}
+use mathlib.Core.Path.{_≡_, refl, ap, _∙_}
 use mathlib.Core.Bool.{Bool, true, false, not, cond, _&&_, _||_, and-true, and-false, or-true, or-false}
 use Prim.Native.Nat.{ℕ, _+_, _<_}
 use native.Mathlib.Omega.{arith}
 use lib.Dec.{ltb, eqb}
 use borrow.Author.Tests.{eqb-true, eqb-false, lt-ltb, eq-eqb, ne-eqb}
 use Rattle.task.specs.Meaning.{State as Facts}
-use Rattle.task.specs.Monitor.{Monitor}
 use Rattle.state.specs.Member.{single, union, difference}
 use Rattle.plan.specs.Monitors.{monitorAt}
 

@@ -1,18 +1,18 @@
 -- The verdict behind the last step, and the verdict on a whole plan.
-use mathlib.Core.Path.{_≡_, refl, sym, ap, ap₂, _∙_, fun-ext, subst⁻¹}
-use mathlib.Core.Bool.{Bool, true, false, cond, _&&_}
-use mathlib.Core.List.{List, [], _∷_, map}
-use Prim.Native.Nat.{ℕ, suc, _+_, _^_, _≤_, _<_}
+use mathlib.Core.Path.{_≡_, refl, sym, ap, _∙_, fun-ext, subst⁻¹}
+use mathlib.Core.Bool.{Bool, true, false, cond}
+use mathlib.Core.List.{List, map}
+use Prim.Native.Nat.{ℕ, _+_, _^_, _≤_, _<_}
 use native.Mathlib.Omega.{arith}
 use lib.Dec.{T, ltb}
-use lib.IntN.{ℤ, pos, _-ℤ_}
+use lib.IntN.{pos, _-ℤ_}
 use lib.ListN.{length, getD, length-map, List·getD-eq-default}
 use borrow.Author.Tests.{ltb-true, ltb-false}
 use Rattle.task.specs.Lists.{all, sum}
 use Rattle.task.specs.Task.{Task, Preference}
 use Rattle.task.specs.Spelling.{preferenceSpellable}
 use Rattle.task.specs.Meaning.{State as Facts, isTrue, seen, preferenceAt}
-use Rattle.task.specs.Monitor.{Monitor, step, good}
+use Rattle.task.specs.Monitor.{Monitor, step}
 use Rattle.task.specs.Verdict
 use Rattle.task.specs.Verdict.{solved, goal-missed}
 use Rattle.task.proofs.Tests.{tests}

@@ -1,5 +1,5 @@
 -- A plan judged on the task in a file, from what check answers.
-use mathlib.Core.Path.{_≡_, refl, sym, ap, ap₂, _∙_, subst⁻¹}
+use mathlib.Core.Path.{_≡_, refl, sym, ap, _∙_, subst⁻¹}
 use mathlib.Core.Bool.{Bool, true, false, cond, _&&_}
 use mathlib.Core.List.{List, [], _∷_}
 use Prim.Native.Nat.{ℕ, suc, _+_, _*_, _-_, _≤_, _<_}
@@ -13,16 +13,16 @@ use borrow.Author.Tests.{le-leb, lt-leb, lt-ltb, le-ltb}
 use Rattle.task.specs.Lists.{all}
 use Rattle.task.specs.Task.{Task}
 use Rattle.task.specs.File
-use Rattle.task.specs.File.{sizes, sizesOf, paired, rows, taskOf}
+use Rattle.task.specs.File.{sizes, paired, rows, taskOf}
 use Rattle.task.specs.Check
-use Rattle.task.specs.Check.{check, sizesAllowed}
+use Rattle.task.specs.Check.{check}
 use Rattle.task.specs.Verdict.{Verdict, verdict}
 use Rattle.task.specs.Answers.{answer as checked, asSizes}
 use Rattle.task.specs.declared.Sizes.{Sizes}
 use Rattle.task.specs.declared.Refusal.{Refusal}
 use Rattle.task.specs.declared.Checked.{Checked}
 use Rattle.task.specs.declared.Checked.the-variants.{Accepted, Refused}
-use Rattle.task.proofs.Tests.{tests, as-true, as-false}
+use Rattle.task.proofs.Tests.{tests, as-true}
 use Rattle.task.proofs.Walk.{refused≢accepted}
 use Rattle.task.proofs.Spelled.{Spelling, accepted-spelling}
 use Rattle.plan.specs.Judged.{Judged, given, refused, stepsKnown, judgedBy, judged}

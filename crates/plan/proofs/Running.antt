@@ -1,6 +1,6 @@
 -- A plan run step by step comes to the verdict on it.
 use mathlib.Core.Path.{_≡_, refl, sym, ap, ap₂, _∙_, fun-ext, subst⁻¹}
-use mathlib.Core.Bool.{Bool, true, false, cond, _&&_}
+use mathlib.Core.Bool.{Bool, true, false, cond}
 use mathlib.Core.List.{List, [], _∷_, map}
 use Prim.Native.Nat.{ℕ, suc, _+_, _*_, _≤_, _<_}
 use native.Mathlib.Nat.{add-zero, zero-add}
@@ -12,8 +12,8 @@ use lib.ListN.{length, drop, getD, drop-of-length-le}
 use lib.Seq.{drop-cons}
 use Rattle.task.specs.Lists.{all, sum, lastOr}
 use Rattle.task.specs.Task.{Task, Preference}
-use Rattle.task.specs.Meaning.{State as Facts, isTrue, opening, after, actionAt, applies, runs, reached, final, cost, seen, isMet, preferenceAt}
-use Rattle.task.specs.Monitor.{Monitor, fresh, step, good}
+use Rattle.task.specs.Meaning.{State as Facts, isTrue, opening, after, actionAt, applies, runs, reached, final, cost, seen, preferenceAt}
+use Rattle.task.specs.Monitor.{Monitor, fresh, step}
 use Rattle.task.specs.Verdict.{Verdict, solved, stopped, goal-missed, stepsApplied, verdict}
 use Rattle.task.proofs.Tests.{all-at}
 use Rattle.task.proofs.Watched.{stepAll, watchAll, good-watched}

@@ -1,7 +1,7 @@
 -- One row of the search for an action, and of the search for the preferences.
-use mathlib.Core.Path.{_≡_, refl, sym, _∙_, ap}
+use mathlib.Core.Path.{_≡_, refl, sym, ap}
 use mathlib.Core.Bool.{Bool, true, false, cond, _&&_, true≢false}
-use mathlib.Core.List.{List, [], _∷_}
+use mathlib.Core.List.{List, _∷_}
 use Prim.Native.Nat.{ℕ, zero, suc, _+_, _-_, _<_, _≤_}
 use native.Mathlib.Nat.{add-zero}
 use native.Mathlib.Numerals.{add-one}
@@ -16,7 +16,6 @@ use Rattle.task.specs.File.{paired, is}
 use Rattle.task.specs.Rows.{valueAt}
 use Rattle.task.proofs.Reading.{row-at, row-end}
 use Rattle.plan.specs.Places.{seekAction}
-use Rattle.plan.specs.declared.places.Found.{Found}
 
 -- Actions
 

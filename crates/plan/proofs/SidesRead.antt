@@ -1,10 +1,10 @@
 -- The sides of a preference, read from the rows that spell it.
 use mathlib.Core.Path.{_≡_, refl, sym, ap, ap₂, _∙_, subst}
-use mathlib.Core.Bool.{Bool, true, false, cond, _&&_, _||_}
+use mathlib.Core.Bool.{Bool, true, false, cond, _||_}
 use mathlib.Core.List.{List, [], _∷_, _++_, append-assoc, append-nil}
 use Prim.Native.Nat.{ℕ, _+_, _≤_, _<_}
 use native.Mathlib.Omega.{arith}
-use lib.Dec.{T, leb, le→leb}
+use lib.Dec.{T, le→leb}
 use lib.ListN.{length, drop, getD, length-append, length-drop}
 use Rattle.task.specs.Lists.{concatMap, isEmpty}
 use Rattle.task.specs.Marks.{AT-MOST-ONCE, SOMETIME-BEFORE, SOMETIME-AFTER, SECOND}
@@ -13,7 +13,7 @@ use Rattle.task.specs.Task.{kindMark, two-sided, conditionRows, preferenceRows}
 use Rattle.task.specs.File.{paired}
 use Rattle.task.specs.Spelling.{preferenceSpellable}
 use Rattle.task.specs.Meaning.{State as Facts, isTrue}
-use Rattle.task.proofs.Tests.{tests, as-T}
+use Rattle.task.proofs.Tests.{tests}
 use Rattle.task.proofs.Bytes.{length-paired}
 use Rattle.task.proofs.Parse.{one-sided-mark, two-sided-mark}
 use Rattle.task.proofs.Reading.{row-at, Stops}

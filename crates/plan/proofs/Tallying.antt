@@ -1,15 +1,15 @@
 -- The preferences, counted row by row: what the loop keeps, and what the count comes to on the rows that spell them.
-use mathlib.Core.Path.{_≡_, refl, sym, ap, ap₂, _∙_, fun-ext}
+use mathlib.Core.Path.{_≡_, refl, sym, ap, ap₂, _∙_}
 use mathlib.Core.Bool.{Bool, true, false, cond, _&&_, _||_, or-assoc, or-false, and-true, and-false}
-use mathlib.Core.List.{List, [], _∷_, _++_, map, append-nil}
-use Prim.Native.Nat.{ℕ, zero, suc, _+_, _*_, _-_, _≤_, _<_}
+use mathlib.Core.List.{List, [], _∷_, map, append-nil}
+use Prim.Native.Nat.{ℕ, suc, _+_, _*_, _-_, _≤_, _<_}
 use native.Mathlib.Nat.{add-zero, zero-add}
 use native.Mathlib.Omega.{arith}
 use lib.Dec.{T, leb, eqb, ltb}
 use lib.ListN.{length, drop, getD}
 use borrow.Author.Tests.{ne-eqb, lt-ltb, le-leb, lt-leb, eqb-true, eqb-false, ltb-true, ltb-false}
 use Rattle.task.specs.Lists.{all, concatMap, sum}
-use Rattle.task.specs.Task.{Kind, Preference, Row, row, kindMark, conditionRows, preferenceRows}
+use Rattle.task.specs.Task.{Preference, Row, row, kindMark, preferenceRows}
 use Rattle.task.specs.File.{paired, kindOf, isPreference}
 use Rattle.task.specs.Meaning.{State as Facts, noPreference}
 use Rattle.task.specs.Monitor.{Monitor, good}

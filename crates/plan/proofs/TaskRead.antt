@@ -1,16 +1,15 @@
 -- What the readers give on marks and values that spell a task: its opening state, its goal, its actions, its preferences.
-use mathlib.Core.Path.{_≡_, refl, sym, ap, _∙_, subst}
-use mathlib.Core.Bool.{Bool, true, false, cond, _&&_, and-true}
+use mathlib.Core.Path.{_≡_, refl, sym, ap, _∙_}
 use mathlib.Core.List.{List, [], _∷_, _++_, map, append-assoc}
-use Prim.Native.Nat.{ℕ, zero, suc, _+_, _≤_, _<_}
+use Prim.Native.Nat.{ℕ, zero, suc, _+_, _<_}
 use native.Mathlib.Nat.{le-of-suc-le-suc, not-suc-le-zero, add-zero, zero-add}
 use native.Mathlib.Omega.{arith}
-use lib.Dec.{T, ltb}
+use lib.Dec.{T}
 use lib.ListN.{length, drop, getD, length-append, length-map}
 use lib.Seq.{drop-at}
-use Rattle.task.specs.Lists.{all, concatMap, upTo, elem}
+use Rattle.task.specs.Lists.{concatMap, upTo}
 use Rattle.task.specs.Marks.{ACTION, GOAL, START}
-use Rattle.task.specs.Task.{Action, Preference, Task, Row, row}
+use Rattle.task.specs.Task.{Action, Task, Row, row}
 use Rattle.task.specs.Task.{conditionRows, effectRows, actionRows, preferenceRows, taskRows}
 use Rattle.task.specs.File.{paired, marks, is, isPreference, opensPreference}
 use Rattle.task.specs.Meaning.{State as Facts, isTrue, opening, after, actionAt, noAction}

@@ -1,19 +1,19 @@
 -- The loop over the preferences: one monitor after the other sees the state.
-use mathlib.Core.Path.{_≡_, refl, sym, ap, ap₂, _∙_, subst, subst⁻¹}
+use mathlib.Core.Path.{_≡_, refl, sym, ap, _∙_, subst, subst⁻¹}
 use mathlib.Core.Bool.{Bool, true, false, cond}
-use mathlib.Core.List.{List, [], _∷_, _++_}
+use mathlib.Core.List.{List, _∷_}
 use Prim.Native.Nat.{ℕ, suc, _+_, _≤_, _<_}
 use native.Mathlib.Numerals.{add-one}
 use native.Mathlib.Omega.{arith}
 use lib.Dec.{T, eqb, ltb}
 use lib.ListN.{length, drop, getD, drop-of-length-le}
 use lib.Seq.{drop-cons}
-use borrow.Author.Tests.{eq-eqb, ne-eqb, ltb-true, ltb-false, eqb-true, eqb-false}
+use borrow.Author.Tests.{ne-eqb, ltb-true, ltb-false, eqb-true, eqb-false}
 use Rattle.task.specs.Lists.{all, concatMap, nonEmpty}
-use Rattle.task.specs.Task.{Kind, Preference, Row, preferenceRows}
+use Rattle.task.specs.Task.{Preference, Row, preferenceRows}
 use Rattle.task.specs.File.{paired, kindOf}
 use Rattle.task.specs.Spelling.{preferenceSpellable}
-use Rattle.task.specs.Meaning.{State as Facts, Seen, isTrue, seen, noPreference}
+use Rattle.task.specs.Meaning.{State as Facts, isTrue, seen, noPreference}
 use Rattle.task.specs.Monitor.{Monitor, step}
 use Rattle.task.proofs.Tests.{all-at}
 use Rattle.task.proofs.Back.{kind-back}

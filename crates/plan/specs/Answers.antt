@@ -2,7 +2,6 @@
 use Rattle.state.specs.Member.{bit}
 use Rattle.task.specs.Verdict
 use Rattle.plan.specs.Judged
-use Rattle.plan.specs.declared.Worth.{Worth}
 use Rattle.plan.specs.declared.Verdict.{Verdict}
 use Rattle.plan.specs.declared.Verdict.the-variants.{Solved, Stopped, GoalMissed}
 use Rattle.plan.specs.declared.Judged.{Judged}

@@ -1,14 +1,13 @@
 -- What one step, the end of a plan and a whole run give, on marks and values that spell a task.
 use mathlib.Core.Path.{_≡_}
 use mathlib.Core.Bool.{Bool, true, false, cond}
-use mathlib.Core.List.{List, _++_, map}
-use Prim.Native.Nat.{ℕ, _+_, _≤_, _<_}
+use mathlib.Core.List.{List, map}
+use Prim.Native.Nat.{ℕ, _+_, _<_}
 use lib.Dec.{T, ltb}
 use lib.IntN.{pos, _-ℤ_}
-use lib.ListN.{length, drop, getD}
+use lib.ListN.{length, getD}
 use Rattle.task.specs.Lists.{all, sum}
-use Rattle.task.specs.Task.{Task, Preference, Row, conditionRows}
-use Rattle.task.specs.File.{paired}
+use Rattle.task.specs.Task.{Task, Preference}
 use Rattle.task.specs.Meaning.{State as Facts, isTrue, after, actionAt, applies, seen, preferenceAt}
 use Rattle.task.specs.Monitor.{Monitor, step, good}
 use Rattle.task.specs.Verdict

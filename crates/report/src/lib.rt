@@ -42,13 +42,7 @@ fn put_verdict(steps: usize, v: Verdict, marks: &[u8], values: &[u8], out: &mut 
 
 // Writes the text of a plan of so many steps, judged on the task whose rows are lent. It answers the text's length: where
 // that is more than the area has, the text is cut.
-fn write_judged(
-    steps: usize,
-    judged: Judged,
-    marks: &[u8],
-    values: &[u8],
-    out: &mut [u8],
-) -> usize
+fn write_judged(steps: usize, judged: Judged, marks: &[u8], values: &[u8], out: &mut [u8]) -> usize
     requires { ⌜ (4 * length (now marks) ≤ length (now values)) × (length (now marks) ≤ 12000) ⌝ }
     ensures { λ r. ⌜ Filled (now (out .entry)) (reportOfRows (paired (now (marks .entry)) (now (values .entry))) steps (answer judged)) r (now (out .exit)) ⌝ }
     ensures { λ r. ⌜ ((t : Task) → paired (now (marks .entry)) (now (values .entry)) ≡ taskRows t → Filled (now (out .entry)) (reportOf t steps (answer judged)) r (now (out .exit))) ⌝ }

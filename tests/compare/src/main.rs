@@ -20,8 +20,17 @@ extern "C" {
 
 /// Every answer of judge, as the beginning of its text.
 const ANSWERS: [&str; 11] = [
-    "refused 1 ", "refused 2 ", "refused 3 ", "refused 4 ", "refused 5 ", "refused 6 ",
-    "refused 10 ", "refused 11 ", "solved ", "stopped ", "goal missed",
+    "refused 1 ",
+    "refused 2 ",
+    "refused 3 ",
+    "refused 4 ",
+    "refused 5 ",
+    "refused 6 ",
+    "refused 10 ",
+    "refused 11 ",
+    "solved ",
+    "stopped ",
+    "goal missed",
 ];
 
 /// Behind each text; no text has it.
@@ -33,7 +42,12 @@ fn report(file: &[u8], plan: &[u8], room: usize) -> (Vec<u8>, usize) {
     // The lengths are those of the three areas; the last 16 bytes of the third are not lent.
     let length = unsafe {
         route_rules_report(
-            file.as_ptr(), file.len(), plan.as_ptr(), plan.len(), out.as_mut_ptr(), room,
+            file.as_ptr(),
+            file.len(),
+            plan.as_ptr(),
+            plan.len(),
+            out.as_mut_ptr(),
+            room,
         )
     };
     (out, length)
@@ -48,7 +62,9 @@ fn expected(text: &str, room: usize) -> Vec<u8> {
 }
 
 fn main() {
-    let mut numbers = std::env::args().skip(1).map(|word| word.parse::<u64>().expect("a number"));
+    let mut numbers = std::env::args()
+        .skip(1)
+        .map(|word| word.parse::<u64>().expect("a number"));
     let count = numbers.next().unwrap_or(200_000);
     let first = numbers.next().unwrap_or(1);
     println!("{count} cases, first seed {first}");
@@ -64,7 +80,10 @@ fn main() {
             println!("seed {seed}: the library writes\n{shown}and the independent implementation\n{text}");
             exit(1);
         }
-        let answer = ANSWERS.iter().find(|answer| text.starts_with(**answer)).expect("an answer");
+        let answer = ANSWERS
+            .iter()
+            .find(|answer| text.starts_with(**answer))
+            .expect("an answer");
         *seen.get_mut(answer).expect("an answer") += 1;
     }
     for (answer, times) in &seen {

@@ -1,12 +1,10 @@
 use borrow.Author.Needs.{needs}
 use mathlib.Core.Path.{refl, sym, ap, _∙_}
-use mathlib.Core.Bool.{Bool, true}
-use Prim.Native.Nat.{ℕ, _+_, _-_, _*_, _≤_, _<_}
-use native.Mathlib.Omega.{arith}
+use mathlib.Core.Bool.{true}
+use Prim.Native.Nat.{ℕ, _+_, _-_}
 use denote.Ref.{now}
 use lib.ListN.{length, getD}
 use Rattle.task.specs.Task.{row}
-use Rattle.task.specs.Rows.{valueAt}
 use Rattle.task.proofs.Reading.{goes-on, ends-at}
 use Rattle.state.specs.Member.{member}
 use Rattle.plan.specs.Amounts.{Tallied, tallyRow, tallyAt, asTally}

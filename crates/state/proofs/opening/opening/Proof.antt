@@ -1,9 +1,8 @@
 use borrow.Author.Needs.{needs}
 use borrow.Author.Tests.{eq-eqb, ne-eqb}
 use mathlib.Core.Path.{_≡_, sym, ap, _∙_}
-use Prim.Native.Nat.{ℕ, _+_, _-_}
+use Prim.Native.Nat.{_+_, _-_}
 use denote.Ref.{now}
-use lib.Dec.{eqb}
 use lib.ListN.{length, getD}
 use Rattle.task.specs.Marks.{START}
 use Rattle.task.specs.Meaning.{State as Facts}

@@ -1,0 +1,68 @@
+#!/usr/bin/env python3
+"""What program judge does with its two files: one that is missing, that is a folder, that is longer than any accepted one.
+
+tests/judge/program.py PROGRAM     PROGRAM is target/bin/judge
+"""
+import os
+import runpy
+import subprocess
+import sys
+import tempfile
+
+HERE = os.path.dirname(os.path.abspath(__file__))
+ACCOUNT = runpy.run_path(os.path.join(HERE, '../check/vectors.py'))
+file, goal, BELT = ACCOUNT['file'], ACCOUNT['goal'], ACCOUNT['BELT']
+
+FOLDER = None
+belt = file(BELT, F=2)
+longest = file(goal(12000))
+four_lines = 'solved steps 1 cost 3\n0 always 5 missed\n1 sometime 7 met\nmetric 8 utility 4\n'
+
+# What each case is for, its files, and what the program has to write.
+CASES = [
+    ('the belt', dict(task=belt, plan=b'\0'), four_lines),
+    ('the empty plan', dict(task=belt, plan=b''), 'goal missed\n'),
+    ('no files', {}, 'no file\n'),
+    ('no plan', dict(task=belt), 'no file\n'),
+    ('no task', dict(plan=b'\0'), 'no file\n'),
+    ('no plan beside a refused task', dict(task=b''), 'no file\n'),
+    ('the task is a folder', dict(task=FOLDER, plan=b'\0'), 'no file\n'),
+    ('the plan is a folder', dict(task=belt, plan=FOLDER), 'no file\n'),
+    ('an empty task', dict(task=b'', plan=b''), 'refused 1 0\n'),
+    ('the longest task', dict(task=longest, plan=b''), 'goal missed\n'),
+    ('one byte more', dict(task=longest + b'\0', plan=b''), 'refused 3 0\n'),
+    ('65,536 bytes', dict(task=longest + bytes(65536 - len(longest)), plan=b''), 'refused 3 0\n'),
+    ('as many bytes more as the task has', dict(task=longest * 2, plan=b''), 'refused 3 0\n'),
+    ('a size out of range, and a million bytes', dict(task=bytes(1000000), plan=b''), 'refused 2 0\n'),
+    ('2,049 steps', dict(task=belt, plan=bytes(2049)), 'refused 10 0\n'),
+    ('100,000 steps', dict(task=belt, plan=bytes(100000)), 'refused 10 0\n'),
+    ('an unknown step behind the 2,048th', dict(task=belt, plan=bytes(2048) + b'\7'), 'refused 10 0\n'),
+]
+
+
+def run(program, files):
+    with tempfile.TemporaryDirectory() as folder:
+        for name, content in files.items():
+            path = os.path.join(folder, name)
+            if content is FOLDER:
+                os.mkdir(path)
+            else:
+                with open(path, 'wb') as out:
+                    out.write(content)
+        done = subprocess.run([program], cwd=folder, capture_output=True)
+        left = sorted(os.listdir(folder))
+    return done.stdout.decode(), done.stderr.decode(), left
+
+
+def main(program):
+    for what, files, text in CASES:
+        got = run(os.path.abspath(program), files)
+        if got != (text, '', sorted(files)):
+            sys.exit(f'{what}: {got}, and not {text!r}')
+    print(f'program judge: {len(CASES)} cases as they should be')
+
+
+if __name__ == '__main__':
+    if len(sys.argv) != 2:
+        sys.exit(__doc__)
+    main(sys.argv[1])
