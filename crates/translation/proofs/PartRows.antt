@@ -1,0 +1,263 @@
+-- The rows that the parts of the translated task are written with are theirs.
+use mathlib.Core.Path.{_≡_, refl, sym, ap, _∙_, subst, subst⁻¹}
+use mathlib.Core.Bool.{Bool, true, false, cond}
+use mathlib.Core.List.{List, [], _∷_, _++_, map, append-assoc, append-nil}
+use Prim.Native.Nat.{ℕ, zero, suc, _+_, _*_, _-_, _≤_, _<_}
+use native.Mathlib.Omega.{arith}
+use lib.Dec.{T, eqb}
+use lib.ListN.{length, drop, getD, length-drop, length-append}
+use borrow.Author.Tests.{ne-eqb, eq-eqb}
+use Rattle.task.specs.Lists.{all, one, concatMap, nonEmpty}
+use Rattle.task.specs.Marks.{ACTION, EFFECT, CLAUSE, HOLDS, LACKS, DELETE}
+use Rattle.task.specs.Task.{always, sometime-before, sometime-after, Condition, Action, Preference}
+use Rattle.task.specs.Task.{Row, row, clauseRows, conditionRows, effectRows, actionRows, preferenceRows}
+use Rattle.task.specs.File.{paired, kindOf}
+use Rattle.task.specs.Rows.{valueAt}
+use Rattle.task.proofs.Back.{effects-pass, kind-back}
+use Rattle.task.proofs.Bytes.{length-paired}
+use Rattle.task.proofs.Reading.{row-at, row-end, passes}
+use Rattle.task.proofs.Positions.{drop-next, drop-behind, tailRows, tail-stops, effects-stop}
+use Rattle.translation.specs.Translation.{holdsFact, lacksFact, alone, factS, factB, factC, normal, ended, metClause, allTrackers, sourceAction, endAction}
+use Rattle.translation.specs.Translation.{closing, collect, forgo, closings, allClosed}
+use Rattle.translation.specs.Writer.{Wrote, part}
+use Rattle.translation.specs.Places.{between, endAt, Located, Locates}
+use Rattle.translation.specs.Rows.{singleRows}
+use Rattle.translation.specs.Parts.{allTrackerRows, sourceRows, endRows, missed, closingRows, closedRows}
+use Rattle.translation.specs.declared.places.Sides.{Sides}
+use Rattle.translation.proofs.Putting.{Onward, then, wrote-none, wrote-full, as-rows}
+use Rattle.translation.proofs.Ends.{end-behind, part-is, past-kinds, condition-between}
+use Rattle.translation.proofs.TrackerRows.{concat-append, rows-append, effects-append}
+
+-- The met clause by a mark
+
+pub met-lacks : (m s b : ℕ) → (m ≡ 11 → ⊥) → (m ≡ 12 → ⊥) → (m ≡ 13 → ⊥) → metClause s b (kindOf m) ≡ one (lacksFact b)
+met-lacks m s b p q r = rw (ne-eqb m 11 p, ne-eqb m 12 q, ne-eqb m 13 r) (go (eqb m 10) (eqb m 14))
+  where
+    go : (u v : Bool) → metClause s b (cond u always (cond v sometime-before sometime-after)) ≡ one (lacksFact b)
+    go true v = refl
+    go false true = refl
+    go false false = refl
+
+-- Source actions
+
+pub source-is : (F : ℕ) (qs : List Preference) (a : Action) (N : ℕ) → N ≡ normal F (length qs)
+    → sourceRows F N (row ACTION (a .cost) ∷ conditionRows (a .precondition)) (concatMap effectRows (a .effects)) qs ≡ actionRows (sourceAction F qs a)
+source-is F qs a N e =
+    let pre : List Row = conditionRows (a .precondition) in
+    let effects : List Row = concatMap effectRows (a .effects) in
+    let single : List Row = singleRows HOLDS (normal F (length qs)) in
+    ap (λ (m : ℕ). sourceRows F m (row ACTION (a .cost) ∷ pre) effects qs) e
+    ∙ ap (λ (xs : List Row). row ACTION (a .cost) ∷ xs) (sym (append-assoc pre single (effects ++ allTrackerRows false F qs)))
+    ∙ (λ z. row ACTION (a .cost) ∷ (sym (rows-append (a .precondition) (alone (one (holdsFact (normal F (length qs)))))) z
+    ++ sym (effects-append (a .effects) (allTrackers false F 0 qs)) z))
+
+abbrev actsRows : ℕ → List Preference → List Action → List Row
+actsRows F qs l = concatMap actionRows (map (sourceAction F qs) l)
+
+-- the actions that are left stand from row j on
+pub record Acted (ms vs : List ℕ) (F : ℕ) (qs : List Preference) (all : List Action) (b₀ : List ℕ) (n i : ℕ) (out : List ℕ) (r j : ℕ) : Type 0 where
+  pub left : List Action
+  pub rest : drop j (paired ms vs) ≡ tailRows left qs
+  pub onward : Onward b₀ n i (actsRows F qs all) out r (actsRows F qs left)
+
+-- what holds before row j is read
+pub record Acting (ms vs : List ℕ) (from at F N : ℕ) (b₀ : List ℕ) (n i : ℕ) (out : List ℕ) (r j : ℕ) : Type 0 where
+  pub size : length out ≡ length b₀
+  pub so-far : (l : List Action) (qs : List Preference) → drop from (paired ms vs) ≡ tailRows l qs
+      → drop at (paired ms vs) ≡ concatMap preferenceRows qs → N ≡ normal F (length qs) → Acted ms vs F qs l b₀ n i out r j
+
+module _ (ms vs : List ℕ) (F : ℕ) (qs : List Preference) (all-acts : List Action) (b₀ : List ℕ) (n i : ℕ) (few : n ≤ 12000) (out : List ℕ) (r j : ℕ) (at N : ℕ)
+    (prefs : drop at (paired ms vs) ≡ concatMap preferenceRows qs) (N-is : N ≡ normal F (length qs)) (within : at ≤ length ms) where
+  pub acted-on : j < at → (mid next : ℕ) → mid ≡ endAt CLAUSE LACKS ms vs (j + 1) → next ≡ endAt EFFECT DELETE ms vs mid
+      → (out' : List ℕ) (r' : ℕ) → Wrote out n r (sourceRows F N (part ms vs j mid) (part ms vs mid next) qs) r' out'
+      → Acted ms vs F qs all-acts b₀ n i out r j → Acted ms vs F qs all-acts b₀ n i out' r' next
+  acted-on h mid next mid-at next-at out' r' w t = go (t .left) (t .rest) (t .onward)
+    where
+      go : (l : List Action) → drop j (paired ms vs) ≡ tailRows l qs
+          → Onward b₀ n i (actsRows F qs all-acts) out r (actsRows F qs l)
+          → Acted ms vs F qs all-acts b₀ n i out' r' next
+      go [] e on =
+          absurd (omega (arith, length-drop j (paired ms vs), length-drop at (paired ms vs), length-paired ms vs, ap length (e ∙ sym prefs)))
+      go (a ∷ l) e on =
+          let pre : List Row = conditionRows (a .precondition) in
+          let effects : List Row = concatMap effectRows (a .effects) in
+          let more : List Row = tailRows l qs in
+          let here : drop j (paired ms vs) ≡ (row ACTION (a .cost) ∷ pre) ++ (effects ++ more) =
+          e ∙ append-assoc (actionRows a) (concatMap actionRows l) (concatMap preferenceRows qs) ∙ append-assoc (row ACTION (a .cost) ∷ pre) effects more in
+          let behind-head : drop (j + 1) (paired ms vs) ≡ pre ++ (effects ++ more) =
+          drop-next j (paired ms vs) (row ACTION (a .cost)) (pre ++ (effects ++ more)) here in
+          let mid-is : mid ≡ j + 1 + length pre =
+          mid-at ∙ end-behind CLAUSE LACKS ms vs (j + 1) pre (effects ++ more) behind-head (condition-between (a .precondition))
+          (effects-stop (between CLAUSE LACKS) (past-kinds (between CLAUSE LACKS) tt) refl refl (a .effects) l qs) in
+          let behind-pre : drop mid (paired ms vs) ≡ effects ++ more =
+          ap (λ (k : ℕ). drop k (paired ms vs)) mid-is ∙ drop-behind (j + 1) (paired ms vs) pre (effects ++ more) behind-head in
+          let next-is : next ≡ mid + length effects =
+          next-at ∙ end-behind EFFECT DELETE ms vs mid effects more behind-pre
+          (effects-pass (passes (between EFFECT DELETE)) (λ v. tt) (λ v. tt) (λ v. tt) (λ v. tt) (λ v. tt) (λ v. tt) (a .effects))
+          (tail-stops (between EFFECT DELETE) (past-kinds (between EFFECT DELETE) tt) refl l qs) in
+          let first : part ms vs j mid ≡ row ACTION (a .cost) ∷ pre =
+          part-is ms vs j mid (row ACTION (a .cost) ∷ pre) (effects ++ more) here (omega (arith, mid-is)) in
+          let second : part ms vs mid next ≡ effects = part-is ms vs mid next effects more behind-pre next-is in
+          record {
+            left = l;
+            rest = ap (λ (k : ℕ). drop k (paired ms vs)) next-is ∙ drop-behind mid (paired ms vs) effects more behind-pre;
+            onward = λ x o v. on x o (then few (as-rows ((λ z. sourceRows F N (first z) (second z) qs) ∙ source-is F qs a N N-is) w) v);
+          }
+
+  pub acted-all : at ≤ j → Acted ms vs F qs all-acts b₀ n i out r j → Wrote b₀ n i (actsRows F qs all-acts) r out
+  acted-all h t = go (t .left) (t .rest) (t .onward)
+    where
+      go : (l : List Action) → drop j (paired ms vs) ≡ tailRows l qs
+          → Onward b₀ n i (actsRows F qs all-acts) out r (actsRows F qs l)
+          → Wrote b₀ n i (actsRows F qs all-acts) r out
+      go [] e on = on r out (wrote-none out n r)
+      go (a ∷ l) e on =
+          absurd (omega (
+            arith,
+            length-drop j (paired ms vs),
+            length-drop at (paired ms vs),
+            ap length e,
+            ap length prefs,
+            length-append (concatMap actionRows (a ∷ l)) (concatMap preferenceRows qs),
+          ))
+
+  pub acted-full : 12001 ≤ r → Acted ms vs F qs all-acts b₀ n i out r j → Wrote b₀ n i (actsRows F qs all-acts) r out
+  acted-full h t = t .onward r out (wrote-full out n r (actsRows F qs (t .left)) few h)
+
+-- End
+
+pub end-is : (F : ℕ) (qs : List Preference) (N : ℕ) → N ≡ normal F (length qs) → endRows F N qs ≡ actionRows (endAction F qs)
+end-is F qs N e = ap (λ (m : ℕ). endRows F m qs) e
+
+-- Collect and forgo
+
+closing-first : (F P cost : ℕ) (outcome : Condition) (s E : ℕ) → s ≡ factS F 0 → E ≡ ended F P
+    → closingRows cost (eqb s F) s E (conditionRows outcome) ≡ actionRows (closing F P 0 cost outcome)
+closing-first F P cost outcome s E p q =
+    let same : s ≡ F = omega arith in
+    let c : s + 2 ≡ factC F 0 = omega arith in
+    rw (eq-eqb s F same, c, q) refl
+
+closing-next : (F P k cost : ℕ) (outcome : Condition) (s E : ℕ) → s ≡ factS F (suc k) → E ≡ ended F P
+    → closingRows cost (eqb s F) s E (conditionRows outcome) ≡ actionRows (closing F P (suc k) cost outcome)
+closing-next F P k cost outcome s E p q =
+    let c : s + 2 ≡ factC F (suc k) = omega arith in
+    let before : s - 1 ≡ factC F k = omega arith in
+    rw (ne-eqb s F (λ e. omega arith), c, before, q) refl
+
+pub closing-is : (F P k cost : ℕ) (outcome : Condition) (s E : ℕ) → s ≡ factS F k → E ≡ ended F P
+    → closingRows cost (eqb s F) s E (conditionRows outcome) ≡ actionRows (closing F P k cost outcome)
+closing-is F P zero cost outcome s E p q = closing-first F P cost outcome s E p q
+closing-is F P (suc k) cost outcome s E p q = closing-next F P k cost outcome s E p q
+
+pub closed-is : (F k : ℕ) (qs : List Preference) → closedRows F k (length qs) ≡ conditionRows (allClosed F k qs)
+closed-is F k [] = refl
+closed-is F k (q ∷ qs) = ap (λ (xs : List Row). singleRows HOLDS (factC F k) ++ xs) (closed-is F (k + 1) qs)
+
+abbrev closeRows : ℕ → ℕ → ℕ → List Preference → List Row
+closeRows F P k qs = concatMap actionRows (closings F P k qs)
+
+-- the preferences qs from number k on are still to be closed, from row j on
+pub record Closed (ms vs : List ℕ) (F P : ℕ) (all : List Preference) (b₀ : List ℕ) (n i : ℕ) (out : List ℕ) (r s j : ℕ) : Type 0 where
+  pub number : ℕ
+  pub left : List Preference
+  pub fact : s ≡ factS F number
+  pub rest : drop j (paired ms vs) ≡ concatMap preferenceRows left
+  pub onward : Onward b₀ n i (closeRows F P 0 all) out r (closeRows F P number left)
+
+-- what holds before row j is read
+pub record Closing (ms vs : List ℕ) (at F E : ℕ) (b₀ : List ℕ) (n i : ℕ) (out : List ℕ) (r s j : ℕ) : Type 0 where
+  pub size : length out ≡ length b₀
+  pub begun : at ≤ j
+  pub least : F ≤ s
+  pub little : s + 3 * at ≤ F + 3 * j
+  pub so-far : (qs : List Preference) (P : ℕ) → drop at (paired ms vs) ≡ concatMap preferenceRows qs → E ≡ ended F P → Closed ms vs F P qs b₀ n i out r s j
+
+-- the value of the first row
+abbrev headValue : List Row → ℕ
+headValue [] = 0
+headValue (x ∷ xs) = x .value
+
+module _ (ms vs : List ℕ) (F P E : ℕ) (E-is : E ≡ ended F P) (b₀ : List ℕ) (n i : ℕ) (few : n ≤ 12000) (all : List Preference) (out : List ℕ) (r s j : ℕ) where
+  pub closed-on : j < length ms → (p : Sides) → Locates ms j p → (v : ℕ) → v ≡ valueAt vs j → (out' : List ℕ) (r' : ℕ)
+      → Wrote out n r (closingRows 0 (eqb s F) s E (clauseRows (metClause s (s + 1) (kindOf (getD ms j 0))))
+      ++ closingRows v (eqb s F) s E (conditionRows (missed s (s + 1) (kindOf (getD ms j 0))))) r' out'
+      → Closed ms vs F P all b₀ n i out r s j
+      → Closed ms vs F P all b₀ n i out' r' (s + 3) (p .next)
+  closed-on h p locates v value out' r' w t = go (t .left) (t .rest) (t .onward)
+    where
+      go : (qs : List Preference) → drop j (paired ms vs) ≡ concatMap preferenceRows qs
+          → Onward b₀ n i (closeRows F P 0 all) out r (closeRows F P (t .number) qs)
+          → Closed ms vs F P all b₀ n i out' r' (s + 3) (p .next)
+      go [] e on = absurd (subst (λ (l : List Row). T (nonEmpty l)) (sym (row-at ms vs j h) ∙ e) tt)
+      go (q ∷ qs) e on =
+          let l : Located ms vs j q qs p = locates vs q qs e in
+          let k : ℕ = t .number in
+          let S : ℕ = factS F (t .number) in
+          let B : ℕ = factB F (t .number) in
+          let kind : kindOf (getD ms j 0) ≡ q .kind = ap kindOf (l .mark) ∙ kind-back (q .kind) in
+          let weight : v ≡ q .weight = value ∙ ap headValue (sym (row-at ms vs j h) ∙ e) in
+          let collected : closingRows 0 (eqb s F) s E (clauseRows (metClause S B (q .kind))) ≡ actionRows (collect F P k q) =
+          ap (closingRows 0 (eqb s F) s E) (sym (append-nil (clauseRows (metClause S B (q .kind)))))
+          ∙ closing-is F P k 0 (one (metClause S B (q .kind))) s E (t .fact) E-is in
+          let forgone : closingRows (q .weight) (eqb s F) s E (conditionRows (missed S B (q .kind))) ≡ actionRows (forgo F P k q) =
+          closing-is F P k (q .weight) (missed S B (q .kind)) s E (t .fact) E-is in
+          let same : closingRows 0 (eqb s F) s E (clauseRows (metClause s (s + 1) (kindOf (getD ms j 0))))
+          ++ closingRows v (eqb s F) s E (conditionRows (missed s (s + 1) (kindOf (getD ms j 0))))
+          ≡ concatMap actionRows (collect F P k q ∷ forgo F P k q ∷ []) =
+          (λ z. closingRows 0 (eqb s F) s E (clauseRows (metClause (t .fact z) (t .fact z + 1) (kind z)))
+          ++ closingRows (weight z) (eqb s F) s E (conditionRows (missed (t .fact z) (t .fact z + 1) (kind z))))
+          ∙ (λ z. collected z ++ (forgone ∙ sym (append-nil (actionRows (forgo F P k q)))) z) in
+          record {
+            number = t .number + 1;
+            left = qs;
+            fact = omega (arith, t .fact);
+            rest = l .rest;
+            onward = λ x o u. on x o (as-rows (sym (concat-append actionRows (collect F P k q ∷ forgo F P k q ∷ []) (closings F P (t .number + 1) qs))) (then few (as-rows same w) u));
+          }
+
+  pub closed-all : length ms ≤ j → Closed ms vs F P all b₀ n i out r s j → Wrote b₀ n i (closeRows F P 0 all) r out
+  closed-all h t = go (t .left) (t .rest) (t .onward)
+    where
+      go : (qs : List Preference) → drop j (paired ms vs) ≡ concatMap preferenceRows qs
+          → Onward b₀ n i (closeRows F P 0 all) out r (closeRows F P (t .number) qs)
+          → Wrote b₀ n i (closeRows F P 0 all) r out
+      go [] e on = on r out (wrote-none out n r)
+      go (q ∷ qs) e on = absurd (subst⁻¹ (λ (l : List Row). T (nonEmpty l)) (sym (row-end ms vs j h) ∙ e) tt)
+
+-- The goal's clauses
+
+-- C of so many preferences from number k on is still to be written; the next is fact c
+pub record Ending (F m : ℕ) (b₀ : List ℕ) (n i : ℕ) (out : List ℕ) (r c : ℕ) : Type 0 where
+  pub number : ℕ
+  pub left : ℕ
+  pub fact : c ≡ factC F number
+  pub together : number + left ≡ m
+  pub onward : Onward b₀ n i (closedRows F 0 m) out r (closedRows F number left)
+
+pub record AllClosing (F E : ℕ) (b₀ : List ℕ) (n i : ℕ) (out : List ℕ) (r c : ℕ) : Type 0 where
+  pub size : length out ≡ length b₀
+  pub so-far : (m : ℕ) → E ≡ F + 3 * m + 1 → Ending F m b₀ n i out r c
+
+module _ (F E m : ℕ) (E-is : E ≡ F + 3 * m + 1) (b₀ : List ℕ) (n i : ℕ) (few : n ≤ 12000) (out : List ℕ) (r c : ℕ) where
+  pub ending-on : c < E → (out' : List ℕ) (r' : ℕ) → Wrote out n r (singleRows HOLDS c) r' out'
+      → Ending F m b₀ n i out r c → Ending F m b₀ n i out' r' (c + 3)
+  ending-on h out' r' w t = go (t .left) (t .together) (t .onward)
+    where
+      go : (l : ℕ) → t .number + l ≡ m → Onward b₀ n i (closedRows F 0 m) out r (closedRows F (t .number) l) → Ending F m b₀ n i out' r' (c + 3)
+      go zero e on = absurd (omega (arith, t .fact))
+      go (suc l) e on =
+          record {
+            number = t .number + 1;
+            left = l;
+            fact = omega (arith, t .fact);
+            together = omega arith;
+            onward = λ x o u. on x o (then few (as-rows (ap (singleRows HOLDS) (t .fact)) w) u);
+          }
+
+  pub ending-all : E ≤ c → Ending F m b₀ n i out r c → Wrote b₀ n i (closedRows F 0 m) r out
+  ending-all h t = go (t .left) (t .together) (t .onward)
+    where
+      go : (l : ℕ) → t .number + l ≡ m → Onward b₀ n i (closedRows F 0 m) out r (closedRows F (t .number) l) → Wrote b₀ n i (closedRows F 0 m) r out
+      go zero e on = on r out (wrote-none out n r)
+      go (suc l) e on = absurd (omega (arith, t .fact))

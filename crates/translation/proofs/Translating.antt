@@ -1,0 +1,264 @@
+-- A task file translated, from what check answers.
+use mathlib.Core.Path.{_≡_, refl, sym, ap, ap₂, _∙_, subst⁻¹}
+use mathlib.Core.Bool.{Bool, true, false, cond, _&&_}
+use mathlib.Core.List.{List, _++_}
+use Prim.Native.Nat.{ℕ, _+_, _*_, _-_, _≤_, _<_}
+use native.Mathlib.Omega.{arith}
+use lib.Dec.{T, leb, leb→le}
+use lib.ListN.{length, take, drop, length-drop}
+use lib.Seq.{sets, sets-eq, length-sets, take-all, take-at, drop-append-add, drop-drop}
+use borrow.Author.Tests.{le-leb, lt-leb, leb-true}
+use Rattle.task.specs.Task.{Task, Row, taskRows}
+use Rattle.task.specs.File
+use Rattle.task.specs.File.{sizes, sizesOf, paired, taskOf, bytes16, fileOf}
+use Rattle.task.specs.Check
+use Rattle.task.specs.Check.{check}
+use Rattle.task.specs.Answers.{answer as checked, asSizes}
+use Rattle.task.specs.declared.Sizes.{Sizes}
+use Rattle.task.specs.declared.Refusal.{Refusal}
+use Rattle.task.specs.declared.Checked.{Checked}
+use Rattle.task.specs.declared.Checked.the-variants.{Accepted, Refused}
+use Rattle.task.proofs.Tests.{tests}
+use Rattle.task.proofs.Bytes.{file-length}
+use Rattle.task.proofs.Walk.{refused≢accepted}
+use Rattle.task.proofs.Spelled.{Spelling, accepted-spelling}
+use Rattle.translation.specs.Translation.{translated, translatedSizes}
+use Rattle.translation.specs.Writer.{rowBehind, putRows, Wrote}
+use Rattle.translation.specs.Whole.{header, Fitted, Fits}
+use Rattle.translation.specs.Translated.{written, refused, compiled, compiledRows, fitted, smallEnough, outcomeBy, outcome, areaAfter, Delivered}
+use Rattle.translation.specs.Translated
+use Rattle.translation.specs.Answers.{answer}
+use Rattle.translation.specs.Claim.{Faithful}
+use Rattle.translation.specs.declared.Translated.{Translated}
+use Rattle.translation.proofs.Putting.{whole-file}
+use Rattle.translation.proofs.Spellable.{translated-sizes}
+use Rattle.translation.proofs.Written.{Written, written as written-file}
+
+-- The header
+
+pub sizes-put : (b b₁ b₂ b₃ b₄ : List ℕ) (F A n : ℕ) → b₁ ≡ sets b 0 (bytes16 F) → b₂ ≡ sets b₁ 2 (bytes16 A) → b₃ ≡ sets b₂ 4 (bytes16 0) → b₄ ≡ sets b₃ 6 (bytes16 n)
+    → b₄ ≡ sets b 0 (header F A n)
+sizes-put b b₁ b₂ b₃ b₄ F A n p q r s =
+    s ∙ ap (λ (l : List ℕ). sets l 6 (bytes16 n)) (r ∙ ap (λ (l : List ℕ). sets l 4 (bytes16 0)) (q ∙ ap (λ (l : List ℕ). sets l 2 (bytes16 A)) p))
+
+headed : (b h : List ℕ) → length h ≡ 8 → 8 ≤ length b → sets b 0 h ≡ h ++ drop 8 b
+headed b h e l =
+    let n : 0 + length h ≡ 8 = omega arith in
+    sets-eq h b 0 (omega arith) ∙ ap (λ (k : ℕ). h ++ drop k b) n
+
+-- The area
+
+module _ (m n room : ℕ) (e : n ≡ rowBehind 0 m) where
+  pub too-many : 12000 < n → refused 8 0 ≡ fitted m room
+  too-many h = let l : 12000 < m = omega arith in rw (lt-leb m 12000 l)
+
+  pub no-room : n ≤ 12000 → room < 8 + 5 * n → refused 9 0 ≡ fitted m room
+  no-room f h =
+      let l : m ≤ 12000 = omega arith in
+      let g : room < 8 + 5 * m = omega arith in
+      rw (le-leb m 12000 l, lt-leb (8 + 5 * m) room g)
+
+  pub room-enough : n ≤ 12000 → 8 + 5 * n ≤ room → written (8 + 5 * n) ≡ fitted m room
+  room-enough f h =
+      let l : m ≤ 12000 = omega arith in
+      let g : 8 + 5 * m ≤ room = omega arith in
+      let same : n ≡ m = omega arith in
+      rw (le-leb m 12000 l, le-leb (8 + 5 * m) room g) (ap (λ (k : ℕ). written (8 + 5 * k)) same)
+
+-- refused: the area is as it was
+pub stays : (t : Task) (b : List ℕ) (r : Translated) (k : ℕ) → answer r ≡ refused k 0 → refused k 0 ≡ fitted (length (taskRows (translated t))) (length b) → Fitted t b r b
+stays t b r k e f = record { answering = e ∙ f; area = sym (ap (areaAfter (fileOf (translated t)) b) e) }
+
+-- written: the file, and then what stood behind it
+module _ (t : Task) (F A P : ℕ) (facts : F ≡ t .facts) (acts : A ≡ length (t .actions)) (prefs : P ≡ length (t .preferences))
+    (b mid out : List ℕ) (n k : ℕ) (counted : n ≡ rowBehind 0 (length (taskRows (translated t)))) (few : n ≤ 12000) (room : 8 + 5 * n ≤ length b)
+    (sized : mid ≡ sets b 0 (header (F + 3 * P + 2) (A + 2 * P + 1) n)) (w : Wrote mid n 0 (taskRows (translated t)) k out) where
+  abbrev xs : List Row
+  xs = taskRows (translated t)
+
+  n-is : n ≡ length xs
+  n-is = omega (arith, counted)
+
+  same-sizes : sizesOf (translated t) ≡ translatedSizes (sizesOf t) (length xs)
+  same-sizes = translated-sizes t
+
+  facts-are : F + 3 * P + 2 ≡ translated t .facts
+  facts-are = ap₂ (λ (f p : ℕ). f + 3 * p + 2) facts prefs ∙ sym (ap (λ (z : File.Sizes). z .facts) same-sizes)
+
+  actions-are : A + 2 * P + 1 ≡ length (translated t .actions)
+  actions-are = ap₂ (λ (a p : ℕ). a + 2 * p + 1) acts prefs ∙ sym (ap (λ (z : File.Sizes). z .actions) same-sizes)
+
+  none-are : 0 ≡ length (translated t .preferences)
+  none-are = sym (ap (λ (z : File.Sizes). z .preferences) same-sizes)
+
+  top : List ℕ
+  top = bytes16 (translated t .facts) ++ bytes16 (length (translated t .actions)) ++ bytes16 (length (translated t .preferences)) ++ bytes16 (length xs)
+
+  mid-is : mid ≡ top ++ drop 8 b
+  unfolding top
+  mid-is =
+      sized
+      ∙ ap (sets b 0) (λ z. bytes16 (facts-are z) ++ bytes16 (actions-are z) ++ bytes16 (none-are z) ++ bytes16 (n-is z))
+      ∙ headed b top refl (omega arith)
+
+  behind : drop (8 + 5 * length xs) mid ≡ drop (8 + 5 * n) b
+  unfolding top
+  behind =
+      ap (drop (8 + 5 * length xs)) mid-is
+      ∙ drop-append-add top (drop 8 b) (5 * length xs)
+      ∙ drop-drop (5 * length xs) 8 b
+      ∙ ap (λ (m : ℕ). drop (8 + 5 * m) b) (sym n-is)
+
+  pub file-put : out ≡ fileOf (translated t) ++ drop (8 + 5 * n) b
+  unfolding top
+  file-put =
+      let long : 8 + 5 * length xs ≤ length mid = omega (arith, ap length sized, length-sets b 0 (header (F + 3 * P + 2) (A + 2 * P + 1) n)) in
+      w .file
+      ∙ ap (λ (m : ℕ). putRows mid m 0 xs) n-is
+      ∙ whole-file mid (translated t .facts) (length (translated t .actions)) (length (translated t .preferences)) xs long
+      (ap (take 8) mid-is ∙ take-at top (drop 8 b) 8 refl)
+      ∙ ap (λ (l : List ℕ). fileOf (translated t) ++ l) behind
+
+-- What check answered
+
+-- as translate passes it on
+abbrev passed-on : Check.Answer → Translated.Translated
+passed-on (Check.accepted z) = refused 0 0
+passed-on (Check.refused n i) = refused n i
+
+pub same-refusal : (r : Refusal) (n i : ℕ) → Check.refused (r .number) (r .place) ≡ Check.refused n i → refused (r .number) (r .place) ≡ refused n i
+same-refusal r n i e = ap passed-on e
+
+pub not-refused : (z : File.Sizes) (n i : ℕ) → Check.accepted z ≡ Check.refused n i → ⊥
+not-refused z n i e = refused≢accepted n i z (sym e)
+
+-- Demand 3
+
+-- a number for each outcome: the length, or 0
+abbrev lengthOf : Translated.Translated → ℕ
+lengthOf (Translated.written n) = n
+lengthOf (Translated.refused n i) = 0
+
+abbrev isWritten : Translated.Translated → Bool
+isWritten (Translated.written n) = true
+isWritten (Translated.refused n i) = false
+
+not-written : (k i n : ℕ) → refused k i ≡ written n → ⊥
+not-written k i n e = subst⁻¹ T (ap isWritten e) tt
+
+module _ (b area : List ℕ) (n : ℕ) where
+  first-bytes : n ≡ 8 + 5 * compiledRows b → take n (compiled b ++ drop n area) ≡ compiled b
+  first-bytes e =
+      let t : Task = translated (taskOf b) in
+      take-at (compiled b) (drop n area) n (file-length (t .facts) (length (t .actions)) (length (t .preferences)) (taskRows t) ∙ sym e)
+
+  by-answer : (x : Check.Answer) → check b ≡ x → outcomeBy b (length area) x ≡ written n → Delivered b (compiled b ++ drop n area) n
+  by-answer (Check.refused k i) e h = absurd (not-written k i n h)
+  by-answer (Check.accepted z) e h =
+      go (leb (z .facts + 3 * z .preferences + 2) 128) refl (leb (z .actions + 2 * z .preferences + 1) 128) refl (leb (compiledRows b) 12000) refl
+      (leb (8 + 5 * compiledRows b) (length area)) h
+    where
+      go : (u : Bool) → leb (z .facts + 3 * z .preferences + 2) 128 ≡ u → (v : Bool) → leb (z .actions + 2 * z .preferences + 1) 128 ≡ v
+          → (w : Bool) → leb (compiledRows b) 12000 ≡ w → (x : Bool)
+          → cond (u && v) (cond w (cond x (written (8 + 5 * compiledRows b)) (refused 9 0)) (refused 8 0)) (refused 7 0) ≡ written n
+          → Delivered b (compiled b ++ drop n area) n
+      go false p v q w r x h = absurd (not-written 7 0 n h)
+      go true p false q w r x h = absurd (not-written 7 0 n h)
+      go true p true q false r x h = absurd (not-written 8 0 n h)
+      go true p true q true r false h = absurd (not-written 9 0 n h)
+      go true p true q true r true h =
+          let d : Written b z = written-file b z e (leb-true (z .facts + 3 * z .preferences + 2) 128 p) (leb-true (z .actions + 2 * z .preferences + 1) 128 q)
+          (leb-true (compiledRows b) 12000 r) in
+          let front : take n (compiled b ++ drop n area) ≡ compiled b = first-bytes (sym (ap lengthOf h)) in
+          record {
+            accepting = ap check front ∙ d .accepting ∙ ap (λ (y : File.Sizes). Check.accepted (translatedSizes y (compiledRows b))) (accepted-spelling b z e .same);
+            faithfully = subst⁻¹ (λ (l : List ℕ). Faithful (taskOf b) (taskOf l)) front (d .faithfully);
+          }
+
+  delivered : outcome b (length area) ≡ written n → Delivered b (compiled b ++ drop n area) n
+  unfolding outcome
+  delivered h = by-answer (check b) refl h
+
+-- The whole
+
+-- what translate promises of its answer and of the area
+abbrev Promised : List ℕ → List ℕ → Translated → List ℕ → Type 0
+Promised b area r out =
+    (answer r ≡ outcome b (length area))
+    × ((out ≡ areaAfter (compiled b) area (outcome b (length area)))
+    × ((n : ℕ) → answer r ≡ written n → Delivered b out n))
+
+promised : (b area : List ℕ) (r : Translated) (out : List ℕ) → answer r ≡ outcome b (length area) → out ≡ areaAfter (compiled b) area (answer r) → Promised b area r out
+promised b area r out e f = (
+  e,
+  (
+    f ∙ ap (areaAfter (compiled b) area) e,
+    λ n h. subst⁻¹ (λ (l : List ℕ). Delivered b l n) (f ∙ ap (areaAfter (compiled b) area) h) (delivered b area n (sym e ∙ h)),
+  ),
+)
+
+module _ (b area : List ℕ) (x : Checked) (e : checked x ≡ check b) where
+  by-check : outcomeBy b (length area) (checked x) ≡ outcome b (length area)
+  unfolding outcome
+  by-check = ap (outcomeBy b (length area)) e
+
+  -- a refusal leaves the area as it was
+  refuses : (r : Translated) (k i : ℕ) → answer r ≡ refused k i → refused k i ≡ outcome b (length area) → Promised b area r area
+  refuses r k i p q = promised b area r area (p ∙ q) (sym (ap (areaAfter (compiled b) area) p))
+
+  pub turned-down : (f : Refusal) → x ≡ Refused f → (r : Translated) → ((n i : ℕ) → checked x ≡ Check.refused n i → answer r ≡ refused n i)
+      → Promised b area r area
+  turned-down f q r says =
+      refuses r (f .number) (f .place) (says (f .number) (f .place) (ap checked q))
+      (sym (ap (λ (c : Checked). outcomeBy b (length area) (checked c)) q) ∙ by-check)
+
+  module _ (z : Sizes) (q : x ≡ Accepted z) where
+    on-task : outcomeBy b (length area) (Check.accepted (asSizes z)) ≡ outcome b (length area)
+    on-task = ap (λ (c : Checked). outcomeBy b (length area) (checked c)) (sym q) ∙ by-check
+
+    accepted : check b ≡ Check.accepted (asSizes z)
+    accepted = sym e ∙ ap checked q
+
+    spelling : Spelling b (asSizes z)
+    spelling = accepted-spelling b (asSizes z) accepted
+
+    pub exact : length b ≡ 8 + 5 * z .rows
+    exact = spelling .exact
+
+    pub within : (z .rows ≤ 12000) × (1 ≤ z .facts) × (z .facts ≤ 128) × (z .actions ≤ 128) × (z .preferences ≤ 16)
+    within = let a = spelling .allowed in (
+      leb→le (z .rows) 12000 (search tests),
+      leb→le 1 (z .facts) (search tests),
+      leb→le (z .facts) 128 (search tests),
+      leb→le (z .actions) 128 (search tests),
+      leb→le (z .preferences) 16 (search tests),
+    )
+
+    pub too-large : smallEnough (asSizes z) ≡ false → (r : Translated) → answer r ≡ refused 7 0 → Promised b area r area
+    too-large h r p = refuses r 7 0 p (rw h at on-task)
+
+    pub small : smallEnough (asSizes z) ≡ true → (z .facts + 3 * z .preferences + 2 ≤ 128) × (z .actions + 2 * z .preferences + 1 ≤ 128)
+    small h =
+        let a : T (smallEnough (asSizes z)) = rw h tt in (
+          leb→le (z .facts + 3 * z .preferences + 2) 128 (search tests),
+          leb→le (z .actions + 2 * z .preferences + 1) 128 (search tests),
+        )
+
+    parts-spell : paired (take (8 + z .rows - 8) (drop 8 b)) (take (length b - (8 + z .rows)) (drop (8 + z .rows) b)) ≡ taskRows (taskOf b)
+    parts-spell =
+        let count : 8 + z .rows - 8 ≡ z .rows = omega arith in
+        let m : z .rows ≡ sizes b .rows = ap (λ (y : File.Sizes). y .rows) (spelling .same) in
+        let tail : take (length b - (8 + z .rows)) (drop (8 + z .rows) b) ≡ drop (8 + z .rows) b =
+        take-all (length b - (8 + z .rows)) (drop (8 + z .rows) b) (omega (arith, length-drop (8 + z .rows) b)) in
+        (λ i. paired (take (count i) (drop 8 b)) (tail i))
+        ∙ ap (λ (k : ℕ). paired (take k (drop 8 b)) (drop (8 + k) b)) m
+        ∙ spelling .spelled
+
+    pub put : smallEnough (asSizes z) ≡ true → (r : Translated) (out : List ℕ)
+        → Fits (take (8 + z .rows - 8) (drop 8 b)) (take (length b - (8 + z .rows)) (drop (8 + z .rows) b)) (z .facts) (z .actions) (z .preferences) area r out
+        → Promised b area r out
+    put h r out fits =
+        let sized : asSizes z ≡ sizesOf (taskOf b) = sym (spelling .sized) in
+        let f : Fitted (taskOf b) area r out =
+        fits (taskOf b) parts-spell (ap (λ (y : File.Sizes). y .facts) sized) (ap (λ (y : File.Sizes). y .actions) sized) (ap (λ (y : File.Sizes). y .preferences) sized) in
+        promised b area r out (f .answering ∙ (rw h at on-task)) (f .area)

@@ -1,0 +1,29 @@
+use denote.Ref.{now}
+use Rattle.translation.proofs.Ends.{located}
+use borrow.Author.Needs.{needs}
+use Rattle.translation.proofs.places.locate.Statement.{statement}
+use Rattle.translation.proofs.places.locate.Tie as tie
+
+add-behind : tie.Need-add-behind
+add-behind c = search needs
+
+behind-requires : tie.Need-behind-requires
+behind-requires c κs = search needs
+
+behind-requires-2 : tie.Need-behind-requires-2
+behind-requires-2 c κs = search needs
+
+behind-requires-3 : tie.Need-behind-requires-3
+behind-requires-3 c κs = search needs
+
+returns : tie.Need-returns
+returns c =
+    let a = c .before .before .before .before .args in (
+      search needs,
+      λ vs q qs e. located (now (a .marks)) vs (a .at) q qs e (c .before .before .behind .result) (c .before .behind2 .result) (c .behind3 .result)
+          (c .before .before .behind .ensures .1 vs) (c .before .behind2 .ensures .1 vs) (c .behind3 .ensures .1 vs) (search needs),
+    )
+
+pub locate-spec : {M : Type 1} → statement M
+locate-spec =
+    tie.close (tie.spec add-behind behind-requires behind-requires-2 behind-requires-3 returns)

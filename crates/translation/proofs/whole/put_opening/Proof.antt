@@ -1,0 +1,45 @@
+use mathlib.Core.Path.{ap}
+use Prim.Native.Nat.{ℕ, _+_}
+use Rattle.translation.proofs.Putting.{then}
+use borrow.Author.Needs.{needs}
+use Rattle.translation.proofs.whole.put_opening.Statement.{statement}
+use Rattle.translation.proofs.whole.put_opening.Tie as tie
+
+copy-rows-requires : tie.Need-copy-rows-requires
+copy-rows-requires c κs = search needs
+
+put-row-requires : tie.Need-put-row-requires
+put-row-requires c κs = search needs
+
+copy-rows-requires-2 : tie.Need-copy-rows-requires-2
+copy-rows-requires-2 c κs = search needs
+
+add-ended : tie.Need-add-ended
+add-ended c = search needs
+
+put-single-requires : tie.Need-put-single-requires
+put-single-requires c κs = search needs
+
+put-all-closed-requires : tie.Need-put-all-closed-requires
+put-all-closed-requires c κs = search needs
+
+same-length : tie.Need-same-length
+same-length c = search needs
+
+returns : tie.Need-returns
+returns c = λ m e.
+    let few = c .before .before .before .before .before .before .before .before .before .before .before .before .before .before .before .before .before .before .before .before .before .before .before .pre .0 in
+    then few (c .before .before .before .before .before .before .before .before .before .before .before .before .before .before .before .before .before .before .copy-rows .ensures) (then few (c .before .before .before .before .before .before .before .before .before .before .before .before .before .before .put-row .ensures) (then few (c .before .before .before .before .before .before .before .before .before .before .copy-rows2 .ensures) (then few (c .before .before .before .before .before .before .put-single .ensures) (c .before .before .put-all-closed .ensures m (ap (λ (x : ℕ). x + 1) e)))))
+
+pub put-opening-spec : {M : Type 1} → statement M
+put-opening-spec =
+    tie.close
+    (tie.spec
+    copy-rows-requires
+    put-row-requires
+    copy-rows-requires-2
+    add-ended
+    put-single-requires
+    put-all-closed-requires
+    same-length
+    returns)

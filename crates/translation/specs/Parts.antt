@@ -1,0 +1,68 @@
+-- What is written where the rows spell parts of a task.
+use mathlib.Core.Path.{_≡_}
+use mathlib.Core.Bool.{Bool, true, false, cond}
+use mathlib.Core.List.{List, [], _∷_, _++_, map}
+use Prim.Native.Nat.{ℕ, zero, suc, _+_, _-_}
+use lib.ListN.{length, drop}
+use Rattle.task.specs.Lists.{concatMap}
+use Rattle.task.specs.Marks.{ACTION, EFFECT, HOLDS, LACKS, ADD, DELETE, START}
+use Rattle.task.specs.Task.{Kind, Condition, Action, Preference, Row, row, effectRows, actionRows, preferenceRows, Task, taskRows}
+use Rattle.task.specs.File.{paired}
+use Rattle.translation.specs.Translation.{deny, alone, metClause, factC, normal, ended, allTrackers, sourceAction, closings, translated}
+use Rattle.translation.specs.Writer.{Wrote}
+use Rattle.translation.specs.Rows.{singleRows}
+
+-- the rows that f gives for the preferences that stand from row `at` on
+abbrev pub WroteFor : List ℕ → List ℕ → ℕ → (List Preference → List Row) → List ℕ → ℕ → ℕ → ℕ → List ℕ → Type 0
+WroteFor ms vs at f b n i r out =
+    (qs : List Preference) → drop at (paired ms vs) ≡ concatMap preferenceRows qs → Wrote b n i (f qs) r out
+
+-- the trackers of preferences, over F facts
+abbrev pub allTrackerRows : Bool → ℕ → List Preference → List Row
+allTrackerRows last F qs = concatMap effectRows (allTrackers last F 0 qs)
+
+-- a source action with the rows xs and then the effects ys
+abbrev pub sourceRows : ℕ → ℕ → List Row → List Row → List Preference → List Row
+sourceRows F N xs ys qs = xs ++ (singleRows HOLDS N ++ (ys ++ allTrackerRows false F qs))
+
+-- the source's actions, from row `from` up to the preferences at row `at`
+abbrev pub ActsFor : List ℕ → List ℕ → ℕ → ℕ → ℕ → ℕ → List ℕ → ℕ → ℕ → ℕ → List ℕ → Type 0
+ActsFor ms vs from at F N b n i r out =
+    (l : List Action) (qs : List Preference) → drop from (paired ms vs) ≡ concatMap actionRows l ++ concatMap preferenceRows qs
+    → drop at (paired ms vs) ≡ concatMap preferenceRows qs → N ≡ normal F (length qs)
+    → Wrote b n i (concatMap actionRows (map (sourceAction F qs) l)) r out
+
+abbrev pub endRows : ℕ → ℕ → List Preference → List Row
+endRows F N qs =
+    row ACTION 0 ∷ singleRows HOLDS N ++ (row EFFECT 0 ∷ row ADD (N + 1) ∷ row DELETE N ∷ allTrackerRows true F qs)
+
+-- the literals of the met clause denied, each a clause
+abbrev pub missed : ℕ → ℕ → Kind → Condition
+missed S B k = alone (map deny (metClause S B k))
+
+-- what collect and forgo have before the outcome
+abbrev pub closingHead : ℕ → Bool → ℕ → ℕ → List Row
+closingHead cost first s E =
+    row ACTION cost ∷ singleRows HOLDS E ++ (cond first [] (singleRows HOLDS (s - 1)) ++ singleRows LACKS (s + 2))
+
+abbrev pub closingRows : ℕ → Bool → ℕ → ℕ → List Row → List Row
+closingRows cost first s E outcome = closingHead cost first s E ++ (outcome ++ (row EFFECT 0 ∷ row ADD (s + 2) ∷ []))
+
+abbrev pub ClosesFor : List ℕ → List ℕ → ℕ → ℕ → ℕ → List ℕ → ℕ → ℕ → ℕ → List ℕ → Type 0
+ClosesFor ms vs at F E b n i r out =
+    (qs : List Preference) (P : ℕ) → drop at (paired ms vs) ≡ concatMap preferenceRows qs → E ≡ ended F P
+    → Wrote b n i (concatMap actionRows (closings F P 0 qs)) r out
+
+-- holds C of m preferences, from preference k on
+abbrev pub closedRows : ℕ → ℕ → ℕ → List Row
+closedRows F k zero = []
+closedRows F k (suc m) = singleRows HOLDS (factC F k) ++ closedRows F (k + 1) m
+
+-- the START rows xs, and GOAL with the source's clauses ys
+abbrev pub openingRows : ℕ → ℕ → ℕ → List Row → List Row → List Row
+openingRows F N m xs ys = xs ++ ((row START N ∷ []) ++ (ys ++ (singleRows HOLDS (N + 1) ++ closedRows F 0 m)))
+
+-- the translation of the task over F facts and P preferences that the rows spell
+abbrev pub WroteTask : List ℕ → List ℕ → ℕ → ℕ → List ℕ → ℕ → ℕ → List ℕ → Type 0
+WroteTask ms vs F P b n r out =
+    (t : Task) → paired ms vs ≡ taskRows t → F ≡ t .facts → P ≡ length (t .preferences) → Wrote b n 0 (taskRows (translated t)) r out

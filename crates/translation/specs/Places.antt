@@ -1,0 +1,31 @@
+-- Where the parts of a task end among its rows.
+use mathlib.Core.Path.{_≡_}
+use mathlib.Core.Bool.{Bool, true, _&&_}
+use mathlib.Core.List.{List, _∷_}
+use Prim.Native.Nat.{ℕ, _+_}
+use lib.Dec.{leb}
+use lib.ListN.{drop, getD}
+use Rattle.task.specs.Lists.{concatMap}
+use Rattle.task.specs.Task.{Preference, Row, kindMark, two-sided, conditionRows, preferenceRows}
+use Rattle.task.specs.File.{paired}
+use Rattle.task.specs.Rows.{runAt}
+use Rattle.translation.specs.Writer.{part}
+use Rattle.translation.specs.declared.places.Sides.{Sides}
+
+abbrev pub between : ℕ → ℕ → ℕ → Bool
+between least most m = leb least m && leb m most
+
+-- the first row from row i on whose mark is not between the two
+abbrev pub endAt : ℕ → ℕ → List ℕ → List ℕ → ℕ → ℕ
+endAt least most = runAt (λ (w : Unit {0}) (x : Row). w) (between least most) (λ (w : Unit {0}) (i : ℕ). i) tt
+
+-- the rows of preference q, which stands at row `at` with the preferences qs behind it
+pub record Located (ms vs : List ℕ) (at : ℕ) (q : Preference) (qs : List Preference) (r : Sides) : Type 0 where
+  pub mark : getD ms at 0 ≡ kindMark (q .kind)
+  pub first : part ms vs (at + 1) (r .mid) ≡ conditionRows (q .first)
+  pub second : two-sided (q .kind) ≡ true → part ms vs (r .second) (r .next) ≡ conditionRows (q .second)
+  pub rest : drop (r .next) (paired ms vs) ≡ concatMap preferenceRows qs
+
+abbrev pub Locates : List ℕ → ℕ → Sides → Type 0
+Locates ms at r =
+    (vs : List ℕ) (q : Preference) (qs : List Preference) → drop at (paired ms vs) ≡ concatMap preferenceRows (q ∷ qs) → Located ms vs at q qs r

@@ -1,0 +1,238 @@
+// The actions of the translated task, and what its goal has beside the source's.
+ghost use mathlib.Core.Path.{_≡_};
+ghost use mathlib.Core.List.{[], _∷_, _++_};
+ghost use Prim.Native.Nat.{ℕ, _+_, _*_, _≤_, _<_};
+ghost use lib.ListN.{length};
+ghost use Rattle.task.specs.Marks.{EFFECT, ADD};
+ghost use Rattle.task.specs.Task.{row, clauseRows, conditionRows};
+ghost use Rattle.task.specs.File.{kindOf};
+ghost use Rattle.translation.specs.Translation.{metClause};
+ghost use Rattle.translation.specs.Writer.{Wrote, part};
+ghost use Rattle.translation.specs.Parts.{WroteFor, sourceRows, endRows, missed, closedRows, closingHead, closingRows, ActsFor, ClosesFor};
+use super::places;
+use super::tracking;
+use super::writer;
+use task::marks;
+use task::rows;
+
+// A source action: its rows up to `mid`, behind its precondition, and up to `next`, behind its effects.
+fn put_action(
+    out: &mut [u8],
+    n: usize,
+    i: usize,
+    marks: &[u8],
+    values: &[u8],
+    from: usize,
+    mid: usize,
+    next: usize,
+    at: usize,
+    facts: u32,
+    normal: u32,
+) -> usize
+    requires { ⌜ (n ≤ 12000) × (8 + 5 * n ≤ length (now out)) × (4 * length (now marks) ≤ length (now values)) × (length (now marks) ≤ 12000) × (facts ≤ 128) × (mid ≤ length (now marks)) × (next ≤ length (now marks)) ⌝ }
+    ensures { λ r. ⌜ WroteFor (now (marks .entry)) (now (values .entry)) at (sourceRows facts normal (part (now (marks .entry)) (now (values .entry)) from mid) (part (now (marks .entry)) (now (values .entry)) mid next)) (now (out .entry)) n i r (now (out .exit)) ⌝ }
+{
+    let k = writer::copy_rows(&mut *out, n, i, marks, values, from, mid);
+    let k = writer::put_single(&mut *out, n, k, marks::HOLDS, normal);
+    let k = writer::copy_rows(&mut *out, n, k, marks, values, mid, next);
+    tracking::all_trackers(&mut *out, n, k, marks, values, at, facts, false)
+}
+
+// The source's actions, which stand from row `from` up to row `at`, where the preferences begin. Once 12,001 rows are
+// counted the actions that are left change nothing.
+pub fn put_actions(
+    out: &mut [u8],
+    n: usize,
+    i: usize,
+    marks: &[u8],
+    values: &[u8],
+    from: usize,
+    at: usize,
+    facts: u32,
+    normal: u32,
+) -> usize
+    requires { ⌜ (n ≤ 12000) × (8 + 5 * n ≤ length (now out)) × (4 * length (now marks) ≤ length (now values)) × (length (now marks) ≤ 12000) × (facts ≤ 128) × (at ≤ length (now marks)) ⌝ }
+    ensures { λ r. ⌜ ActsFor (now (marks .entry)) (now (values .entry)) from at facts normal (now (out .entry)) n i r (now (out .exit)) ⌝ }
+{
+    let mut k = i;
+    let mut j = from;
+    while j < at {
+        if writer::TOO_MANY <= k {
+            return k;
+        }
+        let mid = places::behind(marks, j + 1, marks::CLAUSE, marks::LACKS);
+        let next = places::behind(marks, mid, marks::EFFECT, marks::DELETE);
+        k = put_action(
+            &mut *out,
+            n,
+            k,
+            marks,
+            values,
+            j,
+            mid,
+            next,
+            at,
+            facts,
+            normal,
+        );
+        j = next;
+    }
+    k
+}
+
+// End, which reads the last state.
+pub fn put_end(
+    out: &mut [u8],
+    n: usize,
+    i: usize,
+    marks: &[u8],
+    values: &[u8],
+    at: usize,
+    facts: u32,
+    normal: u32,
+) -> usize
+    requires { ⌜ (n ≤ 12000) × (8 + 5 * n ≤ length (now out)) × (4 * length (now marks) ≤ length (now values)) × (length (now marks) ≤ 12000) × (facts ≤ 128) × (normal ≤ 128) ⌝ }
+    ensures { λ r. ⌜ WroteFor (now (marks .entry)) (now (values .entry)) at (endRows facts normal) (now (out .entry)) n i r (now (out .exit)) ⌝ }
+{
+    let k = writer::put_row(&mut *out, n, i, marks::ACTION, 0);
+    let k = writer::put_single(&mut *out, n, k, marks::HOLDS, normal);
+    let k = writer::put_row(&mut *out, n, k, marks::EFFECT, 0);
+    let k = writer::put_row(&mut *out, n, k, marks::ADD, normal + 1);
+    let k = writer::put_row(&mut *out, n, k, marks::DELETE, normal);
+    tracking::all_trackers(&mut *out, n, k, marks, values, at, facts, true)
+}
+
+// The clause that says that a preference is met, by its mark.
+fn put_met(out: &mut [u8], n: usize, i: usize, mark: u8, s: u32) -> usize
+    requires { ⌜ (n ≤ 12000) × (8 + 5 * n ≤ length (now out)) × (s < 1000000) ⌝ }
+    ensures { λ r. ⌜ Wrote (now (out .entry)) n i (clauseRows (metClause s (s + 1) (kindOf mark))) r (now (out .exit)) ⌝ }
+{
+    let k = writer::put_row(&mut *out, n, i, marks::CLAUSE, 0);
+    match mark {
+        marks::SOMETIME => writer::put_row(&mut *out, n, k, marks::HOLDS, s),
+        marks::AT_END => writer::put_row(&mut *out, n, k, marks::HOLDS, s),
+        marks::AT_MOST_ONCE => {
+            let k = writer::put_row(&mut *out, n, k, marks::HOLDS, s);
+            writer::put_row(&mut *out, n, k, marks::LACKS, s + 1)
+        }
+        _ => writer::put_row(&mut *out, n, k, marks::LACKS, s + 1),
+    }
+}
+
+// Its literals denied, each a clause.
+fn put_missed(out: &mut [u8], n: usize, i: usize, mark: u8, s: u32) -> usize
+    requires { ⌜ (n ≤ 12000) × (8 + 5 * n ≤ length (now out)) × (s < 1000000) ⌝ }
+    ensures { λ r. ⌜ Wrote (now (out .entry)) n i (conditionRows (missed s (s + 1) (kindOf mark))) r (now (out .exit)) ⌝ }
+{
+    match mark {
+        marks::SOMETIME => writer::put_single(&mut *out, n, i, marks::LACKS, s),
+        marks::AT_END => writer::put_single(&mut *out, n, i, marks::LACKS, s),
+        marks::AT_MOST_ONCE => {
+            let k = writer::put_single(&mut *out, n, i, marks::LACKS, s);
+            writer::put_single(&mut *out, n, k, marks::HOLDS, s + 1)
+        }
+        _ => writer::put_single(&mut *out, n, i, marks::HOLDS, s + 1),
+    }
+}
+
+// What collect and forgo have before the outcome; the preference before it, if there is one, closes with fact s - 1.
+fn open_closing(
+    out: &mut [u8],
+    n: usize,
+    i: usize,
+    cost: u32,
+    first: bool,
+    s: u32,
+    ended: u32,
+) -> usize
+    requires { ⌜ (n ≤ 12000) × (8 + 5 * n ≤ length (now out)) × (1 ≤ s) × (s < 1000000) ⌝ }
+    ensures { λ r. ⌜ Wrote (now (out .entry)) n i (closingHead cost first s ended) r (now (out .exit)) ⌝ }
+{
+    let k = writer::put_row(&mut *out, n, i, marks::ACTION, cost);
+    let k = writer::put_single(&mut *out, n, k, marks::HOLDS, ended);
+    if first {
+        return writer::put_single(&mut *out, n, k, marks::LACKS, s + 2);
+    }
+    let k = writer::put_single(&mut *out, n, k, marks::HOLDS, s - 1);
+    writer::put_single(&mut *out, n, k, marks::LACKS, s + 2)
+}
+
+// The effect of collect and forgo: C is added.
+fn put_closed(out: &mut [u8], n: usize, i: usize, s: u32) -> usize
+    requires { ⌜ (n ≤ 12000) × (8 + 5 * n ≤ length (now out)) × (s < 1000000) ⌝ }
+    ensures { λ r. ⌜ Wrote (now (out .entry)) n i (row EFFECT 0 ∷ row ADD (s + 2) ∷ []) r (now (out .exit)) ⌝ }
+{
+    let k = writer::put_row(&mut *out, n, i, marks::EFFECT, 0);
+    writer::put_row(&mut *out, n, k, marks::ADD, s + 2)
+}
+
+// Collect and forgo of one preference.
+fn put_closing(
+    out: &mut [u8],
+    n: usize,
+    i: usize,
+    mark: u8,
+    weight: u32,
+    first: bool,
+    s: u32,
+    ended: u32,
+) -> usize
+    requires { ⌜ (n ≤ 12000) × (8 + 5 * n ≤ length (now out)) × (1 ≤ s) × (s < 1000000) ⌝ }
+    ensures { λ r. ⌜ Wrote (now (out .entry)) n i (closingRows 0 first s ended (clauseRows (metClause s (s + 1) (kindOf mark))) ++ closingRows weight first s ended (conditionRows (missed s (s + 1) (kindOf mark)))) r (now (out .exit)) ⌝ }
+{
+    let k = open_closing(&mut *out, n, i, 0, first, s, ended);
+    let k = put_met(&mut *out, n, k, mark, s);
+    let k = put_closed(&mut *out, n, k, s);
+    let k = open_closing(&mut *out, n, k, weight, first, s, ended);
+    let k = put_missed(&mut *out, n, k, mark, s);
+    put_closed(&mut *out, n, k, s)
+}
+
+// Collect and forgo of all preferences, which stand from row `at` on.
+pub fn put_closings(
+    out: &mut [u8],
+    n: usize,
+    i: usize,
+    marks: &[u8],
+    values: &[u8],
+    at: usize,
+    facts: u32,
+    ended: u32,
+) -> usize
+    requires { ⌜ (n ≤ 12000) × (8 + 5 * n ≤ length (now out)) × (4 * length (now marks) ≤ length (now values)) × (length (now marks) ≤ 12000) × (1 ≤ facts) × (facts ≤ 128) ⌝ }
+    ensures { λ r. ⌜ ClosesFor (now (marks .entry)) (now (values .entry)) at facts ended (now (out .entry)) n i r (now (out .exit)) ⌝ }
+{
+    let mut k = i;
+    let mut s = facts;
+    let mut j = at;
+    while j < marks.len() {
+        let p = places::locate(marks, j);
+        k = put_closing(
+            &mut *out,
+            n,
+            k,
+            marks[j],
+            rows::value_at(values, j),
+            s == facts,
+            s,
+            ended,
+        );
+        s += 3;
+        j = p.next;
+    }
+    k
+}
+
+// The goal's clauses that say that each preference is closed.
+pub fn put_all_closed(out: &mut [u8], n: usize, i: usize, facts: u32, ended: u32) -> usize
+    requires { ⌜ (n ≤ 12000) × (8 + 5 * n ≤ length (now out)) × (facts ≤ 128) × (ended ≤ 1000) ⌝ }
+    ensures { λ r. ⌜ ((m : ℕ) → ended ≡ facts + 3 * m + 1 → Wrote (now (out .entry)) n i (closedRows facts 0 m) r (now (out .exit))) ⌝ }
+{
+    let mut k = i;
+    let mut c = facts + 2;
+    while c < ended {
+        k = writer::put_single(&mut *out, n, k, marks::HOLDS, c);
+        c += 3;
+    }
+    k
+}

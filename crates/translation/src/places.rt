@@ -1,0 +1,46 @@
+// Where the parts of a task end among its rows.
+ghost use mathlib.Core.Path.{_≡_};
+ghost use mathlib.Core.List.{List};
+ghost use Prim.Native.Nat.{ℕ, _+_, _≤_, _<_};
+ghost use lib.ListN.{length};
+ghost use Rattle.translation.specs.Places.{endAt, Locates};
+use task::marks;
+
+// Where the sides of a preference stand: φ before row `mid`, ψ from row `second` up to row `next`, the one behind them.
+pub struct Sides {
+    pub mid: usize,
+    pub second: usize,
+    pub next: usize,
+}
+
+// The first row from `from` on whose mark is not between the two.
+pub fn behind(marks: &[u8], from: usize, least: u8, most: u8) -> usize
+    requires { ⌜ from ≤ length (now marks) ⌝ }
+    ensures { λ r. ⌜ (from ≤ r) × (r ≤ length (now (marks .entry))) ⌝ }
+    ensures { λ r. ⌜ ((vs : List ℕ) → r ≡ endAt least most (now (marks .entry)) vs from) ⌝ }
+{
+    let mut i = from;
+    while i < marks.len() {
+        let mark = marks[i];
+        if mark < least {
+            return i;
+        }
+        if most < mark {
+            return i;
+        }
+        i += 1;
+    }
+    i
+}
+
+// The sides of the preference that row `at` opens.
+pub fn locate(marks: &[u8], at: usize) -> Sides
+    requires { ⌜ at < length (now marks) ⌝ }
+    ensures { λ r. ⌜ (at < r .mid) × (r .mid ≤ r .second) × (r .second ≤ r .next) × (r .next ≤ length (now (marks .entry))) ⌝ }
+    ensures { λ r. ⌜ Locates (now (marks .entry)) at r ⌝ }
+{
+    let mid = behind(marks, at + 1, marks::CLAUSE, marks::LACKS);
+    let second = behind(marks, mid, marks::SECOND, marks::SECOND);
+    let next = behind(marks, second, marks::CLAUSE, marks::LACKS);
+    Sides { mid, second, next }
+}

@@ -1,0 +1,47 @@
+//! Judged plans: the library's text beside the independent implementation's.
+
+use crate::library;
+use crate::tally::Tally;
+
+/// Every answer of judge, as the beginning of its text.
+const ANSWERS: [&str; 11] = [
+    "refused 1 ",
+    "refused 2 ",
+    "refused 3 ",
+    "refused 4 ",
+    "refused 5 ",
+    "refused 6 ",
+    "refused 10 ",
+    "refused 11 ",
+    "solved ",
+    "stopped ",
+    "goal missed",
+];
+
+/// What the area has to hold: as much of the text as fits, and nothing else.
+fn expected(text: &str, room: usize) -> Vec<u8> {
+    let mut out = library::area(room);
+    let n = text.len().min(room);
+    out[..n].copy_from_slice(&text.as_bytes()[..n]);
+    out
+}
+
+pub fn compare(first: u64, count: u64) -> Result<(), String> {
+    let mut tally = Tally::new(&ANSWERS);
+    for seed in first..first + count {
+        let case = peer::random::case(seed);
+        let text = peer::report(&case.file, &case.plan);
+        // Mostly an area that has room, now and then one that cuts the text.
+        let room = if seed % 8 == 0 { case.room % 64 } else { 1024 };
+        let (out, length) = library::report(&case.file, &case.plan, room);
+        if length != text.len() || out != expected(&text, room) {
+            let shown = String::from_utf8_lossy(&out[..length.min(room)]).into_owned();
+            return Err(format!(
+                "seed {seed}: the library writes\n{shown}and the independent implementation\n{text}"
+            ));
+        }
+        let answer = ANSWERS.iter().find(|answer| text.starts_with(**answer));
+        tally.count(answer.expect("an answer"));
+    }
+    tally.finish()
+}

@@ -1,0 +1,207 @@
+//! Translations: the library's bytes beside the independent implementation's.
+
+use crate::library;
+use crate::tally::Tally;
+use peer::{Action, Condition, Effect, Kind, Literal, Preference, Task};
+
+const ANSWERS: [&str; 10] = [
+    "refused 1",
+    "refused 2",
+    "refused 3",
+    "refused 4",
+    "refused 5",
+    "refused 6",
+    "refused 7",
+    "refused 8",
+    "refused 9",
+    "written",
+];
+
+/// The library's answer on a file and an area of `room` bytes, held to the independent implementation's: the same number and
+/// place and nothing written, or the same bytes and nothing written behind them.
+fn same(file: &[u8], room: usize) -> Result<&'static str, String> {
+    let (out, answer) = library::translate(file, room);
+    let mut expected = library::area(room);
+    let wanted = peer::translate(file, room);
+    if let Ok(bytes) = &wanted {
+        expected[..bytes.len()].copy_from_slice(bytes);
+    }
+    let wanted = wanted
+        .map(|bytes| bytes.len())
+        .map_err(|refusal| (u64::from(refusal.number), u64::from(refusal.place)));
+    if answer != wanted || out != expected {
+        return Err(format!(
+            "the library answers {answer:?}, and not {wanted:?}, or writes other bytes"
+        ));
+    }
+    Ok(match answer {
+        Ok(_) => "written",
+        Err((number, _)) => ANSWERS[number as usize - 1],
+    })
+}
+
+/// The metric in the library's text on a plan that solves.
+fn metric(file: &[u8], plan: &[u8]) -> u128 {
+    let (out, length) = library::report(file, plan, 1024);
+    let text = String::from_utf8_lossy(&out[..length]).into_owned();
+    let last = text.lines().last().expect("a line");
+    last.split(' ')
+        .nth(1)
+        .expect("an amount")
+        .parse()
+        .expect("a number")
+}
+
+/// A plan that solves, completed by end and one closing action for each preference, solves the task in the bytes that the
+/// library wrote, and its cost there is the metric.
+fn completed(file: &[u8], plan: &[u8]) -> Result<(), String> {
+    let source = peer::decode(file).expect("an accepted task");
+    let (out, answer) = library::translate(file, peer::random::MAX_FILE);
+    let Ok(n) = answer else { return Ok(()) };
+    let compiled =
+        peer::decode(&out[..n]).map_err(|refusal| format!("compiled is refused: {refusal:?}"))?;
+    let cost = peer::run(&compiled, &peer::complete(&source, plan));
+    if cost == Some(metric(file, plan)) {
+        Ok(())
+    } else {
+        Err(format!(
+            "the completed list costs {cost:?}, the metric is {}",
+            metric(file, plan)
+        ))
+    }
+}
+
+pub fn compare(first: u64, count: u64) -> Result<(), String> {
+    let mut tally = Tally::new(&ANSWERS);
+    let mut solved = 0;
+    for seed in first..first + count {
+        let case = peer::random::case(seed);
+        tally.count(same(&case.file, case.room).map_err(|why| format!("seed {seed}: {why}"))?);
+        if let Ok(peer::Verdict::Solved { .. }) = peer::judge(&case.file, &case.plan) {
+            completed(&case.file, &case.plan).map_err(|why| format!("seed {seed}: {why}"))?;
+            solved += 1;
+        }
+    }
+    println!("completed lists: {solved}");
+    tally.finish()
+}
+
+// ---- the edges
+
+fn literal(fact: usize) -> Literal {
+    Literal {
+        holds: fact % 2 == 0,
+        fact,
+    }
+}
+
+/// So many clauses, of one to three literals.
+fn condition(clauses: usize) -> Condition {
+    (0..clauses)
+        .map(|c| (0..=c % 3).map(literal).collect())
+        .collect()
+}
+
+fn preference(kind: Kind, clauses: usize) -> Preference {
+    let psi = if kind.has_second() {
+        condition(clauses)
+    } else {
+        Vec::new()
+    };
+    Preference {
+        kind,
+        weight: 7,
+        phi: condition(clauses),
+        psi,
+    }
+}
+
+fn task(facts: usize, actions: usize, preferences: usize) -> Task {
+    let effect = Effect {
+        condition: condition(1),
+        adds: vec![0],
+        deletes: vec![1],
+    };
+    let action = Action {
+        cost: 3,
+        precondition: condition(1),
+        effects: vec![effect],
+    };
+    Task {
+        facts,
+        start: vec![0],
+        goal: condition(2),
+        actions: vec![action; actions],
+        preferences: vec![preference(Kind::Always, 1); preferences],
+    }
+}
+
+/// A task of `rows` rows without actions and preferences: its translation has 9 more.
+fn long(rows: usize) -> Task {
+    Task {
+        goal: vec![vec![literal(0); rows - 3]],
+        ..task(2, 0, 0)
+    }
+}
+
+/// The library refuses by `number`, or writes the translation where that is 0, in an area that just fits and in one with room
+/// to spare; in one that is a byte short it refuses by 9.
+fn edge(what: &str, task: &Task, number: u64) -> Result<(), String> {
+    let file = peer::encode(task);
+    let name = if number == 0 {
+        "written"
+    } else {
+        ANSWERS[number as usize - 1]
+    };
+    let room = peer::random::MAX_FILE;
+    let answer = same(&file, room).map_err(|why| format!("{what}: {why}"))?;
+    if answer != name {
+        return Err(format!("{what}: {answer}, and not {name}"));
+    }
+    if let (_, Ok(n)) = library::translate(&file, room) {
+        for (room, name) in [(n, "written"), (n - 1, "refused 9"), (0, "refused 9")] {
+            let answer = same(&file, room).map_err(|why| format!("{what}, {room} bytes: {why}"))?;
+            if answer != name {
+                return Err(format!("{what}, {room} bytes: {answer}, and not {name}"));
+            }
+        }
+    }
+    Ok(())
+}
+
+pub fn edges() -> Result<(), String> {
+    edge("P 16 with F 78", &task(78, 2, 16), 0)?;
+    edge("P 16 with F 79", &task(79, 2, 16), 7)?;
+    edge("A 95 with P 16", &task(4, 95, 16), 0)?;
+    edge("A 96 with P 16", &task(4, 96, 16), 7)?;
+    edge("F 126 with P 0", &task(126, 2, 0), 0)?;
+    edge("F 127 with P 0", &task(127, 2, 0), 7)?;
+    edge("12,000 rows", &long(11_991), 0)?;
+    edge("12,001 rows", &long(11_992), 8)?;
+    edge("A 0", &task(3, 0, 2), 0)?;
+    edge("P 0", &task(3, 2, 0), 0)?;
+    edge("A 0 and P 0", &task(3, 0, 0), 0)?;
+    for kind in Kind::ALL {
+        for clauses in [0, 1, 2, 5, 40] {
+            let preferences = vec![preference(kind, clauses); 2];
+            edge(
+                "a kind",
+                &Task {
+                    preferences,
+                    ..task(4, 2, 0)
+                },
+                0,
+            )?;
+        }
+        // Each of 95 actions has the trackers of 16 preferences of 600 clauses, more than a million rows in all.
+        let huge = Task {
+            preferences: vec![preference(kind, 300); 16],
+            ..task(4, 95, 0)
+        };
+        if peer::encode(&huge).len() <= peer::random::MAX_FILE {
+            edge("a huge translation", &huge, 8)?;
+        }
+    }
+    println!("edges: as they should be");
+    Ok(())
+}

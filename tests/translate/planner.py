@@ -1,0 +1,196 @@
+#!/usr/bin/env python3
+"""Random small tasks through program translate: an outside planner has to find the same on a task and on its translation.
+
+tests/translate/planner.py PROGRAM [COUNT [SEED]]     PROGRAM is target/bin/translate
+
+The planner is two logic programs run by gringo and clasp (Debian packages of these names). source.lp plans on the task, by document
+01's meanings of the preferences, with at most HORIZON steps. classical.lp knows nothing of preferences, and plans on the bytes that
+translate wrote, with 1 + P steps more: end, and one to close each preference. Then, for the cheapest list and for the dearest:
+- the least (greatest) cost of the translation is the least (greatest) metric of the task, or neither has a solution;
+- the list on the translation is source steps, then end, then collect or forgo of each preference in order;
+- its source steps solve the task, its cost is their metric, and it forgoes the preferences that they miss.
+The dearest list shows what the cheapest hides: a forgo that is open beside its collect, a preference missed only by detours.
+"""
+import collections
+import json
+import os
+import random
+import re
+import runpy
+import struct
+import subprocess
+import sys
+import tempfile
+
+HERE = os.path.dirname(os.path.abspath(__file__))
+ACCOUNT = runpy.run_path(os.path.join(HERE, '../check/vectors.py'))
+check, file, BELT = ACCOUNT['check'], ACCOUNT['file'], ACCOUNT['BELT']
+PREFERENCES, WITH_SECOND = ACCOUNT['PREFERENCES'], ACCOUNT['WITH_SECOND']
+rows = runpy.run_path(os.path.join(HERE, '../judge/vectors.py'))['rows']
+
+HORIZON = 5
+SIGNS = {'cheapest': 1, 'dearest': -1}
+
+
+# ---- the tasks
+
+def random_task(r):
+    """2 to 4 facts, 1 to 3 actions, 0 to 3 preferences. Action g changes fact g once fact g - 1 is changed, or changes it and changes
+    it back; the goal mostly asks for such changes. So most tasks have a solution, and preferences see facts come and go."""
+    f, a = r.choice([(2, 1), (2, 2), (3, 2), (3, 3), (4, 2), (4, 3)])
+    opening = [fact for fact in range(f) if r.random() < 0.4]
+
+    def some(counts, part):
+        return ''.join(part() for _ in range(r.choice(counts)))
+
+    def fact(*names):
+        return f' {r.choice(names)} {r.randrange(f)}'
+
+    def condition(*clauses):
+        return some(clauses, lambda: ' CLAUSE' + some([1, 1, 1, 2], lambda: fact('HOLDS', 'LACKS')))
+
+    def ask(g, changed):
+        return f' CLAUSE {"HOLDS" if (g in opening) != changed else "LACKS"} {g}'
+
+    def give(g, changed):
+        return f' {"ADD" if (g in opening) != changed else "DELETE"} {g}'
+
+    def change(g):
+        after_another = ' EFFECT' + (ask(g - 1, True) if g else '') + give(g, True)
+        and_back = ''.join(' EFFECT' + ask(g, changed) + give(g, not changed) for changed in (True, False))
+        return r.choice([after_another, and_back])
+
+    def effect():
+        return ' EFFECT' + condition(0, 1, 1, 2) + some([0, 1, 1, 2], lambda: fact('ADD')) + some([0, 1, 1], lambda: fact('DELETE'))
+
+    def action(g):
+        return f' ACTION {r.choice([0, 1, 1, 2, 3])}' + condition(0, 0, 0, 1) + change(g) + some([0, 1, 2, 2], effect)
+
+    def preference():
+        kind, phi, psi = r.choice(PREFERENCES), condition(0, 1, 1, 1, 1, 2), condition(0, 1, 1, 1, 1, 2)
+        return f' {kind} {r.randint(0, 9)}' + phi + (' SECOND' + psi if kind in WITH_SECOND else '')
+
+    starts = ''.join(f' START {fact}' for fact in opening)
+    goal = ' GOAL' + some([0, 1, 1, 2], lambda: ask(r.randrange(a), True) if r.random() < 0.8 else condition(1))
+    return file(starts + goal + ''.join(map(action, range(a))) + some([0, 1, 2, 3, 3], preference), F=f)
+
+
+def words(data):
+    """A task for reading. It is made again by file(rows in words, F)."""
+    return f'F {data[0]}: ' + ' '.join(f'{name} {value}' for name, value in rows(data))
+
+
+# ---- the planner
+
+def facts(data):
+    """An accepted task as the facts that the logic programs are given."""
+    a = e = k = c = -1  # the last action, effect, preference and clause; effects and clauses are numbered through the whole file
+    condition = ''  # the one that clauses and literals belong to
+    for name, value in rows(data):
+        a, e, k, c = a + (name == 'ACTION'), e + (name == 'EFFECT'), k + (name in PREFERENCES), c + (name == 'CLAUSE')
+        row = 'preference' if name in PREFERENCES else name
+        opened = {'GOAL': 'goal', 'ACTION': f'pre({a})', 'EFFECT': f'when({a},{e})', 'preference': f'phi({k})', 'SECOND': f'psi({k})'}
+        if row in opened:
+            condition = opened[row]
+            yield f'condition({condition}).'
+        says = {'START': f'start({value}).', 'ACTION': f'action({a},{value}).', 'preference': f'preference({k},"{name}",{value}).',
+                'ADD': f'gives({a},{e},holds,{value}).', 'DELETE': f'gives({a},{e},lacks,{value}).', 'CLAUSE': f'clause({condition},{c}).',
+                'HOLDS': f'literal({condition},{c},holds,{value}).', 'LACKS': f'literal({condition},{c},lacks,{value}).'}
+        yield says.get(row, '')
+
+
+Solution = collections.namedtuple('Solution', 'total steps missed')
+
+
+def plan(program, data, horizon, sign, steps=None):
+    """The cheapest or dearest list of at most horizon steps that solves a task, or None; where steps are given, only that list is
+    looked at. The total is the cost or the metric. Missed preferences are source.lp's alone."""
+    given = [] if steps is None else [f':- not length({len(steps)}).', *(f':- not step({i},{step}).' for i, step in enumerate(steps))]
+    gringo = subprocess.run(['gringo', '-c', f'horizon={horizon}', '-c', f'sign={sign}', os.path.join(HERE, program), '-'],
+                            input='\n'.join([*facts(data), *given]).encode(), stdout=subprocess.PIPE, check=True)
+    clasp = subprocess.run(['clasp', '--quiet=1', '--outf=2'], input=gringo.stdout, stdout=subprocess.PIPE)
+    answer = json.loads(clasp.stdout)
+    if answer['Result'] == 'UNSATISFIABLE':
+        return None
+    model, = answer['Call'][0]['Witnesses']
+    total, = model.get('Costs', [0])  # where nothing has a cost or a weight, there is no sum to minimize
+    assert answer['Result'] == ('OPTIMUM FOUND' if 'Costs' in model else 'SATISFIABLE'), answer
+    atoms = collections.defaultdict(list)
+    for atom in model['Value']:
+        predicate, *numbers = re.findall(r'[^(),]+', atom)
+        atoms[predicate].append([int(number) for number in numbers])
+    return Solution(sign * total, [step for _, step in sorted(atoms['step'])], sorted(k for k, in atoms['missed']))
+
+
+# ---- a task and its translation
+
+def translate(program, data):
+    """What the program prints, and the file compiled, or nothing where there is none."""
+    with tempfile.TemporaryDirectory() as folder:
+        task, compiled = os.path.join(folder, 'task'), os.path.join(folder, 'compiled')
+        with open(task, 'wb') as out:
+            out.write(data)
+        done = subprocess.run([program], cwd=folder, stdout=subprocess.PIPE)
+        return done.stdout.decode(), open(compiled, 'rb').read() if os.path.exists(compiled) else b''
+
+
+def difference(program, data):
+    """What is wrong with the translation of a task, or nothing; and the lists found on the translation, by the names in SIGNS."""
+    found = {}
+    printed, compiled = translate(program, data)
+    if printed:
+        return f'translate prints {printed!r}', found
+    f, a, p, _ = struct.unpack_from('<4H', data)
+    line, sizes = check(compiled), f'accepted {f + 3 * p + 2} {a + 2 * p + 1} 0 '
+    if not line.startswith(sizes):
+        return f'the translation is {line}, and not {sizes}...', found
+    for name, sign in SIGNS.items():
+        best = plan('source.lp', data, HORIZON, sign)
+        found[name] = got = plan('classical.lp', compiled, HORIZON + 1 + p, sign)
+        if (best and best.total) != (got and got.total):
+            return f'{name}: {best} on the task, {got} on its translation', found
+        if got:
+            source = [step for step in got.steps if step < a]
+            forgone = [k for k in range(p) if a + 2 + 2 * k in got.steps]
+            closings = [a + 1 + 2 * k + (k in forgone) for k in range(p)]
+            if got.steps != source + [a] + closings:
+                return f'{name}: {got} is not source steps, end, and a closing of each preference in order', found
+            same = plan('source.lp', data, HORIZON, sign, source)
+            if same != Solution(got.total, source, forgone):
+                return f'{name}: {got} on the translation, and its source part is {same} on the task', found
+    return '', found
+
+
+def main(program, count='120', seed='1'):
+    print(f'{count} tasks, seed {seed}, at most {HORIZON} source steps')
+    program, r = os.path.abspath(program), random.Random(int(seed))
+    wrong, found = difference(program, file(BELT, F=2))
+    if wrong or found['cheapest'] != Solution(8, [0, 2, 4, 5], []):
+        sys.exit(f'the belt: {wrong or found}')
+    solutions, lengths, outcomes = collections.Counter(), collections.Counter(), collections.Counter()
+    for number in range(int(count)):
+        data = random_task(r)
+        wrong, found = difference(program, data)
+        if wrong:
+            sys.exit(f'task {number}: {wrong}. The task is {words(data)}')
+        a, kinds = data[2], [name for name, _ in rows(data) if name in PREFERENCES]
+        solutions['a solution' if found['cheapest'] else 'no solution'] += 1
+        for name, solution in found.items():
+            if solution:
+                lengths[name, len(solution.steps) - 1 - len(kinds)] += 1
+                outcomes.update((kind, name, 'met' if a + 1 + 2 * k in solution.steps else 'missed') for k, kind in enumerate(kinds))
+    print(f'{solutions["a solution"]} tasks with a solution, {solutions["no solution"]} without')
+    for name in SIGNS:
+        counts = ' '.join(str(lengths[name, n]) for n in range(HORIZON + 1))
+        print(f'{name} lists with 0 to {HORIZON} source steps: {counts}')
+        for kind in PREFERENCES:
+            print(f'  {kind}: {outcomes[kind, name, "met"]} met, {outcomes[kind, name, "missed"]} missed')
+    both = [sum(outcomes[kind, name, outcome] for name in SIGNS) for kind in PREFERENCES for outcome in ('met', 'missed')]
+    if not all([solutions['a solution'], solutions['no solution'], *both]):
+        sys.exit('an outcome never came up')
+
+
+if __name__ == '__main__':
+    if not 2 <= len(sys.argv) <= 4:
+        sys.exit(__doc__)
+    main(*sys.argv[1:])
