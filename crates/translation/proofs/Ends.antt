@@ -28,7 +28,7 @@ abbrev here : Unit {0} → ℕ → ℕ
 here w i = i
 
 -- the mark of the first row
-abbrev headMark : List Row → ℕ
+abbrev pub headMark : List Row → ℕ
 headMark [] = 0
 headMark (x ∷ xs) = x .mark
 

@@ -1,5 +1,5 @@
 -- The rows that the parts of the translated task are written with are theirs.
-use mathlib.Core.Path.{_≡_, refl, sym, ap, _∙_, subst, subst⁻¹}
+use mathlib.Core.Path.{_≡_, refl, sym, ap, _∙_, fun-ext}
 use mathlib.Core.Bool.{Bool, true, false, cond}
 use mathlib.Core.List.{List, [], _∷_, _++_, map, append-assoc, append-nil}
 use Prim.Native.Nat.{ℕ, zero, suc, _+_, _*_, _-_, _≤_, _<_}
@@ -7,7 +7,7 @@ use native.Mathlib.Omega.{arith}
 use lib.Dec.{T, eqb}
 use lib.ListN.{length, drop, getD, length-drop, length-append}
 use borrow.Author.Tests.{ne-eqb, eq-eqb}
-use Rattle.task.specs.Lists.{all, one, concatMap, nonEmpty}
+use Rattle.task.specs.Lists.{all, one, concatMap, concatFrom}
 use Rattle.task.specs.Marks.{ACTION, EFFECT, CLAUSE, HOLDS, LACKS, DELETE}
 use Rattle.task.specs.Task.{always, sometime-before, sometime-after, Condition, Action, Preference}
 use Rattle.task.specs.Task.{Row, row, clauseRows, conditionRows, effectRows, actionRows, preferenceRows}
@@ -20,13 +20,12 @@ use Rattle.task.proofs.Positions.{drop-next, drop-behind, tailRows, tail-stops,
 use Rattle.translation.specs.Translation.{holdsFact, lacksFact, alone, factS, factB, factC, normal, ended, metClause, allTrackers, sourceAction, endAction}
 use Rattle.translation.specs.Translation.{closing, collect, forgo, closings, allClosed}
 use Rattle.translation.specs.Writer.{Wrote, part}
-use Rattle.translation.specs.Places.{between, endAt, Located, Locates}
+use Rattle.translation.specs.Places.{between, endAt, Starts}
 use Rattle.translation.specs.Rows.{singleRows}
-use Rattle.translation.specs.Parts.{allTrackerRows, sourceRows, endRows, missed, closingRows, closedRows}
-use Rattle.translation.specs.declared.places.Sides.{Sides}
+use Rattle.translation.specs.Parts.{allTrackerRows, sourceRows, endRows, missed, closingRows, preferenceClosings, closedRows}
 use Rattle.translation.proofs.Putting.{Onward, then, wrote-none, wrote-full, as-rows}
-use Rattle.translation.proofs.Ends.{end-behind, part-is, past-kinds, condition-between}
-use Rattle.translation.proofs.TrackerRows.{concat-append, rows-append, effects-append}
+use Rattle.translation.proofs.Ends.{headMark, end-behind, part-is, past-kinds, condition-between}
+use Rattle.translation.proofs.TrackerRows.{concat-from, rows-append, effects-append}
 
 -- The met clause by a mark
 
@@ -61,10 +60,10 @@ pub record Acted (ms vs : List ℕ) (F : ℕ) (qs : List Preference) (all : List
   pub onward : Onward b₀ n i (actsRows F qs all) out r (actsRows F qs left)
 
 -- what holds before row j is read
-pub record Acting (ms vs : List ℕ) (from at F N : ℕ) (b₀ : List ℕ) (n i : ℕ) (out : List ℕ) (r j : ℕ) : Type 0 where
+pub record Acting (ms vs : List ℕ) (from at : ℕ) (starts : List ℕ) (F N : ℕ) (b₀ : List ℕ) (n i : ℕ) (out : List ℕ) (r j : ℕ) : Type 0 where
   pub size : length out ≡ length b₀
   pub so-far : (l : List Action) (qs : List Preference) → drop from (paired ms vs) ≡ tailRows l qs
-      → drop at (paired ms vs) ≡ concatMap preferenceRows qs → N ≡ normal F (length qs) → Acted ms vs F qs l b₀ n i out r j
+      → drop at (paired ms vs) ≡ concatMap preferenceRows qs → Starts ms vs starts qs → N ≡ normal F (length qs) → Acted ms vs F qs l b₀ n i out r j
 
 module _ (ms vs : List ℕ) (F : ℕ) (qs : List Preference) (all-acts : List Action) (b₀ : List ℕ) (n i : ℕ) (few : n ≤ 12000) (out : List ℕ) (r j : ℕ) (at N : ℕ)
     (prefs : drop at (paired ms vs) ≡ concatMap preferenceRows qs) (N-is : N ≡ normal F (length qs)) (within : at ≤ length ms) where
@@ -154,76 +153,45 @@ pub closed-is : (F k : ℕ) (qs : List Preference) → closedRows F k (length qs
 closed-is F k [] = refl
 closed-is F k (q ∷ qs) = ap (λ (xs : List Row). singleRows HOLDS (factC F k) ++ xs) (closed-is F (k + 1) qs)
 
-abbrev closeRows : ℕ → ℕ → ℕ → List Preference → List Row
-closeRows F P k qs = concatMap actionRows (closings F P k qs)
+pub closings-are : (F P k E : ℕ) (q : Preference) → E ≡ ended F P
+    → preferenceClosings (eqb (factS F k) F) (factS F k) E q ≡ concatMap actionRows (collect F P k q ∷ forgo F P k q ∷ [])
+closings-are F P k E q e =
+    let S : ℕ = factS F k in
+    let B : ℕ = factB F k in
+    let first : Bool = eqb (factS F k) F in
+    let collected : closingRows 0 first S E (clauseRows (metClause S B (q .kind))) ≡ actionRows (collect F P k q) =
+    ap (closingRows 0 first S E) (sym (append-nil (clauseRows (metClause S B (q .kind)))))
+    ∙ closing-is F P k 0 (one (metClause S B (q .kind))) S E refl e in
+    let forgone : closingRows (q .weight) first S E (conditionRows (missed S B (q .kind))) ≡ actionRows (forgo F P k q) =
+    closing-is F P k (q .weight) (missed S B (q .kind)) S E refl e in
+    (λ z. collected z ++ (forgone ∙ sym (append-nil (actionRows (forgo F P k q)))) z)
 
--- the preferences qs from number k on are still to be closed, from row j on
-pub record Closed (ms vs : List ℕ) (F P : ℕ) (all : List Preference) (b₀ : List ℕ) (n i : ℕ) (out : List ℕ) (r s j : ℕ) : Type 0 where
-  pub number : ℕ
-  pub left : List Preference
-  pub fact : s ≡ factS F number
-  pub rest : drop j (paired ms vs) ≡ concatMap preferenceRows left
-  pub onward : Onward b₀ n i (closeRows F P 0 all) out r (closeRows F P number left)
+-- collect and forgo of preference k over F facts
+abbrev pub closingsFrom : ℕ → ℕ → ℕ → Preference → List Row
+closingsFrom F E k = preferenceClosings (eqb (factS F k) F) (factS F k) E
 
--- what holds before row j is read
-pub record Closing (ms vs : List ℕ) (at F E : ℕ) (b₀ : List ℕ) (n i : ℕ) (out : List ℕ) (r s j : ℕ) : Type 0 where
-  pub size : length out ≡ length b₀
-  pub begun : at ≤ j
-  pub least : F ≤ s
-  pub little : s + 3 * at ≤ F + 3 * j
-  pub so-far : (qs : List Preference) (P : ℕ) → drop at (paired ms vs) ≡ concatMap preferenceRows qs → E ≡ ended F P → Closed ms vs F P qs b₀ n i out r s j
+pub closings-from : (F P E : ℕ) (qs : List Preference) → E ≡ ended F P → concatFrom (closingsFrom F E) 0 qs ≡ concatMap actionRows (closings F P 0 qs)
+closings-from F P E qs e =
+    ap (λ (g : ℕ → Preference → List Row). concatFrom g 0 qs) (fun-ext (λ k. fun-ext (λ q. closings-are F P k E q e)))
+    ∙ concat-from actionRows (λ (k : ℕ) (q : Preference). collect F P k q ∷ forgo F P k q ∷ []) 0 qs
 
 -- the value of the first row
 abbrev headValue : List Row → ℕ
 headValue [] = 0
 headValue (x ∷ xs) = x .value
 
-module _ (ms vs : List ℕ) (F P E : ℕ) (E-is : E ≡ ended F P) (b₀ : List ℕ) (n i : ℕ) (few : n ≤ 12000) (all : List Preference) (out : List ℕ) (r s j : ℕ) where
-  pub closed-on : j < length ms → (p : Sides) → Locates ms j p → (v : ℕ) → v ≡ valueAt vs j → (out' : List ℕ) (r' : ℕ)
-      → Wrote out n r (closingRows 0 (eqb s F) s E (clauseRows (metClause s (s + 1) (kindOf (getD ms j 0))))
-      ++ closingRows v (eqb s F) s E (conditionRows (missed s (s + 1) (kindOf (getD ms j 0))))) r' out'
-      → Closed ms vs F P all b₀ n i out r s j
-      → Closed ms vs F P all b₀ n i out' r' (s + 3) (p .next)
-  closed-on h p locates v value out' r' w t = go (t .left) (t .rest) (t .onward)
-    where
-      go : (qs : List Preference) → drop j (paired ms vs) ≡ concatMap preferenceRows qs
-          → Onward b₀ n i (closeRows F P 0 all) out r (closeRows F P (t .number) qs)
-          → Closed ms vs F P all b₀ n i out' r' (s + 3) (p .next)
-      go [] e on = absurd (subst (λ (l : List Row). T (nonEmpty l)) (sym (row-at ms vs j h) ∙ e) tt)
-      go (q ∷ qs) e on =
-          let l : Located ms vs j q qs p = locates vs q qs e in
-          let k : ℕ = t .number in
-          let S : ℕ = factS F (t .number) in
-          let B : ℕ = factB F (t .number) in
-          let kind : kindOf (getD ms j 0) ≡ q .kind = ap kindOf (l .mark) ∙ kind-back (q .kind) in
-          let weight : v ≡ q .weight = value ∙ ap headValue (sym (row-at ms vs j h) ∙ e) in
-          let collected : closingRows 0 (eqb s F) s E (clauseRows (metClause S B (q .kind))) ≡ actionRows (collect F P k q) =
-          ap (closingRows 0 (eqb s F) s E) (sym (append-nil (clauseRows (metClause S B (q .kind)))))
-          ∙ closing-is F P k 0 (one (metClause S B (q .kind))) s E (t .fact) E-is in
-          let forgone : closingRows (q .weight) (eqb s F) s E (conditionRows (missed S B (q .kind))) ≡ actionRows (forgo F P k q) =
-          closing-is F P k (q .weight) (missed S B (q .kind)) s E (t .fact) E-is in
-          let same : closingRows 0 (eqb s F) s E (clauseRows (metClause s (s + 1) (kindOf (getD ms j 0))))
-          ++ closingRows v (eqb s F) s E (conditionRows (missed s (s + 1) (kindOf (getD ms j 0))))
-          ≡ concatMap actionRows (collect F P k q ∷ forgo F P k q ∷ []) =
-          (λ z. closingRows 0 (eqb s F) s E (clauseRows (metClause (t .fact z) (t .fact z + 1) (kind z)))
-          ++ closingRows (weight z) (eqb s F) s E (conditionRows (missed (t .fact z) (t .fact z + 1) (kind z))))
-          ∙ (λ z. collected z ++ (forgone ∙ sym (append-nil (actionRows (forgo F P k q)))) z) in
-          record {
-            number = t .number + 1;
-            left = qs;
-            fact = omega (arith, t .fact);
-            rest = l .rest;
-            onward = λ x o u. on x o (as-rows (sym (concat-append actionRows (collect F P k q ∷ forgo F P k q ∷ []) (closings F P (t .number + 1) qs))) (then few (as-rows same w) u));
-          }
-
-  pub closed-all : length ms ≤ j → Closed ms vs F P all b₀ n i out r s j → Wrote b₀ n i (closeRows F P 0 all) r out
-  closed-all h t = go (t .left) (t .rest) (t .onward)
-    where
-      go : (qs : List Preference) → drop j (paired ms vs) ≡ concatMap preferenceRows qs
-          → Onward b₀ n i (closeRows F P 0 all) out r (closeRows F P (t .number) qs)
-          → Wrote b₀ n i (closeRows F P 0 all) r out
-      go [] e on = on r out (wrote-none out n r)
-      go (q ∷ qs) e on = absurd (subst⁻¹ (λ (l : List Row). T (nonEmpty l)) (sym (row-end ms vs j h) ∙ e) tt)
+-- collect and forgo by the mark and the value that were read
+pub as-read : (ms vs : List ℕ) (at : ℕ) (first : Bool) (s E : ℕ) (q : Preference) (qs : List Preference)
+    → drop at (paired ms vs) ≡ concatMap preferenceRows (q ∷ qs) → at < length ms → (v : ℕ) → v ≡ valueAt vs at
+    → closingRows 0 first s E (clauseRows (metClause s (s + 1) (kindOf (getD ms at 0))))
+    ++ closingRows v first s E (conditionRows (missed s (s + 1) (kindOf (getD ms at 0))))
+    ≡ preferenceClosings first s E q
+as-read ms vs at first s E q qs e h v value =
+    let here : row (getD ms at 0) (valueAt vs at) ∷ drop (at + 1) (paired ms vs) ≡ concatMap preferenceRows (q ∷ qs) = sym (row-at ms vs at h) ∙ e in
+    let kind : kindOf (getD ms at 0) ≡ q .kind = ap kindOf (ap headMark here) ∙ kind-back (q .kind) in
+    let weight : v ≡ q .weight = value ∙ ap headValue here in
+    (λ z. closingRows 0 first s E (clauseRows (metClause s (s + 1) (kind z)))
+    ++ closingRows (weight z) first s E (conditionRows (missed s (s + 1) (kind z))))
 
 -- The goal's clauses
 
@@ -261,3 +229,6 @@ module _ (F E m : ℕ) (E-is : E ≡ F + 3 * m + 1) (b₀ : List ℕ) (n i : ℕ
       go : (l : ℕ) → t .number + l ≡ m → Onward b₀ n i (closedRows F 0 m) out r (closedRows F (t .number) l) → Wrote b₀ n i (closedRows F 0 m) r out
       go zero e on = on r out (wrote-none out n r)
       go (suc l) e on = absurd (omega (arith, t .fact))
+
+  pub ending-full : 12001 ≤ r → Ending F m b₀ n i out r c → Wrote b₀ n i (closedRows F 0 m) r out
+  ending-full h t = t .onward r out (wrote-full out n r (closedRows F (t .number) (t .left)) few h)

@@ -15,9 +15,9 @@ use Rattle.task.proofs.Reading.{passes, Stops}
 use Rattle.task.proofs.Positions.{drop-behind, tailRows, tail-stops, preferences-stop}
 use Rattle.translation.specs.Translation.{holdsFact, alone, normal, ended, sourceAction, endAction, closings, allClosed, translated}
 use Rattle.translation.specs.Writer.{Wrote, part}
-use Rattle.translation.specs.Places.{between, endAt}
+use Rattle.translation.specs.Places.{between, endAt, Noted}
 use Rattle.translation.specs.Rows.{singleRows}
-use Rattle.translation.specs.Parts.{WroteFor, ActsFor, ClosesFor, endRows, openingRows, closedRows, WroteTask}
+use Rattle.translation.specs.Parts.{AllActsFor, openingRows, closedRows, WroteTask}
 use Rattle.translation.proofs.Putting.{then, as-rows}
 use Rattle.translation.proofs.Ends.{end-behind, part-is, past-kinds, condition-between}
 use Rattle.translation.proofs.TrackerRows.{concat-append, rows-append}
@@ -134,23 +134,21 @@ module _ (t : Task) where
       ++ [])
 
 -- its parts written one behind the other
-module _ (ms vs : List ℕ) (F P goal mid from at : ℕ) (b o₁ o₂ o₃ o₄ : List ℕ) (n k₁ k₂ k₃ r : ℕ) (few : n ≤ 12000)
+module _ (ms vs starts : List ℕ) (F P goal mid from at : ℕ) (b o₁ o₂ : List ℕ) (n k r : ℕ) (few : n ≤ 12000)
     (goal-at : goal ≡ endAt START START ms vs 0) (mid-at : mid ≡ endAt GOAL GOAL ms vs goal) (from-at : from ≡ endAt CLAUSE LACKS ms vs mid)
-    (at-at : at ≡ endAt ACTION DELETE ms vs from) where
-  pub task-wrote : ((m : ℕ) → F + 3 * P ≡ F + 3 * m → Wrote b n 0 (openingRows F (F + 3 * P) m (part ms vs 0 goal) (part ms vs goal from)) k₁ o₁)
-      → ActsFor ms vs from at F (F + 3 * P) o₁ n k₁ k₂ o₂
-      → WroteFor ms vs at (endRows F (F + 3 * P)) o₂ n k₂ k₃ o₃
-      → ClosesFor ms vs at F (F + 3 * P + 1) o₃ n k₃ r o₄
-      → WroteTask ms vs F P b n r o₄
-  task-wrote opened acted ended closed t spelled facts many =
+    (at-at : at ≡ endAt ACTION DELETE ms vs from) (noted : Noted ms at starts) (so-many : length starts ≡ P) where
+  pub task-wrote : ((m : ℕ) → F + 3 * P ≡ F + 3 * m → Wrote b n 0 (openingRows F (F + 3 * P) m (part ms vs 0 goal) (part ms vs goal from)) k o₁)
+      → AllActsFor ms vs from at starts F (F + 3 * P) o₁ n k r o₂
+      → WroteTask ms vs F P b n r o₂
+  task-wrote opened acted t spelled facts many =
       let p : Placed ms vs t goal from at = placed ms vs t spelled goal mid from at goal-at mid-at from-at at-at in
       let N : F + 3 * P ≡ normal F (length (t .preferences)) = ap (λ (m : ℕ). F + 3 * m) many in
       as-rows ((λ z. openingRows F (F + 3 * P) P (p .opening z) (p .clauses z)
       ++ (concatMap actionRows (map (sourceAction F (t .preferences)) (t .actions))
-      ++ (end-is F (t .preferences) (F + 3 * P) N z ++ concatMap actionRows (closings F P 0 (t .preferences)))))
+      ++ (end-is F (t .preferences) (F + 3 * P) N z ++ concatMap actionRows (closings F (length (t .preferences)) 0 (t .preferences)))))
       ∙ (λ z. openingRows (facts z) (normal (facts z) (many z)) (many z) (map (row START) (t .start)) (row GOAL 0 ∷ conditionRows (t .goal))
       ++ (concatMap actionRows (map (sourceAction (facts z) (t .preferences)) (t .actions))
-      ++ (actionRows (endAction (facts z) (t .preferences)) ++ concatMap actionRows (closings (facts z) (many z) 0 (t .preferences)))))
+      ++ (actionRows (endAction (facts z) (t .preferences)) ++ concatMap actionRows (closings (facts z) (length (t .preferences)) 0 (t .preferences)))))
       ∙ task-is t)
       (then few (opened P refl)
-      (then few (acted (t .actions) (t .preferences) (p .acts) (p .prefs) N) (then few (ended (t .preferences) (p .prefs)) (closed (t .preferences) P (p .prefs) refl))))
+      (acted (t .actions) (t .preferences) (p .acts) (p .prefs) (noted vs (t .preferences) (p .prefs) (so-many ∙ many)) N))

@@ -1,25 +1,27 @@
 -- The rows that trackers are spelled with are those of their effects.
-use mathlib.Core.Path.{_≡_, refl, sym, ap, _∙_, subst, subst⁻¹}
-use mathlib.Core.Bool.{Bool, true, false, not, cond, _||_}
+use mathlib.Core.Path.{_≡_, refl, sym, ap, _∙_}
+use mathlib.Core.Bool.{Bool, true, false, not, cond, _&&_, _||_, true≢false}
 use mathlib.Core.List.{List, [], _∷_, _++_, map, append-assoc, append-nil}
 use Prim.Native.Nat.{ℕ, _+_, _*_, _≤_, _<_}
 use native.Mathlib.Omega.{arith}
-use lib.Dec.{T, eqb}
+use lib.Dec.{eqb}
 use lib.ListN.{length, drop, getD}
 use borrow.Author.Tests.{ne-eqb, le-leb, lt-leb}
-use Rattle.task.specs.Lists.{one, concatMap, nonEmpty}
-use Rattle.task.specs.Marks.{EFFECT, CLAUSE, HOLDS, LACKS, ADD, DELETE}
+use Rattle.task.specs.Lists.{one, concatMap, concatFrom}
+use Rattle.task.specs.Marks.{EFFECT, CLAUSE, HOLDS, LACKS, ADD, DELETE, AT-END}
 use Rattle.task.specs.Task.{Kind, always, sometime, at-end, at-most-once, sometime-before, sometime-after, Clause, Condition, Effect, Preference}
 use Rattle.task.specs.Task.{Row, row, kindMark, two-sided, literalRow, clauseRows, conditionRows, effectRows, preferenceRows}
 use Rattle.task.specs.File.{paired}
 use Rattle.task.specs.Rows.{valueAt}
-use Rattle.translation.specs.Translation.{holdsFact, lacksFact, deny, alone, effect, factS, factB, eachFalse, trackersOf, allTrackers}
+use Rattle.translation.specs.Translation.{holdsFact, lacksFact, deny, alone, effect, factS, factB, eachFalse, trackersOf}
 use Rattle.translation.specs.Writer.{Wrote, part}
-use Rattle.translation.specs.Places.{Located, Locates}
+use Rattle.translation.specs.Places.{Located}
 use Rattle.translation.specs.declared.places.Sides.{Sides}
-use Rattle.task.proofs.Reading.{row-at, row-end}
+use Rattle.task.proofs.Reading.{row-at}
 use Rattle.translation.specs.Rows.{changeRows, guardRows, closeRows, falseRow, falseRows, onceRows, beforeRows, afterRows, trackerRows}
-use Rattle.translation.proofs.Putting.{Onward, then, wrote-none, as-rows, next-row, no-row}
+use Rattle.translation.specs.Parts.{preferenceTrackers, allTrackerRows}
+use Rattle.translation.proofs.Putting.{Onward, next-row, no-row}
+use Rattle.translation.proofs.Ends.{headMark}
 
 -- The loop over the rows of φ
 
@@ -46,6 +48,13 @@ module _ (ms vs : List ℕ) (j to : ℕ) (guarded : Bool) (s b : ℕ) (begun : B
 pub concat-append : {A : Type 0} (f : A → List Row) (xs ys : List A) → concatMap f (xs ++ ys) ≡ concatMap f xs ++ concatMap f ys
 concat-append f [] ys = refl
 concat-append f (x ∷ xs) ys = ap (λ (zs : List Row). f x ++ zs) (concat-append f xs ys) ∙ sym (append-assoc (f x) (concatMap f xs) (concatMap f ys))
+
+-- parts that are made one after the other
+pub concat-from : {A B : Type 0} (h : B → List Row) (f : ℕ → A → List B) (k : ℕ) (xs : List A)
+    → concatFrom (λ (m : ℕ) (x : A). concatMap h (f m x)) k xs ≡ concatMap h (concatFrom f k xs)
+concat-from h f k [] = refl
+concat-from h f k (x ∷ xs) =
+    ap (λ (ys : List Row). concatMap h (f k x) ++ ys) (concat-from h f (k + 1) xs) ∙ sym (concat-append h (f k x) (concatFrom f (k + 1) xs))
 
 pub rows-append : (c d : Condition) → conditionRows (c ++ d) ≡ conditionRows c ++ conditionRows d
 rows-append = concat-append clauseRows
@@ -189,52 +198,33 @@ other-side at-most-once last s b xs ys zs h = refl
 other-side sometime-before last s b xs ys zs h = ap (beforeRows s b xs) (h refl)
 other-side sometime-after last s b xs ys zs h = ap (afterRows b xs) (h refl)
 
--- the preferences qs from number k on are still to be read, from row j on
-pub record Tracked (ms vs : List ℕ) (F : ℕ) (last : Bool) (b₀ : List ℕ) (n i : ℕ) (all : List Preference) (out : List ℕ) (r s j : ℕ) : Type 0 where
-  pub number : ℕ
-  pub left : List Preference
-  pub fact : s ≡ F + 3 * number
-  pub rest : drop j (paired ms vs) ≡ concatMap preferenceRows left
-  pub onward : Onward b₀ n i (concatMap effectRows (allTrackers last F 0 all)) out r (concatMap effectRows (allTrackers last F number left))
-
--- what holds before row j is read
-pub record Tracking (ms vs : List ℕ) (at F : ℕ) (last : Bool) (b₀ : List ℕ) (n i : ℕ) (out : List ℕ) (r s j : ℕ) : Type 0 where
-  pub size : length out ≡ length b₀
-  pub begun : at ≤ j
-  pub little : s + 3 * at ≤ F + 3 * j
-  pub so-far : (qs : List Preference) → drop at (paired ms vs) ≡ concatMap preferenceRows qs → Tracked ms vs F last b₀ n i qs out r s j
-
-module _ (ms vs : List ℕ) (F : ℕ) (last : Bool) (b₀ : List ℕ) (n i : ℕ) (few : n ≤ 12000) (all : List Preference) (out : List ℕ) (r s j : ℕ) where
-  pub tracked-on : j < length ms → (p : Sides) → Locates ms j p → (out' : List ℕ) (r' : ℕ)
-      → Wrote out n r (trackerRows (getD ms j 0) last s (s + 1) (part ms vs (j + 1) (p .mid)) (part ms vs (p .second) (p .next))) r' out'
-      → Tracked ms vs F last b₀ n i all out r s j
-      → Tracked ms vs F last b₀ n i all out' r' (s + 3) (p .next)
-  tracked-on h p locates out' r' w t = go (t .left) (t .rest) (t .onward)
+module _ (ms vs : List ℕ) (at : ℕ) (last : Bool) (s : ℕ) (q : Preference) (qs : List Preference)
+    (e : drop at (paired ms vs) ≡ concatMap preferenceRows (q ∷ qs)) where
+  -- at-end has no trackers but in end
+  pub not-yet : at < length ms → eqb (getD ms at 0) AT-END && not last ≡ true → [] ≡ preferenceTrackers last s q
+  not-yet h t = go (q .kind) last (ap (λ (m : ℕ). eqb m AT-END && not last) (sym (ap headMark (sym (row-at ms vs at h) ∙ e))) ∙ t)
     where
-      go : (qs : List Preference) → drop j (paired ms vs) ≡ concatMap preferenceRows qs
-          → Onward b₀ n i (concatMap effectRows (allTrackers last F 0 all)) out r (concatMap effectRows (allTrackers last F (t .number) qs))
-          → Tracked ms vs F last b₀ n i all out' r' (s + 3) (p .next)
-      go [] e on = absurd (subst (λ (l : List Row). T (nonEmpty l)) (sym (row-at ms vs j h) ∙ e) tt)
-      go (q ∷ qs) e on =
-          let l : Located ms vs j q qs p = locates vs q qs e in
-          let mine : List Effect = trackersOf (q .kind) last (factS F (t .number)) (factB F (t .number)) (q .first) (q .second) in
-          let same : trackerRows (getD ms j 0) last s (s + 1) (part ms vs (j + 1) (p .mid)) (part ms vs (p .second) (p .next)) ≡ concatMap effectRows mine =
-          (λ z. trackerRows (l .mark z) last (t .fact z) (t .fact z + 1) (l .first z) (part ms vs (p .second) (p .next)))
-          ∙ other-side (q .kind) last (factS F (t .number)) (factB F (t .number)) (conditionRows (q .first)) (part ms vs (p .second) (p .next)) (conditionRows (q .second)) (l .second)
-          ∙ kind-rows (q .kind) last (factS F (t .number)) (factB F (t .number)) (q .first) (q .second) in
-          record {
-            number = t .number + 1;
-            left = qs;
-            fact = omega (arith, t .fact);
-            rest = l .rest;
-            onward = λ x o v. on x o (as-rows (sym (effects-append mine (allTrackers last F (t .number + 1) qs))) (then few (as-rows same w) v));
-          }
+      go : (k : Kind) (l : Bool) → eqb (kindMark k) AT-END && not l ≡ true → [] ≡ concatMap effectRows (trackersOf k l s (s + 1) (q .first) (q .second))
+      go at-end false p = refl
+      go at-end true p = absurd (true≢false (sym p))
+      go always l p = absurd (true≢false (sym p))
+      go sometime l p = absurd (true≢false (sym p))
+      go at-most-once l p = absurd (true≢false (sym p))
+      go sometime-before l p = absurd (true≢false (sym p))
+      go sometime-after l p = absurd (true≢false (sym p))
 
-  pub tracked-all : length ms ≤ j → Tracked ms vs F last b₀ n i all out r s j → Wrote b₀ n i (concatMap effectRows (allTrackers last F 0 all)) r out
-  tracked-all h t = go (t .left) (t .rest) (t .onward)
-    where
-      go : (qs : List Preference) → drop j (paired ms vs) ≡ concatMap preferenceRows qs
-          → Onward b₀ n i (concatMap effectRows (allTrackers last F 0 all)) out r (concatMap effectRows (allTrackers last F (t .number) qs))
-          → Wrote b₀ n i (concatMap effectRows (allTrackers last F 0 all)) r out
-      go [] e on = on r out (wrote-none out n r)
-      go (q ∷ qs) e on = absurd (subst⁻¹ (λ (l : List Row). T (nonEmpty l)) (sym (row-end ms vs j h) ∙ e) tt)
+  -- the trackers by the mark and the sides that were found
+  pub as-located : (p : Sides) → Located ms vs at q qs p
+      → trackerRows (getD ms at 0) last s (s + 1) (part ms vs (at + 1) (p .mid)) (part ms vs (p .second) (p .next)) ≡ preferenceTrackers last s q
+  as-located p l =
+      (λ z. trackerRows (l .mark z) last s (s + 1) (l .first z) (part ms vs (p .second) (p .next)))
+      ∙ other-side (q .kind) last s (s + 1) (conditionRows (q .first)) (part ms vs (p .second) (p .next)) (conditionRows (q .second)) (l .second)
+      ∙ kind-rows (q .kind) last s (s + 1) (q .first) (q .second)
+
+-- the trackers of preference k over F facts
+abbrev pub trackersFrom : ℕ → Bool → ℕ → Preference → List Row
+trackersFrom F last k = preferenceTrackers last (factS F k)
+
+pub trackers-from : (F : ℕ) (last : Bool) (qs : List Preference) → concatFrom (trackersFrom F last) 0 qs ≡ allTrackerRows last F qs
+trackers-from F last qs =
+    concat-from effectRows (λ (k : ℕ) (q : Preference). trackersOf (q .kind) last (factS F k) (factB F k) (q .first) (q .second)) 0 qs

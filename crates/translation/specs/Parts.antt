@@ -6,16 +6,25 @@ use Prim.Native.Nat.{ℕ, zero, suc, _+_, _-_}
 use lib.ListN.{length, drop}
 use Rattle.task.specs.Lists.{concatMap}
 use Rattle.task.specs.Marks.{ACTION, EFFECT, HOLDS, LACKS, ADD, DELETE, START}
-use Rattle.task.specs.Task.{Kind, Condition, Action, Preference, Row, row, effectRows, actionRows, preferenceRows, Task, taskRows}
+use Rattle.task.specs.Task.{Kind, Condition, Action, Preference, Row, row, clauseRows, conditionRows, effectRows, actionRows, preferenceRows, Task, taskRows}
 use Rattle.task.specs.File.{paired}
-use Rattle.translation.specs.Translation.{deny, alone, metClause, factC, normal, ended, allTrackers, sourceAction, closings, translated}
+use Rattle.translation.specs.Translation.{deny, alone, trackersOf, metClause, factC, normal, ended, allTrackers, sourceAction, closings, translated}
 use Rattle.translation.specs.Writer.{Wrote}
+use Rattle.translation.specs.Places.{Starts}
 use Rattle.translation.specs.Rows.{singleRows}
 
--- the rows that f gives for the preferences that stand from row `at` on
-abbrev pub WroteFor : List ℕ → List ℕ → ℕ → (List Preference → List Row) → List ℕ → ℕ → ℕ → ℕ → List ℕ → Type 0
-WroteFor ms vs at f b n i r out =
-    (qs : List Preference) → drop at (paired ms vs) ≡ concatMap preferenceRows qs → Wrote b n i (f qs) r out
+-- the rows that f gives for the preference at row `at`
+abbrev pub WroteAt : List ℕ → List ℕ → ℕ → (Preference → List Row) → List ℕ → ℕ → ℕ → ℕ → List ℕ → Type 0
+WroteAt ms vs at f b n i r out =
+    (q : Preference) (qs : List Preference) → drop at (paired ms vs) ≡ concatMap preferenceRows (q ∷ qs) → Wrote b n i (f q) r out
+
+-- the rows that f gives for the preferences that begin at the rows `starts`
+abbrev pub WroteFor : List ℕ → List ℕ → List ℕ → (List Preference → List Row) → List ℕ → ℕ → ℕ → ℕ → List ℕ → Type 0
+WroteFor ms vs starts f b n i r out = (qs : List Preference) → Starts ms vs starts qs → Wrote b n i (f qs) r out
+
+-- the trackers of a preference whose facts begin with s
+abbrev pub preferenceTrackers : Bool → ℕ → Preference → List Row
+preferenceTrackers last s q = concatMap effectRows (trackersOf (q .kind) last s (s + 1) (q .first) (q .second))
 
 -- the trackers of preferences, over F facts
 abbrev pub allTrackerRows : Bool → ℕ → List Preference → List Row
@@ -26,10 +35,10 @@ abbrev pub sourceRows : ℕ → ℕ → List Row → List Row → List Preferenc
 sourceRows F N xs ys qs = xs ++ (singleRows HOLDS N ++ (ys ++ allTrackerRows false F qs))
 
 -- the source's actions, from row `from` up to the preferences at row `at`
-abbrev pub ActsFor : List ℕ → List ℕ → ℕ → ℕ → ℕ → ℕ → List ℕ → ℕ → ℕ → ℕ → List ℕ → Type 0
-ActsFor ms vs from at F N b n i r out =
+abbrev pub ActsFor : List ℕ → List ℕ → ℕ → ℕ → List ℕ → ℕ → ℕ → List ℕ → ℕ → ℕ → ℕ → List ℕ → Type 0
+ActsFor ms vs from at starts F N b n i r out =
     (l : List Action) (qs : List Preference) → drop from (paired ms vs) ≡ concatMap actionRows l ++ concatMap preferenceRows qs
-    → drop at (paired ms vs) ≡ concatMap preferenceRows qs → N ≡ normal F (length qs)
+    → drop at (paired ms vs) ≡ concatMap preferenceRows qs → Starts ms vs starts qs → N ≡ normal F (length qs)
     → Wrote b n i (concatMap actionRows (map (sourceAction F qs) l)) r out
 
 abbrev pub endRows : ℕ → ℕ → List Preference → List Row
@@ -48,10 +57,22 @@ closingHead cost first s E =
 abbrev pub closingRows : ℕ → Bool → ℕ → ℕ → List Row → List Row
 closingRows cost first s E outcome = closingHead cost first s E ++ (outcome ++ (row EFFECT 0 ∷ row ADD (s + 2) ∷ []))
 
-abbrev pub ClosesFor : List ℕ → List ℕ → ℕ → ℕ → ℕ → List ℕ → ℕ → ℕ → ℕ → List ℕ → Type 0
-ClosesFor ms vs at F E b n i r out =
-    (qs : List Preference) (P : ℕ) → drop at (paired ms vs) ≡ concatMap preferenceRows qs → E ≡ ended F P
-    → Wrote b n i (concatMap actionRows (closings F P 0 qs)) r out
+-- collect and forgo of a preference whose facts begin with s
+abbrev pub preferenceClosings : Bool → ℕ → ℕ → Preference → List Row
+preferenceClosings first s E q =
+    closingRows 0 first s E (clauseRows (metClause s (s + 1) (q .kind)))
+    ++ closingRows (q .weight) first s E (conditionRows (missed s (s + 1) (q .kind)))
+
+abbrev pub ClosesFor : List ℕ → List ℕ → List ℕ → ℕ → ℕ → List ℕ → ℕ → ℕ → ℕ → List ℕ → Type 0
+ClosesFor ms vs starts F E b n i r out =
+    (qs : List Preference) (P : ℕ) → Starts ms vs starts qs → E ≡ ended F P → Wrote b n i (concatMap actionRows (closings F P 0 qs)) r out
+
+-- all actions of the translation
+abbrev pub AllActsFor : List ℕ → List ℕ → ℕ → ℕ → List ℕ → ℕ → ℕ → List ℕ → ℕ → ℕ → ℕ → List ℕ → Type 0
+AllActsFor ms vs from at starts F N b n i r out =
+    (l : List Action) (qs : List Preference) → drop from (paired ms vs) ≡ concatMap actionRows l ++ concatMap preferenceRows qs
+    → drop at (paired ms vs) ≡ concatMap preferenceRows qs → Starts ms vs starts qs → N ≡ normal F (length qs)
+    → Wrote b n i (concatMap actionRows (map (sourceAction F qs) l) ++ (endRows F N qs ++ concatMap actionRows (closings F (length qs) 0 qs))) r out
 
 -- holds C of m preferences, from preference k on
 abbrev pub closedRows : ℕ → ℕ → ℕ → List Row

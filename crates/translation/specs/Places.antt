@@ -2,9 +2,9 @@
 use mathlib.Core.Path.{_≡_}
 use mathlib.Core.Bool.{Bool, true, _&&_}
 use mathlib.Core.List.{List, _∷_}
-use Prim.Native.Nat.{ℕ, _+_}
+use Prim.Native.Nat.{ℕ, _+_, _<_}
 use lib.Dec.{leb}
-use lib.ListN.{drop, getD}
+use lib.ListN.{length, drop, getD}
 use Rattle.task.specs.Lists.{concatMap}
 use Rattle.task.specs.Task.{Preference, Row, kindMark, two-sided, conditionRows, preferenceRows}
 use Rattle.task.specs.File.{paired}
@@ -29,3 +29,18 @@ pub record Located (ms vs : List ℕ) (at : ℕ) (q : Preference) (qs : List Pre
 abbrev pub Locates : List ℕ → ℕ → Sides → Type 0
 Locates ms at r =
     (vs : List ℕ) (q : Preference) (qs : List Preference) → drop at (paired ms vs) ≡ concatMap preferenceRows (q ∷ qs) → Located ms vs at q qs r
+
+-- row r stands behind the preference at row `at`
+abbrev pub Passes : List ℕ → ℕ → ℕ → Type 0
+Passes ms at r =
+    (vs : List ℕ) (q : Preference) (qs : List Preference) → drop at (paired ms vs) ≡ concatMap preferenceRows (q ∷ qs)
+    → drop r (paired ms vs) ≡ concatMap preferenceRows qs
+
+-- preference c begins at row number c of `starts`
+pub record Starts (ms vs starts : List ℕ) (qs : List Preference) : Type 0 where
+  pub many : length starts ≡ length qs
+  pub begins : (c : ℕ) → c < length qs → drop (getD starts c 0) (paired ms vs) ≡ concatMap preferenceRows (drop c qs)
+
+abbrev pub Noted : List ℕ → ℕ → List ℕ → Type 0
+Noted ms at starts =
+    (vs : List ℕ) (qs : List Preference) → drop at (paired ms vs) ≡ concatMap preferenceRows qs → length starts ≡ length qs → Starts ms vs starts qs

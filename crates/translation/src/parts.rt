@@ -8,7 +8,7 @@ ghost use Rattle.task.specs.Task.{row, clauseRows, conditionRows};
 ghost use Rattle.task.specs.File.{kindOf};
 ghost use Rattle.translation.specs.Translation.{metClause};
 ghost use Rattle.translation.specs.Writer.{Wrote, part};
-ghost use Rattle.translation.specs.Parts.{WroteFor, sourceRows, endRows, missed, closedRows, closingHead, closingRows, ActsFor, ClosesFor};
+ghost use Rattle.translation.specs.Parts.{WroteAt, WroteFor, sourceRows, endRows, missed, closedRows, closingHead, closingRows, preferenceClosings, ActsFor, ClosesFor};
 use super::places;
 use super::tracking;
 use super::writer;
@@ -25,21 +25,20 @@ fn put_action(
     from: usize,
     mid: usize,
     next: usize,
-    at: usize,
+    starts: &[usize],
     facts: u32,
     normal: u32,
 ) -> usize
-    requires { ⌜ (n ≤ 12000) × (8 + 5 * n ≤ length (now out)) × (4 * length (now marks) ≤ length (now values)) × (length (now marks) ≤ 12000) × (facts ≤ 128) × (mid ≤ length (now marks)) × (next ≤ length (now marks)) ⌝ }
-    ensures { λ r. ⌜ WroteFor (now (marks .entry)) (now (values .entry)) at (sourceRows facts normal (part (now (marks .entry)) (now (values .entry)) from mid) (part (now (marks .entry)) (now (values .entry)) mid next)) (now (out .entry)) n i r (now (out .exit)) ⌝ }
+    requires { ⌜ (n ≤ 12000) × (8 + 5 * n ≤ length (now out)) × (4 * length (now marks) ≤ length (now values)) × (length (now starts) ≤ 16) × (facts ≤ 128) × (mid ≤ length (now marks)) × (next ≤ length (now marks)) ⌝ }
+    ensures { λ r. ⌜ WroteFor (now (marks .entry)) (now (values .entry)) (now (starts .entry)) (sourceRows facts normal (part (now (marks .entry)) (now (values .entry)) from mid) (part (now (marks .entry)) (now (values .entry)) mid next)) (now (out .entry)) n i r (now (out .exit)) ⌝ }
 {
     let k = writer::copy_rows(&mut *out, n, i, marks, values, from, mid);
     let k = writer::put_single(&mut *out, n, k, marks::HOLDS, normal);
     let k = writer::copy_rows(&mut *out, n, k, marks, values, mid, next);
-    tracking::all_trackers(&mut *out, n, k, marks, values, at, facts, false)
+    tracking::all_trackers(&mut *out, n, k, marks, values, starts, facts, false)
 }
 
-// The source's actions, which stand from row `from` up to row `at`, where the preferences begin. Once 12,001 rows are
-// counted the actions that are left change nothing.
+// The source's actions, which stand from row `from` up to row `at`, where the preferences begin.
 pub fn put_actions(
     out: &mut [u8],
     n: usize,
@@ -48,11 +47,12 @@ pub fn put_actions(
     values: &[u8],
     from: usize,
     at: usize,
+    starts: &[usize],
     facts: u32,
     normal: u32,
 ) -> usize
-    requires { ⌜ (n ≤ 12000) × (8 + 5 * n ≤ length (now out)) × (4 * length (now marks) ≤ length (now values)) × (length (now marks) ≤ 12000) × (facts ≤ 128) × (at ≤ length (now marks)) ⌝ }
-    ensures { λ r. ⌜ ActsFor (now (marks .entry)) (now (values .entry)) from at facts normal (now (out .entry)) n i r (now (out .exit)) ⌝ }
+    requires { ⌜ (n ≤ 12000) × (8 + 5 * n ≤ length (now out)) × (4 * length (now marks) ≤ length (now values)) × (length (now starts) ≤ 16) × (facts ≤ 128) × (at ≤ length (now marks)) ⌝ }
+    ensures { λ r. ⌜ ActsFor (now (marks .entry)) (now (values .entry)) from at (now (starts .entry)) facts normal (now (out .entry)) n i r (now (out .exit)) ⌝ }
 {
     let mut k = i;
     let mut j = from;
@@ -71,7 +71,7 @@ pub fn put_actions(
             j,
             mid,
             next,
-            at,
+            starts,
             facts,
             normal,
         );
@@ -87,19 +87,19 @@ pub fn put_end(
     i: usize,
     marks: &[u8],
     values: &[u8],
-    at: usize,
+    starts: &[usize],
     facts: u32,
     normal: u32,
 ) -> usize
-    requires { ⌜ (n ≤ 12000) × (8 + 5 * n ≤ length (now out)) × (4 * length (now marks) ≤ length (now values)) × (length (now marks) ≤ 12000) × (facts ≤ 128) × (normal ≤ 128) ⌝ }
-    ensures { λ r. ⌜ WroteFor (now (marks .entry)) (now (values .entry)) at (endRows facts normal) (now (out .entry)) n i r (now (out .exit)) ⌝ }
+    requires { ⌜ (n ≤ 12000) × (8 + 5 * n ≤ length (now out)) × (4 * length (now marks) ≤ length (now values)) × (length (now starts) ≤ 16) × (facts ≤ 128) × (normal ≤ 128) ⌝ }
+    ensures { λ r. ⌜ WroteFor (now (marks .entry)) (now (values .entry)) (now (starts .entry)) (endRows facts normal) (now (out .entry)) n i r (now (out .exit)) ⌝ }
 {
     let k = writer::put_row(&mut *out, n, i, marks::ACTION, 0);
     let k = writer::put_single(&mut *out, n, k, marks::HOLDS, normal);
     let k = writer::put_row(&mut *out, n, k, marks::EFFECT, 0);
     let k = writer::put_row(&mut *out, n, k, marks::ADD, normal + 1);
     let k = writer::put_row(&mut *out, n, k, marks::DELETE, normal);
-    tracking::all_trackers(&mut *out, n, k, marks, values, at, facts, true)
+    tracking::all_trackers(&mut *out, n, k, marks, values, starts, facts, true)
 }
 
 // The clause that says that a preference is met, by its mark.
@@ -188,37 +188,62 @@ fn put_closing(
     put_closed(&mut *out, n, k, s)
 }
 
-// Collect and forgo of all preferences, which stand from row `at` on.
-pub fn put_closings(
+// Collect and forgo of the preference at row `at`.
+fn closing_at(
     out: &mut [u8],
     n: usize,
     i: usize,
     marks: &[u8],
     values: &[u8],
     at: usize,
+    first: bool,
+    s: u32,
+    ended: u32,
+) -> usize
+    requires { ⌜ (n ≤ 12000) × (8 + 5 * n ≤ length (now out)) × (4 * length (now marks) ≤ length (now values)) × (1 ≤ s) × (s < 1000000) ⌝ }
+    ensures { λ r. ⌜ WroteAt (now (marks .entry)) (now (values .entry)) at (preferenceClosings first s ended) (now (out .entry)) n i r (now (out .exit)) ⌝ }
+{
+    if marks.len() <= at {
+        return i;
+    }
+    let weight = rows::value_at(values, at);
+    put_closing(&mut *out, n, i, marks[at], weight, first, s, ended)
+}
+
+// Collect and forgo of all preferences, by the rows at which they begin.
+pub fn put_closings(
+    out: &mut [u8],
+    n: usize,
+    i: usize,
+    marks: &[u8],
+    values: &[u8],
+    starts: &[usize],
     facts: u32,
     ended: u32,
 ) -> usize
-    requires { ⌜ (n ≤ 12000) × (8 + 5 * n ≤ length (now out)) × (4 * length (now marks) ≤ length (now values)) × (length (now marks) ≤ 12000) × (1 ≤ facts) × (facts ≤ 128) ⌝ }
-    ensures { λ r. ⌜ ClosesFor (now (marks .entry)) (now (values .entry)) at facts ended (now (out .entry)) n i r (now (out .exit)) ⌝ }
+    requires { ⌜ (n ≤ 12000) × (8 + 5 * n ≤ length (now out)) × (4 * length (now marks) ≤ length (now values)) × (length (now starts) ≤ 16) × (1 ≤ facts) × (facts ≤ 128) ⌝ }
+    ensures { λ r. ⌜ ClosesFor (now (marks .entry)) (now (values .entry)) (now (starts .entry)) facts ended (now (out .entry)) n i r (now (out .exit)) ⌝ }
 {
     let mut k = i;
     let mut s = facts;
-    let mut j = at;
-    while j < marks.len() {
-        let p = places::locate(marks, j);
-        k = put_closing(
+    let mut c = 0;
+    while c < starts.len() {
+        if writer::TOO_MANY <= k {
+            return k;
+        }
+        k = closing_at(
             &mut *out,
             n,
             k,
-            marks[j],
-            rows::value_at(values, j),
+            marks,
+            values,
+            starts[c],
             s == facts,
             s,
             ended,
         );
         s += 3;
-        j = p.next;
+        c += 1;
     }
     k
 }
@@ -231,6 +256,9 @@ pub fn put_all_closed(out: &mut [u8], n: usize, i: usize, facts: u32, ended: u32
     let mut k = i;
     let mut c = facts + 2;
     while c < ended {
+        if writer::TOO_MANY <= k {
+            return k;
+        }
         k = writer::put_single(&mut *out, n, k, marks::HOLDS, c);
         c += 3;
     }

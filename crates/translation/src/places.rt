@@ -2,8 +2,8 @@
 ghost use mathlib.Core.Path.{_≡_};
 ghost use mathlib.Core.List.{List};
 ghost use Prim.Native.Nat.{ℕ, _+_, _≤_, _<_};
-ghost use lib.ListN.{length};
-ghost use Rattle.translation.specs.Places.{endAt, Locates};
+ghost use lib.ListN.{length, take};
+ghost use Rattle.translation.specs.Places.{endAt, Locates, Passes, Noted};
 use task::marks;
 
 // Where the sides of a preference stand: φ before row `mid`, ψ from row `second` up to row `next`, the one behind them.
@@ -43,4 +43,29 @@ pub fn locate(marks: &[u8], at: usize) -> Sides
     let second = behind(marks, mid, marks::SECOND, marks::SECOND);
     let next = behind(marks, second, marks::CLAUSE, marks::LACKS);
     Sides { mid, second, next }
+}
+
+// The row behind the preference that row `at` opens.
+fn behind_preference(marks: &[u8], at: usize) -> usize
+    ensures { λ r. ⌜ Passes (now (marks .entry)) at r ⌝ }
+{
+    if marks.len() <= at {
+        return at;
+    }
+    let p = locate(marks, at);
+    p.next
+}
+
+// Notes at which rows so many preferences begin; the first one begins at row `at`.
+pub fn note_starts(marks: &[u8], at: usize, many: usize, starts: &mut [usize])
+    requires { ⌜ (many ≤ length (now starts)) × (many ≤ 16) ⌝ }
+    ensures { λ r. ⌜ Noted (now (marks .entry)) at (take many (now (starts .exit))) ⌝ }
+{
+    let mut c = 0;
+    let mut j = at;
+    while c < many {
+        starts[c] = j;
+        j = behind_preference(marks, j);
+        c += 1;
+    }
 }

@@ -7,7 +7,7 @@ ghost use lib.ListN.{length};
 ghost use Rattle.task.specs.Marks.{EFFECT, ADD};
 ghost use Rattle.task.specs.Task.{row};
 ghost use Rattle.translation.specs.Writer.{Wrote, part};
-ghost use Rattle.translation.specs.Parts.{WroteFor, allTrackerRows};
+ghost use Rattle.translation.specs.Parts.{WroteAt, WroteFor, preferenceTrackers, allTrackerRows};
 ghost use Rattle.translation.specs.Rows.{deniedMark, changeRows, guardRows, falseRow, falseRows, guardedRows, onceRows, beforeRows, afterRows, trackerRows};
 use super::places;
 use super::places::Sides;
@@ -91,6 +91,9 @@ fn each_false(
     let mut k = i;
     let mut j = from;
     while j < to {
+        if writer::TOO_MANY <= k {
+            return k;
+        }
         let mark = marks[j];
         k = false_row(
             &mut *out,
@@ -312,28 +315,55 @@ fn trackers_of(
     }
 }
 
-// The trackers of all preferences, which stand from row `at` on.
-pub fn all_trackers(
+// The trackers of the preference at row `at`. at-end has none but in end, and its rows are not gone through.
+fn trackers_at(
     out: &mut [u8],
     n: usize,
     i: usize,
     marks: &[u8],
     values: &[u8],
     at: usize,
+    s: u32,
+    last: bool,
+) -> usize
+    requires { ⌜ (n ≤ 12000) × (8 + 5 * n ≤ length (now out)) × (4 * length (now marks) ≤ length (now values)) × (s < 1000000) ⌝ }
+    ensures { λ r. ⌜ WroteAt (now (marks .entry)) (now (values .entry)) at (preferenceTrackers last s) (now (out .entry)) n i r (now (out .exit)) ⌝ }
+{
+    if marks.len() <= at {
+        return i;
+    }
+    let mark = marks[at];
+    if (mark == marks::AT_END) & !last {
+        return i;
+    }
+    let p = places::locate(marks, at);
+    trackers_of(&mut *out, n, i, marks, values, mark, at + 1, p, s, last)
+}
+
+// The trackers of all preferences, by the rows at which they begin.
+pub fn all_trackers(
+    out: &mut [u8],
+    n: usize,
+    i: usize,
+    marks: &[u8],
+    values: &[u8],
+    starts: &[usize],
     facts: u32,
     last: bool,
 ) -> usize
-    requires { ⌜ (n ≤ 12000) × (8 + 5 * n ≤ length (now out)) × (4 * length (now marks) ≤ length (now values)) × (length (now marks) ≤ 12000) × (facts ≤ 128) ⌝ }
-    ensures { λ r. ⌜ WroteFor (now (marks .entry)) (now (values .entry)) at (allTrackerRows last facts) (now (out .entry)) n i r (now (out .exit)) ⌝ }
+    requires { ⌜ (n ≤ 12000) × (8 + 5 * n ≤ length (now out)) × (4 * length (now marks) ≤ length (now values)) × (length (now starts) ≤ 16) × (facts ≤ 128) ⌝ }
+    ensures { λ r. ⌜ WroteFor (now (marks .entry)) (now (values .entry)) (now (starts .entry)) (allTrackerRows last facts) (now (out .entry)) n i r (now (out .exit)) ⌝ }
 {
     let mut k = i;
     let mut s = facts;
-    let mut j = at;
-    while j < marks.len() {
-        let p = places::locate(marks, j);
-        k = trackers_of(&mut *out, n, k, marks, values, marks[j], j + 1, p, s, last);
+    let mut c = 0;
+    while c < starts.len() {
+        if writer::TOO_MANY <= k {
+            return k;
+        }
+        k = trackers_at(&mut *out, n, k, marks, values, starts[c], s, last);
         s += 3;
-        j = p.next;
+        c += 1;
     }
     k
 }

@@ -2,7 +2,7 @@
 ghost use mathlib.Core.Path.{_≡_};
 ghost use Prim.Native.Nat.{ℕ, _+_, _*_, _≤_};
 ghost use lib.ListN.{length};
-ghost use Rattle.translation.specs.Parts.{openingRows, WroteTask};
+ghost use Rattle.translation.specs.Parts.{openingRows, AllActsFor, WroteTask};
 ghost use Rattle.translation.specs.Writer.{Wrote, part};
 ghost use Rattle.translation.specs.Whole.{Counts, Fits};
 use super::Translated;
@@ -33,6 +33,38 @@ fn put_opening(
     parts::put_all_closed(&mut *out, n, k, facts, ended)
 }
 
+// The actions of the source, end, collect and forgo.
+fn put_all_actions(
+    out: &mut [u8],
+    n: usize,
+    i: usize,
+    marks: &[u8],
+    values: &[u8],
+    from: usize,
+    at: usize,
+    starts: &[usize],
+    facts: u32,
+    normal: u32,
+) -> usize
+    requires { ⌜ (n ≤ 12000) × (8 + 5 * n ≤ length (now out)) × (4 * length (now marks) ≤ length (now values)) × (length (now starts) ≤ 16) × (at ≤ length (now marks)) × (1 ≤ facts) × (facts ≤ 128) × (normal ≤ 128) ⌝ }
+    ensures { λ r. ⌜ AllActsFor (now (marks .entry)) (now (values .entry)) from at (now (starts .entry)) facts normal (now (out .entry)) n i r (now (out .exit)) ⌝ }
+{
+    let k = parts::put_actions(
+        &mut *out,
+        n,
+        i,
+        marks,
+        values,
+        from,
+        at,
+        starts,
+        facts,
+        normal,
+    );
+    let k = parts::put_end(&mut *out, n, k, marks, values, starts, facts, normal);
+    parts::put_closings(&mut *out, n, k, marks, values, starts, facts, normal + 1)
+}
+
 // Writes the rows of the translation of the task that the rows spell into a file of n rows, and answers how many there are.
 pub fn put_task(
     out: &mut [u8],
@@ -42,7 +74,7 @@ pub fn put_task(
     facts: u32,
     preferences: u32,
 ) -> usize
-    requires { ⌜ (n ≤ 12000) × (8 + 5 * n ≤ length (now out)) × (4 * length (now marks) ≤ length (now values)) × (length (now marks) ≤ 12000) × (1 ≤ facts) × (facts + 3 * preferences + 2 ≤ 128) ⌝ }
+    requires { ⌜ (n ≤ 12000) × (8 + 5 * n ≤ length (now out)) × (4 * length (now marks) ≤ length (now values)) × (length (now marks) ≤ 12000) × (1 ≤ facts) × (facts + 3 * preferences + 2 ≤ 128) × (preferences ≤ 16) ⌝ }
     ensures { λ r. ⌜ WroteTask (now (marks .entry)) (now (values .entry)) facts preferences (now (out .entry)) n r (now (out .exit)) ⌝ }
 {
     let normal = facts + 3 * preferences;
@@ -50,15 +82,27 @@ pub fn put_task(
     let mid = places::behind(marks, goal, marks::GOAL, marks::GOAL);
     let from = places::behind(marks, mid, marks::CLAUSE, marks::LACKS);
     let at = places::behind(marks, from, marks::ACTION, marks::DELETE);
+    let mut table: [usize; 16] = [0; 16];
+    let many = preferences as usize;
+    places::note_starts(marks, at, many, &mut table);
     let k = put_opening(&mut *out, n, marks, values, goal, from, facts, normal);
-    let k = parts::put_actions(&mut *out, n, k, marks, values, from, at, facts, normal);
-    let k = parts::put_end(&mut *out, n, k, marks, values, at, facts, normal);
-    parts::put_closings(&mut *out, n, k, marks, values, at, facts, normal + 1)
+    put_all_actions(
+        &mut *out,
+        n,
+        k,
+        marks,
+        values,
+        from,
+        at,
+        &table[0..many],
+        facts,
+        normal,
+    )
 }
 
 // How many rows that translation has, up to 12,001: it is written into a file of no rows.
 fn count_rows(marks: &[u8], values: &[u8], facts: u32, preferences: u32) -> usize
-    requires { ⌜ (4 * length (now marks) ≤ length (now values)) × (length (now marks) ≤ 12000) × (1 ≤ facts) × (facts + 3 * preferences + 2 ≤ 128) ⌝ }
+    requires { ⌜ (4 * length (now marks) ≤ length (now values)) × (length (now marks) ≤ 12000) × (1 ≤ facts) × (facts + 3 * preferences + 2 ≤ 128) × (preferences ≤ 16) ⌝ }
     ensures { λ r. ⌜ Counts (now (marks .entry)) (now (values .entry)) facts preferences r ⌝ }
 {
     let mut nothing: [u8; 8] = [0; 8];
@@ -74,7 +118,7 @@ pub fn put_file(
     actions: u32,
     preferences: u32,
 ) -> Translated
-    requires { ⌜ (4 * length (now marks) ≤ length (now values)) × (length (now marks) ≤ 12000) × (1 ≤ facts) × (facts + 3 * preferences + 2 ≤ 128) × (actions + 2 * preferences + 1 ≤ 128) ⌝ }
+    requires { ⌜ (4 * length (now marks) ≤ length (now values)) × (length (now marks) ≤ 12000) × (1 ≤ facts) × (facts + 3 * preferences + 2 ≤ 128) × (preferences ≤ 16) × (actions + 2 * preferences + 1 ≤ 128) ⌝ }
     ensures { λ r. ⌜ Fits (now (marks .entry)) (now (values .entry)) facts actions preferences (now (out .entry)) r (now (out .exit)) ⌝ }
 {
     let n = count_rows(marks, values, facts, preferences);

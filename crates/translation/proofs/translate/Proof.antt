@@ -95,7 +95,7 @@ part-put-file-end-2 : tie.Need-part-put-file-end-2
 part-put-file-end-2 c = search needs
 
 put-file-requires : tie.Need-put-file-requires
-put-file-requires c κs = let h = parts (c .before .before .before .before .before .before .before .before .before) in let s = few (c .before .before .before .before .before .before .before) in simp (length-take, length-drop) (omega arith, omega arith, omega arith, omega arith, omega arith)
+put-file-requires c κs = let h = parts (c .before .before .before .before .before .before .before .before .before) in let s = few (c .before .before .before .before .before .before .before) in simp (length-take, length-drop) (omega arith, omega arith, omega arith, omega arith, omega arith, omega arith)
 
 same-length : tie.Need-same-length
 same-length c = search needs

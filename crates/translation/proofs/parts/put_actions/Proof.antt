@@ -7,23 +7,23 @@ use Rattle.translation.proofs.parts.put_actions.Statement.{statement}
 use Rattle.translation.proofs.parts.put_actions.Tie as tie
 
 abbrev Inv-loop : tie.InvT-loop
-Inv-loop out₀ n i marks values from at facts normal k₀ j₀ out k j = Acting marks values from at facts normal out₀ n i out k j
+Inv-loop out₀ n i marks values from at starts facts normal k₀ j₀ out k j = Acting marks values from at starts facts normal out₀ n i out k j
 
 abbrev μ-loop : tie.MeasureT-loop
-μ-loop out₀ n i marks values from at facts normal k₀ j₀ out k j = at - j
+μ-loop out₀ n i marks values from at starts facts normal k₀ j₀ out k j = at - j
 
 loop-holds : tie.Need-loop-holds Inv-loop μ-loop
-loop-holds c = record { size = refl; so-far = λ l qs e p q. record { left = l; rest = e; onward = λ r o w. w } }
+loop-holds c = record { size = refl; so-far = λ l qs e p s q. record { left = l; rest = e; onward = λ r o w. w } }
 
 same-length : tie.Need-same-length Inv-loop μ-loop
 same-length c = c .before .before .loop .inv .size
 
 returns : tie.Need-returns Inv-loop μ-loop
-returns c = λ all qs e p q.
+returns c = λ all qs e p s q.
     let l = c .before .before in
-    let a = l .before .before .before .before .args in
+    let a = l .before .before .before .before .before .args in
     acted-full (now (a .marks)) (now (a .values)) (a .facts) qs all (now (a .out)) (a .n) (a .i) (search needs) (l .loop .out) (l .loop .k) (l .loop .j) (a .at) (a .normal) p q (search needs)
-    (search needs) (l .loop .inv .so-far all qs e p q)
+    (search needs) (l .loop .inv .so-far all qs e p s q)
 
 add-behind : tie.Need-add-behind Inv-loop μ-loop
 add-behind c = search needs
@@ -45,23 +45,23 @@ loop-again c =
     let u = c .before .before in
     let v = u .before .before in
     let l = v .before .before .before .before in
-    let a = l .before .before .before .before .args in
+    let a = l .before .before .before .before .before .args in
     record {
       size = u .put-action .kept .0 ∙ l .loop .inv .size;
-      so-far = λ all qs e p q. acted-on (now (a .marks)) (now (a .values)) (a .facts) qs all (now (a .out)) (a .n) (a .i) (search needs) (l .loop .out) (l .loop .k) (l .loop .j) (a .at) (a .normal) p q (search needs)
+      so-far = λ all qs e p s q. acted-on (now (a .marks)) (now (a .values)) (a .facts) qs all (now (a .out)) (a .n) (a .i) (search needs) (l .loop .out) (l .loop .k) (l .loop .j) (a .at) (a .normal) p q (search needs)
           (search needs) (v .before .behind .result) (v .behind2 .result) (v .before .behind .ensures .1 (now (a .values))) (v .behind2 .ensures .1 (now (a .values))) _ (u .put-action .result)
-          (u .put-action .ensures qs p) (l .loop .inv .so-far all qs e p q);
+          (u .put-action .ensures qs s) (l .loop .inv .so-far all qs e p s q);
     }
 
 same-length-2 : tie.Need-same-length-2 Inv-loop μ-loop
 same-length-2 c = c .before .loop .inv .size
 
 returns-2 : tie.Need-returns-2 Inv-loop μ-loop
-returns-2 c = λ all qs e p q.
+returns-2 c = λ all qs e p s q.
     let l = c .before in
-    let a = l .before .before .before .before .args in
+    let a = l .before .before .before .before .before .args in
     acted-all (now (a .marks)) (now (a .values)) (a .facts) qs all (now (a .out)) (a .n) (a .i) (search needs) (l .loop .out) (l .loop .k) (l .loop .j) (a .at) (a .normal) p q (search needs)
-    (search needs) (l .loop .inv .so-far all qs e p q)
+    (search needs) (l .loop .inv .so-far all qs e p s q)
 
 pub put-actions-spec : {M : Type 1} → statement M
 put-actions-spec =

@@ -1,73 +1,78 @@
 use borrow.Author.Needs.{needs}
-use mathlib.Core.Path.{refl, _∙_}
-use Prim.Native.Nat.{_-_}
+use mathlib.Core.Path.{refl, ap, _∙_}
+use Prim.Native.Nat.{ℕ, _+_, _*_, _-_}
 use native.Mathlib.Omega.{arith}
 use denote.Ref.{now}
 use lib.ListN.{length}
-use Rattle.translation.proofs.PartRows.{Closing, closed-on, closed-all}
+use lib.Dec.{eqb}
+use Rattle.translation.specs.Parts.{preferenceClosings}
+use Rattle.translation.proofs.PartRows.{closingsFrom, closings-from}
+use Rattle.translation.proofs.Putting.{as-rows}
+use Rattle.translation.proofs.Each.{Each, each-on, each-all, each-full}
 use Rattle.translation.proofs.parts.put_closings.Statement.{statement}
 use Rattle.translation.proofs.parts.put_closings.Tie as tie
 
 abbrev Inv-loop : tie.InvT-loop
-Inv-loop out₀ n i marks values at facts ended k₀ s₀ j₀ out k s j = Closing marks values at facts ended out₀ n i out k s j
+Inv-loop out₀ n i marks values starts facts ended k₀ s₀ c₀ out k s c = Each marks values starts facts (closingsFrom facts ended) out₀ n i out k s c
 
 abbrev μ-loop : tie.MeasureT-loop
-μ-loop out₀ n i marks values at facts ended k₀ s₀ j₀ out k s j = length marks - j
+μ-loop out₀ n i marks values starts facts ended k₀ s₀ c₀ out k s c = length starts - c
 
 loop-holds : tie.Need-loop-holds Inv-loop μ-loop
-loop-holds c =
-    record {
-      size = refl;
-      begun = search needs;
-      least = search needs;
-      little = search needs;
-      so-far = λ qs P e q. record { number = 0; left = qs; fact = omega arith; rest = e; onward = λ r o w. w };
-    }
+loop-holds c = record { size = refl; fact = omega arith; within = search needs; onward = λ qs b r o w. w }
 
-locate-requires : tie.Need-locate-requires Inv-loop μ-loop
-locate-requires c κs = search needs
+same-length : tie.Need-same-length Inv-loop μ-loop
+same-length c = c .before .before .loop .inv .size
 
-shared-slice-read-put-closing : tie.Need-shared-slice-read-put-closing Inv-loop μ-loop
-shared-slice-read-put-closing c = search needs
+returns : tie.Need-returns Inv-loop μ-loop
+returns c = λ qs P b e.
+    let l = c .before .before in
+    let a = l .before .before .before .before .before .args in
+    as-rows (closings-from (a .facts) P (a .ended) qs e)
+    (each-full (now (a .marks)) (now (a .values)) (now (a .starts)) (a .facts) (closingsFrom (a .facts) (a .ended)) (now (a .out)) (a .n) (a .i) (search needs)
+    (l .loop .out) (l .loop .k) (l .loop .s) (l .loop .c) (l .loop .inv) qs b (search needs))
 
-value-at-requires : tie.Need-value-at-requires Inv-loop μ-loop
-value-at-requires c κs = search needs
+mul-closing-at : tie.Need-mul-closing-at Inv-loop μ-loop
+mul-closing-at c = search needs
 
-put-closing-requires : tie.Need-put-closing-requires Inv-loop μ-loop
-put-closing-requires c κs = search needs
+shared-slice-read-closing-at : tie.Need-shared-slice-read-closing-at Inv-loop μ-loop
+shared-slice-read-closing-at c = search needs
+
+closing-at-requires : tie.Need-closing-at-requires Inv-loop μ-loop
+closing-at-requires c κs = search needs
 
 add-s : tie.Need-add-s Inv-loop μ-loop
 add-s c = search needs
+
+add-c : tie.Need-add-c Inv-loop μ-loop
+add-c c = search needs
 
 loop-less : tie.Need-loop-less Inv-loop μ-loop
 loop-less c = search needs
 
 loop-again : tie.Need-loop-again Inv-loop μ-loop
 loop-again c =
-    let u = c .before .before in
-    let v = u .before in
-    let w = v .before .before .before in
-    let l = w .before .before in
-    let a = l .before .before .before .before .args in
+    let t = c .before .before in
+    let l = t .before .before .before .before .before in
+    let a = l .before .before .before .before .before .args in
     record {
-      size = u .put-closing .kept .0 ∙ l .loop .inv .size;
-      begun = search needs;
-      least = search needs;
-      little = search needs;
-      so-far = λ qs P e q. closed-on (now (a .marks)) (now (a .values)) (a .facts) P (a .ended) q (now (a .out)) (a .n) (a .i) (search needs) qs (l .loop .out) (l .loop .k) (l .loop .s) (l .loop .j)
-          (search needs) (w .locate .result) (w .locate .ensures .1) (v .value-at .result) (v .value-at .ensures) _ (u .put-closing .result) (u .put-closing .ensures)
-          (l .loop .inv .so-far qs P e q);
+      size = t .closing-at .kept .0 ∙ l .loop .inv .size;
+      fact = search needs;
+      within = search needs;
+      onward = λ qs b. each-on (now (a .marks)) (now (a .values)) (now (a .starts)) (a .facts) (closingsFrom (a .facts) (a .ended)) (now (a .out)) (a .n) (a .i) (search needs)
+          (l .loop .out) (l .loop .k) (l .loop .s) (l .loop .c) (l .loop .inv) qs b (search needs) (preferenceClosings (eqb (l .loop .s) (a .facts)) (l .loop .s) (a .ended)) (ap (λ (s : ℕ). preferenceClosings (eqb s (a .facts)) s (a .ended)) (l .loop .inv .fact)) _ (t .closing-at .result) (t .closing-at .ensures);
     }
 
-same-length : tie.Need-same-length Inv-loop μ-loop
-same-length c = c .before .loop .inv .size
+same-length-2 : tie.Need-same-length-2 Inv-loop μ-loop
+same-length-2 c = c .before .loop .inv .size
 
-returns : tie.Need-returns Inv-loop μ-loop
-returns c = λ qs P e q.
+returns-2 : tie.Need-returns-2 Inv-loop μ-loop
+returns-2 c = λ qs P b e.
     let l = c .before in
-    let a = l .before .before .before .before .args in
-    closed-all (now (a .marks)) (now (a .values)) (a .facts) P (a .ended) q (now (a .out)) (a .n) (a .i) (search needs) qs (l .loop .out) (l .loop .k) (l .loop .s) (l .loop .j)
-    (search needs) (l .loop .inv .so-far qs P e q)
+    let a = l .before .before .before .before .before .args in
+    as-rows (closings-from (a .facts) P (a .ended) qs e)
+    (each-all (now (a .marks)) (now (a .values)) (now (a .starts)) (a .facts) (closingsFrom (a .facts) (a .ended)) (now (a .out)) (a .n) (a .i) (search needs)
+    (l .loop .out) (l .loop .k) (l .loop .s) (l .loop .c) (l .loop .inv) qs b (search needs))
 
 pub put-closings-spec : {M : Type 1} → statement M
 put-closings-spec =
@@ -76,12 +81,14 @@ put-closings-spec =
     Inv-loop
     μ-loop
     loop-holds
-    locate-requires
-    shared-slice-read-put-closing
-    value-at-requires
-    put-closing-requires
+    same-length
+    returns
+    mul-closing-at
+    shared-slice-read-closing-at
+    closing-at-requires
     add-s
+    add-c
     loop-less
     loop-again
-    same-length
-    returns)
+    same-length-2
+    returns-2)

@@ -29,7 +29,7 @@ same-length c = search needs
 
 returns : tie.Need-returns
 returns c = λ qs e.
-    let few = c .before .before .before .before .before .before .before .before .before .before .before .before .before .before .before .before .before .before .before .before .before .before .before .before .before .before .before .pre .0 in
+    let few = c .before .before .before .before .before .before .before .before .before .before .before .before .before .before .before .before .before .before .before .before .before .before .before .before .before .before .before .before .pre .0 in
     then few (c .before .before .before .before .before .before .before .before .before .before .before .before .before .before .before .before .before .before .before .before .before .before .put-row .ensures) (then few (c .before .before .before .before .before .before .before .before .before .before .before .before .before .before .before .before .before .before .put-single .ensures) (then few (c .before .before .before .before .before .before .before .before .before .before .before .before .before .before .put-row2 .ensures) (then few (c .before .before .before .before .before .before .before .before .before .before .put-row3 .ensures) (then few (c .before .before .before .before .before .before .put-row4 .ensures) (c .before .before .all-trackers .ensures qs e)))))
 
 pub put-end-spec : {M : Type 1} → statement M

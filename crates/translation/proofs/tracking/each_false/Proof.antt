@@ -2,7 +2,9 @@ use borrow.Author.Needs.{needs}
 use mathlib.Core.Path.{refl, _∙_}
 use Prim.Native.Nat.{_-_}
 use denote.Ref.{now}
-use Rattle.translation.proofs.Putting.{then, as-rows}
+use Rattle.translation.proofs.Putting.{then, as-rows, wrote-full}
+use Rattle.translation.specs.Writer.{part}
+use Rattle.translation.specs.Rows.{falseRows}
 use Rattle.translation.proofs.TrackerRows.{Falsified, next-false, last-false}
 use Rattle.translation.proofs.tracking.each_false.Statement.{statement}
 use Rattle.translation.proofs.tracking.each_false.Tie as tie
@@ -15,6 +17,16 @@ abbrev μ-loop : tie.MeasureT-loop
 
 loop-holds : tie.Need-loop-holds Inv-loop μ-loop
 loop-holds c = record { size = refl; onward = λ r o w. w }
+
+same-length : tie.Need-same-length Inv-loop μ-loop
+same-length c = c .before .before .loop .inv .size
+
+returns : tie.Need-returns Inv-loop μ-loop
+returns c =
+    let l = c .before .before in
+    let a = l .before .before .before .before .args in
+    l .loop .inv .onward (l .loop .k) (l .loop .out)
+    (wrote-full (l .loop .out) (a .n) (l .loop .k) (falseRows (a .guarded) (a .s) (a .b) (l .loop .begun) (part (now (a .marks)) (now (a .values)) (l .loop .j) (a .to))) (search needs) (search needs))
 
 shared-slice-read-mark : tie.Need-shared-slice-read-mark Inv-loop μ-loop
 shared-slice-read-mark c = search needs
@@ -35,7 +47,7 @@ loop-again : tie.Need-loop-again Inv-loop μ-loop
 loop-again c =
     let p = c .before .before in
     let v = p .before in
-    let l = v .before .before .before .before in
+    let l = v .before .before .before .before .before in
     let a = l .before .before .before .before .args in
     record {
       size = p .false-row .kept .0 ∙ l .loop .inv .size;
@@ -48,11 +60,11 @@ loop-again c =
 put-where-requires : tie.Need-put-where-requires Inv-loop μ-loop
 put-where-requires c κs = search needs
 
-same-length : tie.Need-same-length Inv-loop μ-loop
-same-length c = c .before .before .put-where .kept .0 ∙ c .before .before .before .before .before .loop .inv .size
+same-length-2 : tie.Need-same-length-2 Inv-loop μ-loop
+same-length-2 c = c .before .before .put-where .kept .0 ∙ c .before .before .before .before .before .loop .inv .size
 
-returns : tie.Need-returns Inv-loop μ-loop
-returns c =
+returns-2 : tie.Need-returns-2 Inv-loop μ-loop
+returns-2 c =
     let p = c .before .before in
     let l = p .before .before .before in
     let a = l .before .before .before .before .args in
@@ -66,6 +78,8 @@ each-false-spec =
     Inv-loop
     μ-loop
     loop-holds
+    same-length
+    returns
     shared-slice-read-mark
     value-at-requires
     false-row-requires
@@ -73,5 +87,5 @@ each-false-spec =
     loop-less
     loop-again
     put-where-requires
-    same-length
-    returns)
+    same-length-2
+    returns-2)

@@ -1,0 +1,41 @@
+use denote.Ref.{now}
+use Rattle.translation.proofs.Putting.{as-rows}
+use Rattle.translation.proofs.Noting.{no-preference}
+use Rattle.translation.proofs.PartRows.{as-read}
+use borrow.Author.Needs.{needs}
+use Rattle.translation.proofs.parts.closing_at.Statement.{statement}
+use Rattle.translation.proofs.parts.closing_at.Tie as tie
+
+returns : tie.Need-returns
+returns c = λ q qs e. let a = c .before .before .before .before .args in no-preference (now (a .marks)) (now (a .values)) (a .at) q qs e (search needs)
+
+value-at-requires : tie.Need-value-at-requires
+value-at-requires c κs = search needs
+
+shared-slice-read-put-closing : tie.Need-shared-slice-read-put-closing
+shared-slice-read-put-closing c = search needs
+
+put-closing-requires : tie.Need-put-closing-requires
+put-closing-requires c κs = search needs
+
+same-length : tie.Need-same-length
+same-length c = search needs
+
+returns-2 : tie.Need-returns-2
+returns-2 c = λ q qs e.
+    let t = c .before .before in
+    let v = t .before .before .before in
+    let a = v .before .before .before .before .before .args in
+    as-rows (as-read (now (a .marks)) (now (a .values)) (a .at) (a .first) (a .s) (a .ended) q qs e (search needs) (v .value-at .result) (v .value-at .ensures))
+    (t .put-closing .ensures)
+
+pub closing-at-spec : {M : Type 1} → statement M
+closing-at-spec =
+    tie.close
+    (tie.spec
+    returns
+    value-at-requires
+    shared-slice-read-put-closing
+    put-closing-requires
+    same-length
+    returns-2)

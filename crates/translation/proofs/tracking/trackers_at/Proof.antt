@@ -1,0 +1,52 @@
+use denote.Ref.{now}
+use mathlib.Core.Path.{sym}
+use Rattle.translation.proofs.Putting.{as-rows, wrote-none}
+use Rattle.translation.proofs.Noting.{no-preference}
+use Rattle.translation.proofs.TrackerRows.{not-yet, as-located}
+use borrow.Author.Needs.{needs}
+use Rattle.translation.proofs.tracking.trackers_at.Statement.{statement}
+use Rattle.translation.proofs.tracking.trackers_at.Tie as tie
+
+returns : tie.Need-returns
+returns c = λ q qs e. let a = c .before .before .before .before .args in no-preference (now (a .marks)) (now (a .values)) (a .at) q qs e (search needs)
+
+shared-slice-read-mark : tie.Need-shared-slice-read-mark
+shared-slice-read-mark c = search needs
+
+returns-2 : tie.Need-returns-2
+returns-2 c = λ q qs e.
+    let a = c .before .before .before .before .before .before .args in
+    as-rows (not-yet (now (a .marks)) (now (a .values)) (a .at) (a .last) (a .s) q qs e (search needs) (c .if2 .taken)) (wrote-none (now (a .out)) (a .n) (a .i))
+
+locate-requires : tie.Need-locate-requires
+locate-requires c κs = search needs
+
+add-trackers-of : tie.Need-add-trackers-of
+add-trackers-of c = search needs
+
+trackers-of-requires : tie.Need-trackers-of-requires
+trackers-of-requires c κs = search needs
+
+same-length : tie.Need-same-length
+same-length c = search needs
+
+returns-3 : tie.Need-returns-3
+returns-3 c = λ q qs e.
+    let t = c .before .before in
+    let p = t .before .before in
+    let a = p .before .before .before .before .before .before .before .args in
+    as-rows (as-located (now (a .marks)) (now (a .values)) (a .at) (a .last) (a .s) q qs e (p .locate .result) (p .locate .ensures .1 (now (a .values)) q qs e))
+    (t .trackers-of .ensures)
+
+pub trackers-at-spec : {M : Type 1} → statement M
+trackers-at-spec =
+    tie.close
+    (tie.spec
+    returns
+    shared-slice-read-mark
+    returns-2
+    locate-requires
+    add-trackers-of
+    trackers-of-requires
+    same-length
+    returns-3)
