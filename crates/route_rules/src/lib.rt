@@ -5,7 +5,8 @@ ghost use lib.ListN.{length};
 ghost use Rattle.text.specs.Area.{Filled};
 ghost use Rattle.report.specs.Report.{reportOn};
 ghost use Rattle.translation.specs.Answers.{answer};
-ghost use Rattle.translation.specs.Translated.{compiled, outcome, areaAfter};
+ghost use Rattle.classical.specs.Translation.{compiled};
+ghost use Rattle.translation.specs.Translated.{outcome, areaAfter};
 ghost use Rattle.route_rules.specs.Numbers.{number};
 use translation::Translated;
 

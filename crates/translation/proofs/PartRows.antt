@@ -17,8 +17,8 @@ use Rattle.task.proofs.Back.{effects-pass, kind-back}
 use Rattle.task.proofs.Bytes.{length-paired}
 use Rattle.task.proofs.Reading.{row-at, row-end, passes}
 use Rattle.task.proofs.Positions.{drop-next, drop-behind, tailRows, tail-stops, effects-stop}
-use Rattle.translation.specs.Translation.{holdsFact, lacksFact, alone, factS, factB, factC, normal, ended, metClause, allTrackers, sourceAction, endAction}
-use Rattle.translation.specs.Translation.{closing, collect, forgo, closings, allClosed}
+use Rattle.classical.specs.Translation.{holdsFact, lacksFact, alone, factS, factB, factC, normal, ended, metClause, allTrackers, sourceAction, endAction}
+use Rattle.classical.specs.Translation.{closing, collect, forgo, closings, allClosed}
 use Rattle.translation.specs.Writer.{Wrote, part}
 use Rattle.translation.specs.Places.{between, endAt, Starts}
 use Rattle.translation.specs.Rows.{singleRows}

@@ -13,7 +13,7 @@ use Rattle.task.proofs.Tests.{all-both, all-map, all-concat}
 use Rattle.task.proofs.Back.{fromGoal, task-grouped, condition-passes, effects-pass}
 use Rattle.task.proofs.Reading.{passes, Stops}
 use Rattle.task.proofs.Positions.{drop-behind, tailRows, tail-stops, preferences-stop}
-use Rattle.translation.specs.Translation.{holdsFact, alone, normal, ended, sourceAction, endAction, closings, allClosed, translated}
+use Rattle.classical.specs.Translation.{holdsFact, alone, normal, ended, sourceAction, endAction, closings, allClosed, translated}
 use Rattle.translation.specs.Writer.{Wrote, part}
 use Rattle.translation.specs.Places.{between, endAt, Noted}
 use Rattle.translation.specs.Rows.{singleRows}

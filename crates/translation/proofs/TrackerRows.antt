@@ -13,7 +13,7 @@ use Rattle.task.specs.Task.{Kind, always, sometime, at-end, at-most-once, somet
 use Rattle.task.specs.Task.{Row, row, kindMark, two-sided, literalRow, clauseRows, conditionRows, effectRows, preferenceRows}
 use Rattle.task.specs.File.{paired}
 use Rattle.task.specs.Rows.{valueAt}
-use Rattle.translation.specs.Translation.{holdsFact, lacksFact, deny, alone, effect, factS, factB, eachFalse, trackersOf}
+use Rattle.classical.specs.Translation.{holdsFact, lacksFact, deny, alone, effect, factS, factB, eachFalse, trackersOf}
 use Rattle.translation.specs.Writer.{Wrote, part}
 use Rattle.translation.specs.Places.{Located}
 use Rattle.translation.specs.declared.places.Sides.{Sides}

@@ -22,17 +22,17 @@ use Rattle.task.proofs.Tests.{tests}
 use Rattle.task.proofs.Bytes.{file-length}
 use Rattle.task.proofs.Walk.{refused≢accepted}
 use Rattle.task.proofs.Spelled.{Spelling, accepted-spelling}
-use Rattle.translation.specs.Translation.{translated, translatedSizes}
+use Rattle.classical.specs.Translation.{translated, compiled, compiledRows, translatedSizes}
 use Rattle.translation.specs.Writer.{rowBehind, putRows, Wrote}
 use Rattle.translation.specs.Whole.{header, Fitted, Fits}
-use Rattle.translation.specs.Translated.{written, refused, compiled, compiledRows, fitted, smallEnough, outcomeBy, outcome, areaAfter, Delivered}
+use Rattle.translation.specs.Translated.{written, refused, fitted, smallEnough, outcomeBy, outcome, areaAfter, Delivered}
 use Rattle.translation.specs.Translated
 use Rattle.translation.specs.Answers.{answer}
-use Rattle.translation.specs.Claim.{Faithful}
+use Rattle.classical.specs.Claim.{Faithful}
 use Rattle.translation.specs.declared.Translated.{Translated}
 use Rattle.translation.proofs.Putting.{whole-file}
-use Rattle.translation.proofs.Spellable.{translated-sizes}
-use Rattle.translation.proofs.Written.{Written, written as written-file}
+use Rattle.classical.proofs.Spellable.{translated-sizes}
+use Rattle.classical.proofs.Written.{Written, written as written-file}
 
 -- The header
 

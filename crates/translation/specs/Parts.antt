@@ -8,7 +8,7 @@ use Rattle.task.specs.Lists.{concatMap}
 use Rattle.task.specs.Marks.{ACTION, EFFECT, HOLDS, LACKS, ADD, DELETE, START}
 use Rattle.task.specs.Task.{Kind, Condition, Action, Preference, Row, row, clauseRows, conditionRows, effectRows, actionRows, preferenceRows, Task, taskRows}
 use Rattle.task.specs.File.{paired}
-use Rattle.translation.specs.Translation.{deny, alone, trackersOf, metClause, factC, normal, ended, allTrackers, sourceAction, closings, translated}
+use Rattle.classical.specs.Translation.{deny, alone, trackersOf, metClause, factC, normal, ended, allTrackers, sourceAction, closings, translated}
 use Rattle.translation.specs.Writer.{Wrote}
 use Rattle.translation.specs.Places.{Starts}
 use Rattle.translation.specs.Rows.{singleRows}

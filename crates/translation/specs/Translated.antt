@@ -5,24 +5,16 @@ use mathlib.Core.List.{List, _++_}
 use Prim.Native.Nat.{ℕ, _+_, _*_}
 use lib.Dec.{leb}
 use lib.ListN.{length, take, drop}
-use Rattle.task.specs.Task.{taskRows}
-use Rattle.task.specs.File.{Sizes, sizes, fileOf, taskOf}
+use Rattle.task.specs.File.{Sizes, sizes, taskOf}
 use Rattle.task.specs.Check
 use Rattle.task.specs.Check.{Answer, check}
-use Rattle.translation.specs.Translation.{translated, translatedSizes}
-use Rattle.translation.specs.Claim.{Faithful}
+use Rattle.classical.specs.Translation.{translatedSizes, compiledRows}
+use Rattle.classical.specs.Claim.{Faithful}
 
 -- the length written, or a refusal with a number and a place
 pub data Translated : Type 0 where
   written : ℕ → Translated
   refused : ℕ → ℕ → Translated
-
--- the file of the translation of the task in b
-abbrev pub compiled : List ℕ → List ℕ
-compiled b = fileOf (translated (taskOf b))
-
-abbrev pub compiledRows : List ℕ → ℕ
-compiledRows b = length (taskRows (translated (taskOf b)))
 
 -- a translation of n rows into an area of so many bytes
 abbrev pub fitted : ℕ → ℕ → Translated

@@ -5,7 +5,7 @@ use Prim.Native.Nat.{ℕ}
 use lib.ListN.{length}
 use Rattle.task.specs.Task.{Task, taskRows}
 use Rattle.task.specs.File.{paired, bytes16, fileOf}
-use Rattle.translation.specs.Translation.{translated}
+use Rattle.classical.specs.Translation.{translated}
 use Rattle.translation.specs.Writer.{rowBehind}
 use Rattle.translation.specs.Translated.{fitted, areaAfter}
 use Rattle.translation.specs.Answers.{answer}

@@ -6,7 +6,7 @@ ghost use lib.ListN.{length};
 ghost use Rattle.task.specs.Marks.{EFFECT, ADD};
 ghost use Rattle.task.specs.Task.{row, clauseRows, conditionRows};
 ghost use Rattle.task.specs.File.{kindOf};
-ghost use Rattle.translation.specs.Translation.{metClause};
+ghost use Rattle.classical.specs.Translation.{metClause};
 ghost use Rattle.translation.specs.Writer.{Wrote, part};
 ghost use Rattle.translation.specs.Parts.{WroteAt, WroteFor, sourceRows, endRows, missed, closedRows, closingHead, closingRows, preferenceClosings, ActsFor, ClosesFor};
 use super::places;

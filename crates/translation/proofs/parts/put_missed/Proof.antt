@@ -2,7 +2,7 @@ use mathlib.Core.Path.{sym, ap}
 use mathlib.Core.List.{map}
 use Prim.Native.Nat.{_+_}
 use Rattle.task.specs.Task.{Clause, conditionRows}
-use Rattle.translation.specs.Translation.{deny, alone}
+use Rattle.classical.specs.Translation.{deny, alone}
 use Rattle.translation.proofs.Putting.{then, as-rows}
 use Rattle.translation.proofs.PartRows.{met-lacks}
 use borrow.Author.Needs.{needs}

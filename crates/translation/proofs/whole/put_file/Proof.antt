@@ -1,7 +1,7 @@
 use denote.Ref.{now}
 use lib.ListN.{length}
 use Rattle.task.specs.Task.{taskRows}
-use Rattle.translation.specs.Translation.{translated}
+use Rattle.classical.specs.Translation.{translated}
 use Rattle.translation.proofs.Translating.{stays, too-many, no-room, room-enough, file-put}
 use borrow.Author.Needs.{needs}
 use Rattle.translation.proofs.whole.put_file.Statement.{statement}

@@ -1,0 +1,15 @@
+-- The trackers
+pub mod Conditions
+pub mod Trackers
+pub mod AllTrackers
+-- The translated task beside its source
+pub mod Actions
+pub mod Mirrors
+pub mod Applies
+pub mod Runs
+pub mod Plans
+pub mod Faithful
+-- Its file
+pub mod Spellable
+pub mod Written
+pub mod Examples
