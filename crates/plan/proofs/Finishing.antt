@@ -13,7 +13,6 @@ use Rattle.task.specs.Task.{Task, Preference}
 use Rattle.task.specs.Spelling.{preferenceSpellable}
 use Rattle.task.specs.Meaning.{State as Facts, isTrue, seen, preferenceAt}
 use Rattle.task.specs.Monitor.{Monitor, step}
-use Rattle.task.specs.Verdict
 use Rattle.task.specs.Verdict.{solved, goal-missed}
 use Rattle.task.proofs.Tests.{tests}
 use Rattle.state.specs.Member.{bit, member}

@@ -6,14 +6,14 @@ use Prim.Native.Nat.{ℕ, suc, _+_, _*_, _-_, _≤_, _<_}
 use native.Mathlib.Nat.{add-zero}
 use native.Mathlib.Numerals.{add-one}
 use native.Mathlib.Omega.{arith}
-use lib.Dec.{T, leb, ltb, leb→le}
-use lib.ListN.{length, take, drop, getD, drop-of-length-le, length-drop}
-use lib.Seq.{drop-cons, take-all}
+use lib.Dec.{T, ltb}
+use lib.ListN.{length, take, drop, getD, drop-of-length-le}
+use lib.Seq.{drop-cons}
 use borrow.Author.Tests.{le-leb, lt-leb, lt-ltb, le-ltb}
 use Rattle.task.specs.Lists.{all}
 use Rattle.task.specs.Task.{Task}
 use Rattle.task.specs.File
-use Rattle.task.specs.File.{sizes, paired, rows, taskOf}
+use Rattle.task.specs.File.{taskOf}
 use Rattle.task.specs.Check
 use Rattle.task.specs.Check.{check}
 use Rattle.task.specs.Verdict.{Verdict, verdict}
@@ -22,9 +22,9 @@ use Rattle.task.specs.declared.Sizes.{Sizes}
 use Rattle.task.specs.declared.Refusal.{Refusal}
 use Rattle.task.specs.declared.Checked.{Checked}
 use Rattle.task.specs.declared.Checked.the-variants.{Accepted, Refused}
-use Rattle.task.proofs.Tests.{tests, as-true}
-use Rattle.task.proofs.Walk.{refused≢accepted}
+use Rattle.task.proofs.Tests.{as-true}
 use Rattle.task.proofs.Spelled.{Spelling, accepted-spelling}
+use Rattle.task.proofs.Answered.{within, parts-spell}
 use Rattle.plan.specs.Judged.{Judged, given, refused, stepsKnown, judgedBy, judged}
 use Rattle.plan.specs.Reads.{Reads}
 
@@ -65,58 +65,36 @@ reads : (b : List ℕ) (z : File.Sizes) → check b ≡ Check.accepted z
     → Reads (taskOf b) (take (8 + z .rows - 8) (drop 8 b)) (take (length b - (8 + z .rows)) (drop (8 + z .rows) b))
 reads b z h =
     let s : Spelling b z = accepted-spelling b z h in
-    let facts : T (leb (z .facts) 128) = let a = s .allowed in search tests in
-    let prefs : T (leb (z .preferences) 16) = let a = s .allowed in search tests in
-    let count : 8 + z .rows - 8 ≡ z .rows = omega arith in
-    let n : z .rows ≡ sizes b .rows = ap (λ (x : File.Sizes). x .rows) (s .same) in
-    let tail : take (length b - (8 + z .rows)) (drop (8 + z .rows) b) ≡ drop (8 + z .rows) b =
-    take-all (length b - (8 + z .rows)) (drop (8 + z .rows) b) (omega (arith, length-drop (8 + z .rows) b)) in
+    let limits = within z (s .allowed) in
     record {
-      spelled =
-          (λ i. paired (take (count i) (drop 8 b)) (tail i))
-          ∙ ap (λ (m : ℕ). paired (take m (drop 8 b)) (drop (8 + m) b)) n
-          ∙ s .spelled;
+      spelled = parts-spell b z s;
       formed = s .formed;
       spelling = s .spelling;
-      few-facts = omega (arith, leb→le (z .facts) 128 facts, ap (λ (x : File.Sizes). x .facts) (s .sized));
-      few-preferences = omega (arith, leb→le (z .preferences) 16 prefs, ap (λ (x : File.Sizes). x .preferences) (s .sized));
+      few-facts = omega (arith, limits, ap (λ (x : File.Sizes). x .facts) (s .sized));
+      few-preferences = omega (arith, limits, ap (λ (x : File.Sizes). x .preferences) (s .sized));
     }
 
 -- What check answered
 
--- as judge passes it on
-abbrev passed-on : Check.Answer → Judged
-passed-on (Check.accepted z) = refused 0 0
-passed-on (Check.refused n i) = refused n i
-
-pub same-refusal : (r : Refusal) (n i : ℕ) → Check.refused (r .number) (r .place) ≡ Check.refused n i → refused (r .number) (r .place) ≡ refused n i
-same-refusal r n i e = ap passed-on e
-
-pub not-refused : (z : File.Sizes) (n i : ℕ) → Check.accepted z ≡ Check.refused n i → ⊥
-not-refused z n i e = refused≢accepted n i z (sym e)
-
 module _ (b p : List ℕ) (x : Checked) (e : checked x ≡ check b) where
-  by-check : judgedBy b p (checked x) ≡ judged b p
-  unfolding judged
-  by-check = ap (judgedBy b p) e
-
   -- a file that is not accepted: its refusal
   pub turned-down : (f : Refusal) → x ≡ Refused f → (r : Judged) → ((n i : ℕ) → checked x ≡ Check.refused n i → r ≡ refused n i) → r ≡ judged b p
-  turned-down f q r says =
-      says (f .number) (f .place) (ap checked q) ∙ sym (ap (λ (c : Checked). judgedBy b p (checked c)) q) ∙ by-check
+  unfolding judged
+  turned-down f q r says = says (f .number) (f .place) (ap checked q) ∙ ap (judgedBy b p) (sym (ap checked q) ∙ e)
 
   module _ (z : Sizes) (q : x ≡ Accepted z) where
-    on-task : judgedBy b p (Check.accepted (asSizes z)) ≡ judged b p
-    on-task = ap (λ (c : Checked). judgedBy b p (checked c)) (sym q) ∙ by-check
-
     accepted : check b ≡ Check.accepted (asSizes z)
     accepted = sym e ∙ ap checked q
+
+    on-task : judgedBy b p (Check.accepted (asSizes z)) ≡ judged b p
+    unfolding judged
+    on-task = ap (judgedBy b p) (sym accepted)
 
     pub exact : length b ≡ 8 + 5 * z .rows
     exact = accepted-spelling b (asSizes z) accepted .exact
 
     pub few : z .rows ≤ 12000
-    few = let a = accepted-spelling b (asSizes z) accepted .allowed in leb→le (z .rows) 12000 (search tests)
+    few = within (asSizes z) (accepted-spelling b (asSizes z) accepted .allowed) .0
 
     pub too-long : 2048 < length p → refused 10 0 ≡ judged b p
     too-long h = (rw (lt-leb (length p) 2048 h) at on-task)

@@ -16,7 +16,7 @@ use Rattle.task.specs.Meaning.{State as Facts, isTrue}
 use Rattle.task.proofs.Tests.{tests}
 use Rattle.task.proofs.Bytes.{length-paired}
 use Rattle.task.proofs.Parse.{one-sided-mark, two-sided-mark}
-use Rattle.task.proofs.Reading.{row-at, Stops}
+use Rattle.task.proofs.Reading.{mark-at, Stops}
 use Rattle.task.proofs.Positions.{drop-next, drop-behind, preferences-stop}
 use Rattle.state.specs.Conditions.{inCondition, start, evaluateAt}
 use Rattle.state.specs.declared.conditions.Evaluated.{Evaluated}
@@ -24,10 +24,6 @@ use Rattle.state.proofs.ConditionRows.{condition-at, condition-ends}
 use Rattle.plan.specs.declared.monitors.Sides.{Sides}
 use Rattle.plan.specs.Monitors.{Sees}
 use Rattle.plan.proofs.ByMark.{kind-past}
-
-abbrev pub headMark : List Row → ℕ
-headMark [] = 0
-headMark (x ∷ xs) = x .mark
 
 -- A preference's mark
 
@@ -62,7 +58,7 @@ module _ (ms vs : List ℕ) (σ : Facts) where
   module _ (i : ℕ) (h : i < length ms) (q : Preference) (qs : List Preference)
       (e : drop i (paired ms vs) ≡ concatMap preferenceRows (q ∷ qs)) (ok : T (preferenceSpellable q)) where
     pub mark-is : getD ms i 0 ≡ kindMark (q .kind)
-    mark-is = ap headMark (sym (row-at ms vs i h) ∙ e)
+    mark-is = mark-at ms vs i h e
 
     abbrev more : List Row
     more = concatMap preferenceRows qs

@@ -16,7 +16,7 @@ use Rattle.task.specs.File.{paired}
 use Rattle.task.specs.Rows.{runAt}
 use Rattle.task.proofs.Back.{condition-passes}
 use Rattle.task.proofs.Tests.{tests, noneOf, as-false}
-use Rattle.task.proofs.Reading.{row-at, passes, Stops, run-stop, run-through, goes-on, stops-at, ends-at}
+use Rattle.task.proofs.Reading.{mark-at, passes, Stops, run-stop, run-through, goes-on, stops-at, ends-at}
 use Rattle.task.proofs.Positions.{drop-next, drop-behind, preferences-stop}
 use Rattle.translation.specs.Writer.{part}
 use Rattle.translation.specs.Places.{between, endAt, Located}
@@ -26,11 +26,6 @@ still w x = w
 
 abbrev here : Unit {0} → ℕ → ℕ
 here w i = i
-
--- the mark of the first row
-abbrev headMark : List Row → ℕ
-headMark [] = 0
-headMark (x ∷ xs) = x .mark
 
 -- The loop
 
@@ -143,7 +138,7 @@ module _ (ms vs : List ℕ) (at : ℕ) (q : Preference) (qs : List Preference)
   pub located : at < length ms → Located ms vs at q qs (record { mid = mid; second = second; next = next })
   located h =
       record {
-        mark = ap headMark (sym (row-at ms vs at h) ∙ e);
+        mark = mark-at ms vs at h e;
         first = part-is ms vs (at + 1) mid (conditionRows (q .first)) (secondRows (two-sided (q .kind)) ++ more) behind-head mid-is;
         second = λ p. second-part (q .second) (behind-second true p);
         rest = rest-behind (cond (two-sided (q .kind)) (q .second) []) (behind-second (two-sided (q .kind)) refl);
