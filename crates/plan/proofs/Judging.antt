@@ -2,7 +2,7 @@
 use mathlib.Core.Path.{_≡_, refl, sym, ap, _∙_, subst⁻¹}
 use mathlib.Core.Bool.{Bool, true, false, cond, _&&_}
 use mathlib.Core.List.{List, [], _∷_}
-use Prim.Native.Nat.{ℕ, suc, _+_, _*_, _-_, _≤_, _<_}
+use Prim.Native.Nat.{ℕ, suc, _+_, _-_, _≤_, _<_}
 use native.Mathlib.Nat.{add-zero}
 use native.Mathlib.Numerals.{add-one}
 use native.Mathlib.Omega.{arith}
@@ -67,7 +67,7 @@ reads b z h =
     let s : Spelling b z = accepted-spelling b z h in
     let limits = within z (s .allowed) in
     record {
-      spelled = parts-spell b z s;
+      spelled = parts-spell b z h;
       formed = s .formed;
       spelling = s .spelling;
       few-facts = omega (arith, limits, ap (λ (x : File.Sizes). x .facts) (s .sized));
@@ -89,12 +89,6 @@ module _ (b p : List ℕ) (x : Checked) (e : checked x ≡ check b) where
     on-task : judgedBy b p (Check.accepted (asSizes z)) ≡ judged b p
     unfolding judged
     on-task = ap (judgedBy b p) (sym accepted)
-
-    pub exact : length b ≡ 8 + 5 * z .rows
-    exact = accepted-spelling b (asSizes z) accepted .exact
-
-    pub few : z .rows ≤ 12000
-    few = within (asSizes z) (accepted-spelling b (asSizes z) accepted .allowed) .0
 
     pub too-long : 2048 < length p → refused 10 0 ≡ judged b p
     too-long h = (rw (lt-leb (length p) 2048 h) at on-task)

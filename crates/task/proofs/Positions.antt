@@ -61,7 +61,8 @@ goal-behind t =
 
 -- Before the preferences no row has a preference's mark
 
-abbrev front : Task → List Row
+-- START, the goal and the actions
+abbrev pub front : Task → List Row
 front t = map (row START) (t .start) ++ (row GOAL 0 ∷ conditionRows (t .goal)) ++ concatMap actionRows (t .actions)
 
 action-no-preference : (a : Action) → T (noneOf isPreference (actionRows a))
@@ -70,7 +71,7 @@ action-no-preference a =
     (condition-passes (without isPreference) (λ v. tt) (λ v. tt) (λ v. tt) (a .precondition))
     (effects-pass (without isPreference) (λ v. tt) (λ v. tt) (λ v. tt) (λ v. tt) (λ v. tt) (λ v. tt) (a .effects))
 
-front-no-preference : (t : Task) → T (noneOf isPreference (front t))
+pub front-no-preference : (t : Task) → T (noneOf isPreference (front t))
 front-no-preference t =
     all-both (without isPreference) (map (row START) (t .start) ++ (row GOAL 0 ∷ conditionRows (t .goal))) (concatMap actionRows (t .actions))
     (all-both (without isPreference) (map (row START) (t .start)) (row GOAL 0 ∷ conditionRows (t .goal))

@@ -234,5 +234,5 @@ module _ (b area : List ℕ) (x : Checked) (e : checked x ≡ check b) where
     put h r out fits =
         let sized : asSizes z ≡ sizesOf (taskOf b) = sym (spelling .sized) in
         let f : Fitted (taskOf b) area r out =
-        fits (taskOf b) (parts-spell b (asSizes z) spelling) (ap (λ (y : File.Sizes). y .facts) sized) (ap (λ (y : File.Sizes). y .actions) sized) (ap (λ (y : File.Sizes). y .preferences) sized) in
+        fits (taskOf b) (parts-spell b (asSizes z) accepted) (ap (λ (y : File.Sizes). y .facts) sized) (ap (λ (y : File.Sizes). y .actions) sized) (ap (λ (y : File.Sizes). y .preferences) sized) in
         promised b area r out (f .answering ∙ (rw h at on-task)) (f .area)
