@@ -3,14 +3,11 @@ use mathlib.Core.Path.{_≡_, refl, sym, ap, _∙_, subst⁻¹}
 use mathlib.Core.Bool.{Bool, true, false, cond, _&&_}
 use mathlib.Core.List.{List, [], _∷_}
 use Prim.Native.Nat.{ℕ, suc, _+_, _-_, _≤_, _<_}
-use native.Mathlib.Nat.{add-zero}
-use native.Mathlib.Numerals.{add-one}
 use native.Mathlib.Omega.{arith}
-use lib.Dec.{T, ltb}
-use lib.ListN.{length, take, drop, getD, drop-of-length-le}
-use lib.Seq.{drop-cons}
-use borrow.Author.Tests.{le-leb, lt-leb, lt-ltb, le-ltb}
-use Rattle.task.specs.Lists.{all}
+use lib.Dec.{T, leb, ltb}
+use lib.ListN.{length, take, drop}
+use borrow.Author.Tests.{le-leb, lt-leb, lt-ltb, le-ltb, leb-true, leb-false}
+use Rattle.task.specs.Lists.{all, upTo}
 use Rattle.task.specs.Task.{Task}
 use Rattle.task.specs.File
 use Rattle.task.specs.File.{taskOf}
@@ -24,40 +21,29 @@ use Rattle.task.specs.declared.Checked.{Checked}
 use Rattle.task.specs.declared.Checked.the-variants.{Accepted, Refused}
 use Rattle.task.proofs.Tests.{as-true}
 use Rattle.task.proofs.Spelled.{Spelling, accepted-spelling}
-use Rattle.task.proofs.Answered.{within, parts-spell}
+use Rattle.task.proofs.Checking.{within}
+use Rattle.task.proofs.Answered.{parts-spell}
 use Rattle.plan.specs.Judged.{Judged, given, refused, stepsKnown, judgedBy, judged}
 use Rattle.plan.specs.Reads.{Reads}
-
--- Known steps
-
-module _ (A : ℕ) (p : List ℕ) (i : ℕ) where
-  pub known-here : i < length p → A ≤ getD p i 0 → i + stepsKnown A (drop i p) ≡ i
-  known-here h l = rw (drop-cons p i 0 h, le-ltb (getD p i 0) A l) (add-zero i)
-
-  pub known-on : i < length p → getD p i 0 < A → i + 1 + stepsKnown A (drop (i + 1) p) ≡ i + stepsKnown A (drop i p)
-  known-on h l = rw (drop-cons p i 0 h, lt-ltb (getD p i 0) A l, add-one) (omega arith)
-
-  pub known-end : length p ≤ i → i + stepsKnown A (drop i p) ≡ i
-  known-end h = rw (drop-of-length-le p {i = i} h) (add-zero i)
 
 -- all steps are known exactly where as many as there are stand before the first that is not
 all-known : (A : ℕ) (p : List ℕ) → length p ≤ stepsKnown A p → T (all (λ (k : ℕ). ltb k A) p)
 all-known A [] h = tt
-all-known A (k ∷ ks) h = go (ltb k A) refl h (all-known A ks)
+all-known A (k ∷ ks) h = go (leb A k) refl h (all-known A ks)
   where
-    go : (b : Bool) → ltb k A ≡ b → suc (length ks) ≤ cond b (suc (stepsKnown A ks)) 0
-        → (length ks ≤ stepsKnown A ks → T (all (λ (k : ℕ). ltb k A) ks)) → T (b && all (λ (k : ℕ). ltb k A) ks)
-    go true e h rest = rest (omega arith)
-    go false e h rest = absurd (omega arith)
+    go : (b : Bool) → leb A k ≡ b → suc (length ks) ≤ length (cond b [] (k ∷ upTo (leb A) ks))
+        → (length ks ≤ stepsKnown A ks → T (all (λ (k : ℕ). ltb k A) ks)) → T (ltb k A && all (λ (k : ℕ). ltb k A) ks)
+    go true e h rest = absurd (omega arith)
+    go false e h rest = rw (lt-ltb k A (leb-false A k e)) (rest (omega arith))
 
 not-all-known : (A : ℕ) (p : List ℕ) → stepsKnown A p < length p → all (λ (k : ℕ). ltb k A) p ≡ false
 not-all-known A [] h = absurd (omega arith)
-not-all-known A (k ∷ ks) h = go (ltb k A) h (not-all-known A ks)
+not-all-known A (k ∷ ks) h = go (leb A k) refl h (not-all-known A ks)
   where
-    go : (b : Bool) → cond b (suc (stepsKnown A ks)) 0 < suc (length ks)
-        → (stepsKnown A ks < length ks → all (λ (k : ℕ). ltb k A) ks ≡ false) → (b && all (λ (k : ℕ). ltb k A) ks) ≡ false
-    go true h rest = rest (omega arith)
-    go false h rest = refl
+    go : (b : Bool) → leb A k ≡ b → length (cond b [] (k ∷ upTo (leb A) ks)) < suc (length ks)
+        → (stepsKnown A ks < length ks → all (λ (k : ℕ). ltb k A) ks ≡ false) → (ltb k A && all (λ (k : ℕ). ltb k A) ks) ≡ false
+    go true e h rest = rw (le-ltb k A (leb-true A k e))
+    go false e h rest = rw (lt-ltb k A (leb-false A k e)) (rest (omega arith))
 
 -- The parts of an accepted file spell its task
 

@@ -1,12 +1,13 @@
 -- The text from the rows, and the text of the task that they spell.
 use mathlib.Core.Path.{_≡_, ap, _∙_, subst}
 use mathlib.Core.List.{List}
-use Prim.Native.Nat.{ℕ, _+_, _-_}
-use lib.ListN.{length, take, drop}
+use Prim.Native.Nat.{ℕ}
+use lib.ListN.{length}
 use Rattle.task.specs.Task.{Row, Task, taskRows}
-use Rattle.task.specs.File.{Sizes, taskOf, paired}
+use Rattle.task.specs.File.{Sizes, taskOf}
 use Rattle.task.specs.Check.{check, accepted}
 use Rattle.task.specs.Check
+use Rattle.task.proofs.Checking.{partsOf}
 use Rattle.task.proofs.Answered.{parts-spell}
 use Rattle.plan.specs.Judged.{Judged, judged}
 use Rattle.text.specs.Area.{Wrote, Filled}
@@ -27,7 +28,7 @@ reported b xs n j r out w =
 
 module _ (b p : List ℕ) (j : Judged) (q : j ≡ judged b p) (out : List ℕ) (r : ℕ) (out′ : List ℕ) where
   pub on-accepted : (z : Sizes) → check b ≡ accepted z
-      → Filled out (reportOfRows (paired (take (8 + z .rows - 8) (drop 8 b)) (take (length b - (8 + z .rows)) (drop (8 + z .rows) b))) (length p) j) r out′
+      → Filled out (reportOfRows (partsOf b z) (length p) j) r out′
       → Filled out (reportOn b p) r out′
   unfolding reportOn
   on-accepted z h =

@@ -11,13 +11,13 @@ use lib.Seq.{take-append-seam}
 use borrow.Author.Tests.{le-leb, lt-leb}
 use Rattle.task.specs.Lists.{all, concatMap}
 use Rattle.task.specs.Marks.{CLAUSE, LACKS, SECOND}
-use Rattle.task.specs.Task.{Kind, always, sometime, at-end, at-most-once, sometime-before, sometime-after, Condition, Preference, Row, row, kindMark, two-sided, conditionRows, preferenceRows}
+use Rattle.task.specs.Task.{Condition, Preference, Row, row, kindMark, two-sided, conditionRows, preferenceRows}
 use Rattle.task.specs.File.{paired}
 use Rattle.task.specs.Rows.{runAt}
 use Rattle.task.proofs.Back.{condition-passes}
-use Rattle.task.proofs.Tests.{tests, noneOf, as-false}
 use Rattle.task.proofs.Reading.{mark-at, passes, Stops, run-stop, run-through, goes-on, stops-at, ends-at}
 use Rattle.task.proofs.Positions.{drop-next, drop-behind, preferences-stop}
+pub use Rattle.task.proofs.Positions.{past-kinds}
 use Rattle.translation.specs.Writer.{part}
 use Rattle.translation.specs.Places.{between, endAt, Located}
 
@@ -60,15 +60,6 @@ part-is ms vs i j ys xs e p =
     rw (e, n) (take-append-seam ys xs)
 
 -- Preferences
-
--- no mark that opens a preference passes the test
-pub past-kinds : (p : ℕ → Bool) → T (noneOf p (10 ∷ 11 ∷ 12 ∷ 13 ∷ 14 ∷ 15 ∷ [])) → (k : Kind) → p (kindMark k) ≡ false
-past-kinds p t always = as-false (p 10) (search tests)
-past-kinds p t sometime = as-false (p 11) (search tests)
-past-kinds p t at-end = as-false (p 12) (search tests)
-past-kinds p t at-most-once = as-false (p 13) (search tests)
-past-kinds p t sometime-before = as-false (p 14) (search tests depth 10)
-past-kinds p t sometime-after = as-false (p 15) (search tests depth 10)
 
 pub condition-between : (c : Condition) → T (all (passes (between CLAUSE LACKS)) (conditionRows c))
 condition-between = condition-passes (passes (between CLAUSE LACKS)) (λ v. tt) (λ v. tt) (λ v. tt)

@@ -21,7 +21,8 @@ use Rattle.task.specs.declared.Checked.the-variants.{Accepted, Refused}
 use Rattle.task.proofs.Tests.{tests}
 use Rattle.task.proofs.Bytes.{file-length}
 use Rattle.task.proofs.Spelled.{Spelling, accepted-spelling}
-use Rattle.task.proofs.Answered.{same-refusal as passed-on, within as limits, parts-spell}
+use Rattle.task.proofs.Checking.{within as limits}
+use Rattle.task.proofs.Answered.{same-refusal as passed-on, parts-spell}
 pub use Rattle.task.proofs.Answered.{not-refused}
 use Rattle.translation.specs.Translation.{translated, translatedSizes}
 use Rattle.translation.specs.Writer.{rowBehind, putRows, Wrote}
