@@ -9,6 +9,8 @@ import os
 import struct
 import sys
 
+HERE = os.path.dirname(os.path.abspath(__file__))
+
 # Document 01's names of the marks 1 to 16.
 NAMES = ['ACTION', 'EFFECT', 'CLAUSE', 'HOLDS', 'LACKS', 'ADD', 'DELETE', 'GOAL', 'START', 'always', 'sometime', 'at-end',
          'at-most-once', 'sometime-before', 'sometime-after', 'SECOND']
@@ -273,23 +275,28 @@ def record(data):
     return struct.pack('<I', len(data)) + data
 
 
-def main(option=None):
-    made = list(vectors())
-    crate = os.path.join(os.path.dirname(os.path.abspath(__file__)), '../../crates/check_vectors')
-    for name, parts in [('data/vectors', [record(data) for _, data, _ in made]),
-                        ('stdout', [line.encode() + b'\n' for _, _, line in made])]:
-        path, at = os.path.normpath(os.path.join(crate, name)), 0
+def store(crate, option, lines, files):
+    """Writes a crate's files, or with an option only holds them to what they would be. Each vector has a part in each file, and a
+    line that says what it is, which --list prints."""
+    for name, parts in files.items():
+        path, at = os.path.normpath(os.path.join(HERE, '../../crates', crate, name)), 0
         if option is None:
             open(path, 'wb').write(b''.join(parts))
         stored = open(path, 'rb').read()
-        for part, (what, _, line) in zip(parts, made):
+        for part, line in zip(parts, lines):
             if not stored.startswith(part, at):
-                sys.exit(f'{path}: differs from byte {at} on, at the vector "{what}: {line}"')
+                sys.exit(f'{path}: differs from byte {at} on, at the vector "{line}"')
             at += len(part)
         if at < len(stored):
             sys.exit(f'{path}: goes on behind the last vector, from byte {at} on')
     if option == '--list':
-        print(*(f'{what}: {line}' for what, _, line in made), sep='\n')
+        print(*lines, sep='\n')
+
+
+def main(option=None):
+    made = list(vectors())
+    store('check_vectors', option, [f'{what}: {line}' for what, _, line in made],
+          {'data/vectors': [record(data) for _, data, _ in made], 'stdout': [line.encode() + b'\n' for _, _, line in made]})
 
 
 if __name__ == '__main__':

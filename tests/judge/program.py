@@ -5,15 +5,14 @@ tests/judge/program.py PROGRAM     PROGRAM is target/bin/judge
 """
 import os
 import runpy
-import subprocess
 import sys
-import tempfile
 
 HERE = os.path.dirname(os.path.abspath(__file__))
 ACCOUNT = runpy.run_path(os.path.join(HERE, '../check/vectors.py'))
 file, goal, BELT = ACCOUNT['file'], ACCOUNT['goal'], ACCOUNT['BELT']
+PROGRAMS = runpy.run_path(os.path.join(HERE, '../programs.py'))
+FOLDER, run = PROGRAMS['FOLDER'], PROGRAMS['run']
 
-FOLDER = None
 belt = file(BELT, F=2)
 longest = file(goal(12000))
 four_lines = 'solved steps 1 cost 3\n0 always 5 missed\n1 sometime 7 met\nmetric 8 utility 4\n'
@@ -40,25 +39,11 @@ CASES = [
 ]
 
 
-def run(program, files):
-    with tempfile.TemporaryDirectory() as folder:
-        for name, content in files.items():
-            path = os.path.join(folder, name)
-            if content is FOLDER:
-                os.mkdir(path)
-            else:
-                with open(path, 'wb') as out:
-                    out.write(content)
-        done = subprocess.run([program], cwd=folder, capture_output=True)
-        left = sorted(os.listdir(folder))
-    return done.stdout.decode(), done.stderr.decode(), left
-
-
 def main(program):
     for what, files, text in CASES:
-        got = run(os.path.abspath(program), files)
-        if got != (text, '', sorted(files)):
-            sys.exit(f'{what}: {got}, and not {text!r}')
+        got, errors, left = run(program, files)
+        if (got, errors, left) != (text, '', files):
+            sys.exit(f'{what}: {got!r} {errors!r}, and not {text!r}, or a file changed')
     print(f'program judge: {len(CASES)} cases as they should be')
 
 

@@ -27,7 +27,7 @@ import sys
 
 HERE = os.path.dirname(os.path.abspath(__file__))
 ACCOUNT = runpy.run_path(os.path.join(HERE, '../check/vectors.py'))
-check, file, record = ACCOUNT['check'], ACCOUNT['file'], ACCOUNT['record']
+check, file, record, store = ACCOUNT['check'], ACCOUNT['file'], ACCOUNT['record'], ACCOUNT['store']
 NAME, PREFERENCES, BELT = ACCOUNT['NAME'], ACCOUNT['PREFERENCES'], ACCOUNT['BELT']
 
 
@@ -50,22 +50,28 @@ def refusal(data, plan):
     return next((f'refused 11 {i}\n' for i, step in enumerate(plan) if step >= actions), '')
 
 
-def facts(t, data, plan):
-    """An accepted task and a plan as the facts that meaning.lp is given, t being the vector's number."""
-    yield f'fact({t},0..{data[0] - 1}). length({t},{len(plan)}).'
-    yield from (f'step({t},{i},{step}).' for i, step in enumerate(plan))
+def task_facts(data, t=''):
+    """An accepted task as facts for a logic program. t is what each has in front: nothing, or a vector's number and a comma."""
     a = e = k = c = -1  # the last action, effect, preference and clause; effects and clauses are numbered through the whole file
     condition = ''  # the one that clauses and literals belong to
     for name, value in rows(data):
         a, e, k, c = a + (name == 'ACTION'), e + (name == 'EFFECT'), k + (name in PREFERENCES), c + (name == 'CLAUSE')
         row = 'preference' if name in PREFERENCES else name
         opened = {'GOAL': 'goal', 'ACTION': f'pre({a})', 'EFFECT': f'when({a},{e})', 'preference': f'phi({k})', 'SECOND': f'psi({k})'}
-        condition = opened.get(row, condition)
-        says = {'START': f'start({t},{value}).', 'ACTION': f'action({t},{a},{value}).', 'EFFECT': f'effect({t},{a},{e}).',
-                'ADD': f'gives({t},{a},{e},holds,{value}).', 'DELETE': f'gives({t},{a},{e},lacks,{value}).',
-                'preference': f'preference({t},{k},"{name}",{value}).', 'CLAUSE': f'clause({t},{condition},{c}).',
-                'HOLDS': f'literal({t},{condition},{c},holds,{value}).', 'LACKS': f'literal({t},{condition},{c},lacks,{value}).'}
+        if row in opened:
+            condition = opened[row]
+            yield f'condition({t}{condition}).'
+        says = {'START': f'start({t}{value}).', 'ACTION': f'action({t}{a},{value}).', 'preference': f'preference({t}{k},"{name}",{value}).',
+                'ADD': f'gives({t}{a},{e},holds,{value}).', 'DELETE': f'gives({t}{a},{e},lacks,{value}).', 'CLAUSE': f'clause({t}{condition},{c}).',
+                'HOLDS': f'literal({t}{condition},{c},holds,{value}).', 'LACKS': f'literal({t}{condition},{c},lacks,{value}).'}
         yield says.get(row, '')
+
+
+def facts(t, data, plan):
+    """An accepted task and a plan as the facts that meaning.lp is given, t being the vector's number."""
+    yield f'fact({t},0..{data[0] - 1}). length({t},{len(plan)}).'
+    yield from (f'step({t},{i},{step}).' for i, step in enumerate(plan))
+    yield from task_facts(data, f'{t},')
 
 
 def derived(program):
@@ -353,22 +359,8 @@ def vectors():
 
 def main(option=None):
     made = list(vectors())
-    crate = os.path.normpath(os.path.join(HERE, '../../crates/judge_vectors'))
-    for name, parts in [('data/vectors', [record(data) + record(plan) for _, data, plan, _ in made]),
-                        ('stdout', [text.encode() for _, _, _, text in made])]:
-        path, at = os.path.join(crate, name), 0
-        if option is None:
-            os.makedirs(os.path.dirname(path), exist_ok=True)
-            open(path, 'wb').write(b''.join(parts))
-        stored = open(path, 'rb').read()
-        for part, (what, *_) in zip(parts, made):
-            if not stored.startswith(part, at):
-                sys.exit(f'{path}: differs from byte {at} on, at the vector "{what}"')
-            at += len(part)
-        if at < len(stored):
-            sys.exit(f'{path}: goes on behind the last vector, from byte {at} on')
-    if option == '--list':
-        print(*(f'{what}: {"|".join(text.splitlines())}' for what, _, _, text in made), sep='\n')
+    store('judge_vectors', option, [f'{what}: {"|".join(text.splitlines())}' for what, _, _, text in made],
+          {'data/vectors': [record(data) + record(plan) for _, data, plan, _ in made], 'stdout': [text.encode() for _, _, _, text in made]})
 
 
 if __name__ == '__main__':

@@ -20,13 +20,14 @@ import runpy
 import struct
 import subprocess
 import sys
-import tempfile
 
 HERE = os.path.dirname(os.path.abspath(__file__))
 ACCOUNT = runpy.run_path(os.path.join(HERE, '../check/vectors.py'))
 check, file, BELT = ACCOUNT['check'], ACCOUNT['file'], ACCOUNT['BELT']
 PREFERENCES, WITH_SECOND = ACCOUNT['PREFERENCES'], ACCOUNT['WITH_SECOND']
-rows = runpy.run_path(os.path.join(HERE, '../judge/vectors.py'))['rows']
+JUDGE = runpy.run_path(os.path.join(HERE, '../judge/vectors.py'))
+rows, task_facts = JUDGE['rows'], JUDGE['task_facts']
+run = runpy.run_path(os.path.join(HERE, '../programs.py'))['run']
 
 HORIZON = 5
 SIGNS = {'cheapest': 1, 'dearest': -1}
@@ -82,23 +83,6 @@ def words(data):
 
 # ---- the planner
 
-def facts(data):
-    """An accepted task as the facts that the logic programs are given."""
-    a = e = k = c = -1  # the last action, effect, preference and clause; effects and clauses are numbered through the whole file
-    condition = ''  # the one that clauses and literals belong to
-    for name, value in rows(data):
-        a, e, k, c = a + (name == 'ACTION'), e + (name == 'EFFECT'), k + (name in PREFERENCES), c + (name == 'CLAUSE')
-        row = 'preference' if name in PREFERENCES else name
-        opened = {'GOAL': 'goal', 'ACTION': f'pre({a})', 'EFFECT': f'when({a},{e})', 'preference': f'phi({k})', 'SECOND': f'psi({k})'}
-        if row in opened:
-            condition = opened[row]
-            yield f'condition({condition}).'
-        says = {'START': f'start({value}).', 'ACTION': f'action({a},{value}).', 'preference': f'preference({k},"{name}",{value}).',
-                'ADD': f'gives({a},{e},holds,{value}).', 'DELETE': f'gives({a},{e},lacks,{value}).', 'CLAUSE': f'clause({condition},{c}).',
-                'HOLDS': f'literal({condition},{c},holds,{value}).', 'LACKS': f'literal({condition},{c},lacks,{value}).'}
-        yield says.get(row, '')
-
-
 Solution = collections.namedtuple('Solution', 'total steps missed')
 
 
@@ -107,7 +91,7 @@ def plan(program, data, horizon, sign, steps=None):
     looked at. The total is the cost or the metric. Missed preferences are source.lp's alone."""
     given = [] if steps is None else [f':- not length({len(steps)}).', *(f':- not step({i},{step}).' for i, step in enumerate(steps))]
     gringo = subprocess.run(['gringo', '-c', f'horizon={horizon}', '-c', f'sign={sign}', os.path.join(HERE, program), '-'],
-                            input='\n'.join([*facts(data), *given]).encode(), stdout=subprocess.PIPE, check=True)
+                            input='\n'.join([*task_facts(data), *given]).encode(), stdout=subprocess.PIPE, check=True)
     clasp = subprocess.run(['clasp', '--quiet=1', '--outf=2'], input=gringo.stdout, stdout=subprocess.PIPE)
     answer = json.loads(clasp.stdout)
     if answer['Result'] == 'UNSATISFIABLE':
@@ -124,23 +108,14 @@ def plan(program, data, horizon, sign, steps=None):
 
 # ---- a task and its translation
 
-def translate(program, data):
-    """What the program prints, and the file compiled, or nothing where there is none."""
-    with tempfile.TemporaryDirectory() as folder:
-        task, compiled = os.path.join(folder, 'task'), os.path.join(folder, 'compiled')
-        with open(task, 'wb') as out:
-            out.write(data)
-        done = subprocess.run([program], cwd=folder, stdout=subprocess.PIPE)
-        return done.stdout.decode(), open(compiled, 'rb').read() if os.path.exists(compiled) else b''
-
-
 def difference(program, data):
     """What is wrong with the translation of a task, or nothing; and the lists found on the translation, by the names in SIGNS."""
     found = {}
-    printed, compiled = translate(program, data)
-    if printed:
-        return f'translate prints {printed!r}', found
+    printed, errors, files = run(program, dict(task=data))
+    if printed or errors:
+        return f'translate prints {printed + errors!r}', found
     f, a, p, _ = struct.unpack_from('<4H', data)
+    compiled = files.get('compiled', b'')
     line, sizes = check(compiled), f'accepted {f + 3 * p + 2} {a + 2 * p + 1} 0 '
     if not line.startswith(sizes):
         return f'the translation is {line}, and not {sizes}...', found
@@ -163,7 +138,7 @@ def difference(program, data):
 
 def main(program, count='120', seed='1'):
     print(f'{count} tasks, seed {seed}, at most {HORIZON} source steps')
-    program, r = os.path.abspath(program), random.Random(int(seed))
+    r = random.Random(int(seed))
     wrong, found = difference(program, file(BELT, F=2))
     if wrong or found['cheapest'] != Solution(8, [0, 2, 4, 5], []):
         sys.exit(f'the belt: {wrong or found}')

@@ -6,37 +6,17 @@ tests/translate/program.py PROGRAM     PROGRAM is target/bin/translate
 import os
 import runpy
 import struct
-import subprocess
 import sys
-import tempfile
 
 HERE = os.path.dirname(os.path.abspath(__file__))
 ACCOUNT = runpy.run_path(os.path.join(HERE, '../check/vectors.py'))
 check, file, goal, BELT = ACCOUNT['check'], ACCOUNT['file'], ACCOUNT['goal'], ACCOUNT['BELT']
+PROGRAMS = runpy.run_path(os.path.join(HERE, '../programs.py'))
+FOLDER, run = PROGRAMS['FOLDER'], PROGRAMS['run']
 
-FOLDER = None
 belt = file(BELT, F=2)
 longest = file(goal(12000))
 old = b'what stood there'
-
-
-def run(program, files):
-    """What the program writes on standard output and on standard error, and the files behind it."""
-    with tempfile.TemporaryDirectory() as folder:
-        for name, content in files.items():
-            path = os.path.join(folder, name)
-            if content is FOLDER:
-                os.mkdir(path)
-            else:
-                with open(path, 'wb') as out:
-                    out.write(content)
-        done = subprocess.run([program], cwd=folder, capture_output=True)
-        left = {}
-        for name in os.listdir(folder):
-            path = os.path.join(folder, name)
-            left[name] = FOLDER if os.path.isdir(path) else open(path, 'rb').read()
-    return done.stdout.decode(), done.stderr.decode(), left
-
 
 # What each case is for, its files, and what the program has to write; a refusal leaves all files as they were.
 REFUSED = [
@@ -55,7 +35,6 @@ REFUSED = [
 
 
 def main(program):
-    program = os.path.abspath(program)
     for what, files, line in REFUSED:
         got = run(program, files)
         if got != (line, '', files):

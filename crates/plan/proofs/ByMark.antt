@@ -4,10 +4,11 @@ use mathlib.Core.Bool.{Bool, true, false, not, cond}
 use Prim.Native.Nat.{ℕ}
 use lib.Dec.{eqb}
 use borrow.Author.Tests.{ne-eqb}
-use Rattle.task.specs.Marks.{ALWAYS, SOMETIME, AT-END, AT-MOST-ONCE, SOMETIME-BEFORE, SOMETIME-AFTER}
-use Rattle.task.specs.Task.{Kind, always, sometime, at-end, at-most-once, sometime-before, sometime-after, kindMark}
+use Rattle.task.specs.Marks.{ALWAYS, SOMETIME, AT-END, AT-MOST-ONCE, SOMETIME-BEFORE}
+use Rattle.task.specs.Task.{Kind, always, sometime-before, sometime-after, kindMark}
 use Rattle.task.specs.File.{kindOf}
 use Rattle.task.specs.Monitor.{Monitor, good}
+use Rattle.task.proofs.Positions.{past-kinds}
 use Rattle.state.specs.Conditions.{inCondition}
 use Rattle.state.specs.Effects.{inEffects}
 
@@ -27,17 +28,8 @@ good-without-B m x s e o = rw (ne-eqb m SOMETIME s, ne-eqb m AT-END e, ne-eqb m 
 
 -- Marks behind a condition, and behind effects
 
-kinds-past : (p : ℕ → Bool) → p ALWAYS ≡ false → p SOMETIME ≡ false → p AT-END ≡ false → p AT-MOST-ONCE ≡ false
-    → p SOMETIME-BEFORE ≡ false → p SOMETIME-AFTER ≡ false → (k : Kind) → p (kindMark k) ≡ false
-kinds-past p a s e o b f always = a
-kinds-past p a s e o b f sometime = s
-kinds-past p a s e o b f at-end = e
-kinds-past p a s e o b f at-most-once = o
-kinds-past p a s e o b f sometime-before = b
-kinds-past p a s e o b f sometime-after = f
-
 pub kind-past : (k : Kind) → inCondition (kindMark k) ≡ false
-kind-past = kinds-past inCondition refl refl refl refl refl refl
+kind-past = past-kinds inCondition tt
 
 pub kind-past-effects : (k : Kind) → inEffects (kindMark k) ≡ false
-kind-past-effects = kinds-past inEffects refl refl refl refl refl refl
+kind-past-effects = past-kinds inEffects tt

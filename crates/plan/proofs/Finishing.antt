@@ -1,4 +1,4 @@
--- The verdict behind the last step, and the verdict on a whole plan.
+-- The verdict behind the last step.
 use mathlib.Core.Path.{_≡_, refl, sym, ap, _∙_, fun-ext, subst⁻¹}
 use mathlib.Core.Bool.{Bool, true, false, cond}
 use mathlib.Core.List.{List, map}
@@ -13,7 +13,6 @@ use Rattle.task.specs.Task.{Task, Preference}
 use Rattle.task.specs.Spelling.{preferenceSpellable}
 use Rattle.task.specs.Meaning.{State as Facts, isTrue, seen, preferenceAt}
 use Rattle.task.specs.Monitor.{Monitor, step}
-use Rattle.task.specs.Verdict
 use Rattle.task.specs.Verdict.{solved, goal-missed}
 use Rattle.task.proofs.Tests.{tests}
 use Rattle.state.specs.Member.{bit, member}
@@ -68,7 +67,7 @@ module _ (t : Task) (ms vs : List ℕ) (R : Reads t ms vs) (p : Position) (μ : 
         (total-is (member set) μ′ ms vs at (t .preferences) prefs few have-seen)
 
     abbrev outcomes : List Bool
-    outcomes = map (isGood t μ′ (p .cost)) (t .preferences)
+    outcomes = map (isGood μ′) (t .preferences)
 
     -- the met preferences are the low word's bits, and it has no others
     bits : (x : ℕ) → bit (total .met .low) x ≡ getD outcomes x false
@@ -79,15 +78,15 @@ module _ (t : Task) (ms vs : List ℕ) (R : Reads t ms vs) (p : Position) (μ : 
         go false l =
             beyond-law 64 (total .met .low) x fits (ltb-false x 64 l)
             ∙ sym (List·getD-eq-default outcomes false {n = x}
-            (omega (arith, ltb-false x 64 l, few, length-map (t .preferences) (isGood t μ′ (p .cost)))))
+            (omega (arith, ltb-false x 64 l, few, length-map (t .preferences) (isGood μ′))))
 
     met-is : bit (w .met) ≡ (λ (x : ℕ). getD outcomes x false)
     met-is = ap bit (amounts .3) ∙ fun-ext bits
 
-    metric-is : w .metric ≡ p .cost + sum (map (λ (q : Preference). cond (isGood t μ′ (p .cost) q) 0 (q .weight)) (t .preferences))
+    metric-is : w .metric ≡ p .cost + sum (map (λ (q : Preference). cond (isGood μ′ q) 0 (q .weight)) (t .preferences))
     metric-is = amounts .1 ∙ ap (λ (n : ℕ). p .cost + n) (counted .lost)
 
-    utility-is : w .utility ≡ pos (sum (map (λ (q : Preference). cond (isGood t μ′ (p .cost) q) (q .weight) 0) (t .preferences))) -ℤ pos (p .cost)
+    utility-is : w .utility ≡ pos (sum (map (λ (q : Preference). cond (isGood μ′ q) (q .weight) 0) (t .preferences))) -ℤ pos (p .cost)
     utility-is = amounts .2 ∙ ap (λ (n : ℕ). pos n -ℤ pos (p .cost)) (counted .gained)
 
     pub solved-is : solved (w .cost) (w .metric) (w .utility) (bit (w .met)) ≡ lastVerdict t σ μ (p .cost)

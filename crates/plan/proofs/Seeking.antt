@@ -1,4 +1,4 @@
--- One row of the search for an action, and of the search for the preferences.
+-- One row of the search for an action, and one turn of a search for the first that passes a test.
 use mathlib.Core.Path.{_≡_, refl, sym, ap}
 use mathlib.Core.Bool.{Bool, true, false, cond, _&&_, true≢false}
 use mathlib.Core.List.{List, _∷_}
@@ -63,7 +63,7 @@ module _ (ms vs : List ℕ) (left i : ℕ) where
   unfolding seekAction
   nowhere h = rw (row-end ms vs i h)
 
--- Preferences: how many marks stand before the first that passes a test
+-- How many stand before the first that passes a test
 
 module _ (p : ℕ → Bool) (ms : List ℕ) (i : ℕ) where
   pub upTo-here : i < length ms → p (getD ms i 0) ≡ true → i + length (upTo p (drop i ms)) ≡ i

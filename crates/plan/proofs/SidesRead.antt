@@ -1,6 +1,6 @@
 -- The sides of a preference, read from the rows that spell it.
 use mathlib.Core.Path.{_≡_, refl, sym, ap, ap₂, _∙_, subst}
-use mathlib.Core.Bool.{Bool, true, false, cond, _||_}
+use mathlib.Core.Bool.{Bool, true, false, _||_}
 use mathlib.Core.List.{List, [], _∷_, _++_, append-assoc, append-nil}
 use Prim.Native.Nat.{ℕ, _+_, _≤_, _<_}
 use native.Mathlib.Omega.{arith}
@@ -15,8 +15,9 @@ use Rattle.task.specs.Spelling.{preferenceSpellable}
 use Rattle.task.specs.Meaning.{State as Facts, isTrue}
 use Rattle.task.proofs.Tests.{tests}
 use Rattle.task.proofs.Bytes.{length-paired}
+use Rattle.task.proofs.Back.{secondRows}
 use Rattle.task.proofs.Parse.{one-sided-mark, two-sided-mark}
-use Rattle.task.proofs.Reading.{row-at, Stops}
+use Rattle.task.proofs.Reading.{mark-at, Stops}
 use Rattle.task.proofs.Positions.{drop-next, drop-behind, preferences-stop}
 use Rattle.state.specs.Conditions.{inCondition, start, evaluateAt}
 use Rattle.state.specs.declared.conditions.Evaluated.{Evaluated}
@@ -24,10 +25,6 @@ use Rattle.state.proofs.ConditionRows.{condition-at, condition-ends}
 use Rattle.plan.specs.declared.monitors.Sides.{Sides}
 use Rattle.plan.specs.Monitors.{Sees}
 use Rattle.plan.proofs.ByMark.{kind-past}
-
-abbrev pub headMark : List Row → ℕ
-headMark [] = 0
-headMark (x ∷ xs) = x .mark
 
 -- A preference's mark
 
@@ -62,19 +59,15 @@ module _ (ms vs : List ℕ) (σ : Facts) where
   module _ (i : ℕ) (h : i < length ms) (q : Preference) (qs : List Preference)
       (e : drop i (paired ms vs) ≡ concatMap preferenceRows (q ∷ qs)) (ok : T (preferenceSpellable q)) where
     pub mark-is : getD ms i 0 ≡ kindMark (q .kind)
-    mark-is = ap headMark (sym (row-at ms vs i h) ∙ e)
+    mark-is = mark-at ms vs i h e
 
     abbrev more : List Row
     more = concatMap preferenceRows qs
 
-    second-rows : Bool → List Row
-    second-rows b = cond b (row SECOND 0 ∷ conditionRows (q .second)) []
-
-    behind-head : drop (i + 1) (paired ms vs) ≡ conditionRows (q .first) ++ (second-rows (two-sided (q .kind)) ++ more)
-    unfolding second-rows
+    behind-head : drop (i + 1) (paired ms vs) ≡ conditionRows (q .first) ++ (secondRows q ++ more)
     behind-head =
-        drop-next i (paired ms vs) (row (kindMark (q .kind)) (q .weight)) ((conditionRows (q .first) ++ second-rows (two-sided (q .kind))) ++ more) e
-        ∙ append-assoc (conditionRows (q .first)) (second-rows (two-sided (q .kind))) more
+        drop-next i (paired ms vs) (row (kindMark (q .kind)) (q .weight)) ((conditionRows (q .first) ++ secondRows q) ++ more) e
+        ∙ append-assoc (conditionRows (q .first)) (secondRows q) more
 
     -- what is to be read of the preference
     whole : Sides
@@ -83,16 +76,15 @@ module _ (ms vs : List ℕ) (σ : Facts) where
     abbrev first : Evaluated
     first = evaluateAt σ start ms vs (i + 1)
 
-    first-is : Stops inCondition (second-rows (two-sided (q .kind)) ++ more)
+    first-is : Stops inCondition (secondRows q ++ more)
         → first ≡ record { holds = isTrue σ (q .first); next = i + 1 + length (conditionRows (q .first)) }
-    first-is stop = condition-at σ ms vs (i + 1) (q .first) (second-rows (two-sided (q .kind)) ++ more) behind-head stop
+    first-is stop = condition-at σ ms vs (i + 1) (q .first) (secondRows q ++ more) behind-head stop
 
     module _ (one : two-sided (q .kind) ≡ false) where
       empty-second : q .second ≡ []
       empty-second = no-second (q .second) (subst (λ (b : Bool). T (b || isEmpty (q .second))) one (search tests))
 
-      stops-one : Stops inCondition (second-rows (two-sided (q .kind)) ++ more)
-      unfolding second-rows
+      stops-one : Stops inCondition (secondRows q ++ more)
       stops-one = rw one (preferences-stop inCondition kind-past qs)
 
       rows-one : i + 1 + length (conditionRows (q .first)) ≡ i + length (preferenceRows q)
@@ -105,18 +97,16 @@ module _ (ms vs : List ℕ) (σ : Facts) where
           ∙ (λ j. record { phi = isTrue σ (q .first); psi = sym (ap (isTrue σ) empty-second) j; next = rows-one j })
 
     module _ (two : two-sided (q .kind) ≡ true) where
-      stops-two : Stops inCondition (second-rows (two-sided (q .kind)) ++ more)
-      unfolding second-rows
+      stops-two : Stops inCondition (secondRows q ++ more)
       stops-two = rw two refl
 
       abbrev at : ℕ
       at = i + 1 + length (conditionRows (q .first))
 
       behind-second : drop (at + 1) (paired ms vs) ≡ conditionRows (q .second) ++ more
-      unfolding second-rows
       behind-second =
           drop-next at (paired ms vs) (row SECOND 0) (conditionRows (q .second) ++ more)
-          (drop-behind (i + 1) (paired ms vs) (conditionRows (q .first)) (second-rows (two-sided (q .kind)) ++ more) behind-head ∙ rw two)
+          (drop-behind (i + 1) (paired ms vs) (conditionRows (q .first)) (secondRows q ++ more) behind-head ∙ rw two)
 
       second-is : evaluateAt σ start ms vs (at + 1) ≡ record { holds = isTrue σ (q .second); next = at + 1 + length (conditionRows (q .second)) }
       second-is = condition-at σ ms vs (at + 1) (q .second) more behind-second (preferences-stop inCondition kind-past qs)

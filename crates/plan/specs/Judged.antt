@@ -1,10 +1,10 @@
 -- The judged plan: what judge answers on a task file and a plan, by document 01's 'Refused'.
 use mathlib.Core.Bool.{cond}
-use mathlib.Core.List.{List, [], _∷_}
-use Prim.Native.Nat.{ℕ, suc}
+use mathlib.Core.List.{List}
+use Prim.Native.Nat.{ℕ}
 use lib.Dec.{leb, ltb}
 use lib.ListN.{length}
-use Rattle.task.specs.Lists.{all}
+use Rattle.task.specs.Lists.{all, upTo}
 use Rattle.task.specs.File.{taskOf}
 use Rattle.task.specs.Check.{Answer, check}
 use Rattle.task.specs.Check
@@ -17,8 +17,7 @@ pub data Judged : Type 0 where
 
 -- how many steps stand before the first that is not below A
 abbrev pub stepsKnown : ℕ → List ℕ → ℕ
-stepsKnown A [] = 0
-stepsKnown A (k ∷ ks) = cond (ltb k A) (suc (stepsKnown A ks)) 0
+stepsKnown A p = length (upTo (leb A) p)
 
 -- a plan is judged on the task in b where check has accepted it
 abbrev pub judgedBy : List ℕ → List ℕ → Answer → Judged

@@ -43,16 +43,16 @@ abbrev pub Moves : List ℕ → List ℕ → ℕ → ℕ → Position → Moved 
 Moves ms vs at k p r =
     CostsLittle p r × ((t : Task) → Reads t ms vs → PreferencesAt t ms vs at → k < length (t .actions) → Moving t k p r)
 
--- The verdict on a plan whose goal holds, of cost c, by monitors that have seen all states
-module _ (t : Task) (μ : Preference → Monitor) (c : ℕ) where
-  abbrev pub isGood : Preference → Bool
-  isGood q = good (q .kind) (μ q)
+-- a preference is met, by monitors that have seen all states
+abbrev pub isGood : (Preference → Monitor) → Preference → Bool
+isGood μ q = good (q .kind) (μ q)
 
-  abbrev pub solvedBy : Verdict.Verdict
-  solvedBy =
-      Verdict.solved c (c + sum (map (λ (q : Preference). cond (isGood q) 0 (q .weight)) (t .preferences)))
-      (pos (sum (map (λ (q : Preference). cond (isGood q) (q .weight) 0) (t .preferences))) -ℤ pos c)
-      (λ (k : ℕ). getD (map isGood (t .preferences)) k false)
+-- the verdict on a plan whose goal holds, of cost c, by such monitors
+abbrev pub solvedBy : Task → (Preference → Monitor) → ℕ → Verdict.Verdict
+solvedBy t μ c =
+    Verdict.solved c (c + sum (map (λ (q : Preference). cond (isGood μ q) 0 (q .weight)) (t .preferences)))
+    (pos (sum (map (λ (q : Preference). cond (isGood μ q) (q .weight) 0) (t .preferences))) -ℤ pos c)
+    (λ (k : ℕ). getD (map (isGood μ) (t .preferences)) k false)
 
 -- the verdict behind the last step, in the last state σ, by monitors that have seen those before it
 abbrev pub lastVerdict : Task → Facts → (Preference → Monitor) → ℕ → Verdict.Verdict

@@ -1,17 +1,14 @@
 -- The text from the rows, and the text of the task that they spell.
 use mathlib.Core.Path.{_≡_, ap, _∙_, subst}
 use mathlib.Core.List.{List}
-use Prim.Native.Nat.{ℕ, _+_, _*_, _-_, _≤_}
-use native.Mathlib.Omega.{arith}
-use lib.Dec.{T, leb→le}
-use lib.ListN.{length, take, drop, length-drop}
-use lib.Seq.{take-all}
+use Prim.Native.Nat.{ℕ}
+use lib.ListN.{length}
 use Rattle.task.specs.Task.{Row, Task, taskRows}
-use Rattle.task.specs.File.{Sizes, taskOf, paired, rows}
-use Rattle.task.specs.Check.{check, accepted, sizesAllowed}
+use Rattle.task.specs.File.{Sizes, taskOf}
+use Rattle.task.specs.Check.{check, accepted}
 use Rattle.task.specs.Check
-use Rattle.task.proofs.Tests.{tests}
-use Rattle.task.proofs.Spelled.{Spelling, accepted-spelling}
+use Rattle.task.proofs.Checking.{partsOf}
+use Rattle.task.proofs.Answered.{parts-spell}
 use Rattle.plan.specs.Judged.{Judged, judged}
 use Rattle.text.specs.Area.{Wrote, Filled}
 use Rattle.text.proofs.Writing.{from-start}
@@ -29,35 +26,14 @@ reported b xs n j r out w =
 
 -- For a caller that has judged the plan p on the file b, and lends the two parts of the file
 
--- an accepted file of n rows: its parts are its rows
-pub record Lent (b : List ℕ) (n : ℕ) : Type 0 where
-  pub exact : length b ≡ 8 + 5 * n
-  pub few : n ≤ 12000
-  pub parts : paired (take (8 + n - 8) (drop 8 b)) (take (length b - (8 + n)) (drop (8 + n) b)) ≡ rows b
-
-pub lent : (b : List ℕ) (z : Sizes) → check b ≡ accepted z → Lent b (z .rows)
-lent b z h = build (accepted-spelling b z h)
-  where
-    build : Spelling b z → Lent b (z .rows)
-    build s =
-        let n : ℕ = z .rows in
-        let sizes-fine : T (sizesAllowed z) = s .allowed in
-        let e : 8 + n - 8 ≡ n = omega arith in
-        let short : length (drop (8 + n) b) ≤ length b - (8 + n) = omega (arith, length-drop (8 + n) b) in
-        record {
-          exact = s .exact;
-          few = leb→le n 12000 (search tests);
-          parts = rw (e, take-all (length b - (8 + n)) (drop (8 + n) b) short, s .same);
-        }
-
 module _ (b p : List ℕ) (j : Judged) (q : j ≡ judged b p) (out : List ℕ) (r : ℕ) (out′ : List ℕ) where
   pub on-accepted : (z : Sizes) → check b ≡ accepted z
-      → Filled out (reportOfRows (paired (take (8 + z .rows - 8) (drop 8 b)) (take (length b - (8 + z .rows)) (drop (8 + z .rows) b))) (length p) j) r out′
+      → Filled out (reportOfRows (partsOf b z) (length p) j) r out′
       → Filled out (reportOn b p) r out′
   unfolding reportOn
   on-accepted z h =
       subst (λ (l : List ℕ). Filled out l r out′)
-      (spelled-report (taskOf b) _ (lent b z h .parts ∙ accepted-spelling b z h .spelled) (length p) j
+      (spelled-report (taskOf b) _ (parts-spell b z h) (length p) j
       ∙ ap (reportOf (taskOf b) (length p)) q)
 
   -- no rows are read for a refused file

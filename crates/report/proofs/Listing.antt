@@ -1,49 +1,28 @@
 -- The lines that a loop over the rows writes.
 use mathlib.Core.Path.{_≡_, refl, sym, ap, _∙_}
-use mathlib.Core.Bool.{Bool, true, false, and-false}
+use mathlib.Core.Bool.{Bool}
 use mathlib.Core.List.{List, [], _++_, append-assoc, append-nil}
 use Prim.Native.Nat.{ℕ, _+_, _*_, _^_, _<_, _≤_}
-use native.Mathlib.Nat.{div-eq-of-lt, lt-of-lt-of-le}
 use native.Mathlib.Omega.{arith}
 use lib.ListN.{length, getD, drop}
-use lib.Pow.{pow-mono}
-use borrow.Author.Tests.{le-leb, lt-leb}
 use Rattle.task.specs.Task.{Row, row}
 use Rattle.task.specs.File.{paired, isPreference}
 use Rattle.task.specs.Check.{count}
 use Rattle.task.specs.Rows.{valueAt}
 use Rattle.task.proofs.Reading.{row-at, row-end}
 use Rattle.state.specs.Member.{bit, member}
-use Rattle.state.proofs.Bits.{zero-law}
+use Rattle.state.proofs.Bits.{zero-law, beyond-law}
 use Rattle.state.proofs.Words.{by-words}
 use Rattle.text.specs.Area.{Wrote}
 use Rattle.text.proofs.Writing.{then, no-bytes}
 use Rattle.report.specs.Rows.{rowLine, rowLines}
 
--- The met preferences
-
-no-high-bit : (w k : ℕ) → w < 2 ^ 64 → 64 ≤ k → bit w k ≡ false
-unfolding bit
-no-high-bit w k h l = rw (div-eq-of-lt (lt-of-lt-of-le h (pow-mono l)))
-
--- as the facts of a state whose second word is empty
+-- the met preferences, as the facts of a state whose second word is empty
 pub met-set : (w : ℕ) → w < 2 ^ 64 → member (record { low = w; high = 0 }) ≡ bit w
 met-set w h =
     by-words (record { low = w; high = 0 }) (bit w) (λ i k. refl)
-    (λ i k. zero-law i ∙ sym (no-high-bit w (64 + i) h (omega arith)))
-    (λ m k. no-high-bit w m h (omega arith))
-
--- One row
-
-module _ (m v : ℕ) where
-  pub opens : 10 ≤ m → m ≤ 15 → isPreference (row m v) ≡ true
-  opens a b = rw (le-leb 10 m a, le-leb m 15 b)
-
-  pub too-low : m < 10 → isPreference (row m v) ≡ false
-  too-low a = rw (lt-leb 10 m a)
-
-  pub too-high : 15 < m → isPreference (row m v) ≡ false
-  too-high b = rw (lt-leb m 15 b, and-false)
+    (λ i k. zero-law i ∙ sym (beyond-law 64 w (64 + i) h (omega arith)))
+    (λ m k. beyond-law 64 w m h (omega arith))
 
 -- The rows one after the other
 

@@ -7,10 +7,10 @@ use lib.Dec.{T}
 use lib.ListN.{length, drop, length-map}
 use lib.Seq.{drop-drop, drop-at}
 use Rattle.task.specs.Lists.{concatMap, upTo}
-use Rattle.task.specs.Marks.{ACTION, EFFECT, GOAL, START}
-use Rattle.task.specs.Task.{Kind, Effect, Action, Preference, Task, Row, row, kindMark, conditionRows, effectRows, actionRows, preferenceRows, taskRows}
+use Rattle.task.specs.Marks.{ACTION, EFFECT, GOAL, START, ALWAYS, SOMETIME, AT-END, AT-MOST-ONCE, SOMETIME-BEFORE, SOMETIME-AFTER}
+use Rattle.task.specs.Task.{Kind, always, sometime, at-end, at-most-once, sometime-before, sometime-after, Effect, Action, Preference, Task, Row, row, kindMark, conditionRows, effectRows, actionRows, preferenceRows, taskRows}
 use Rattle.task.specs.File.{isPreference}
-use Rattle.task.proofs.Tests.{noneOf, without, all-both, all-map, all-concat, upTo-none, as-true}
+use Rattle.task.proofs.Tests.{tests, noneOf, without, all-both, all-map, all-concat, upTo-none, as-true, as-false}
 use Rattle.task.proofs.Back.{fromGoal, task-grouped, condition-passes, effects-pass, kind-passes}
 use Rattle.task.proofs.Reading.{Stops}
 
@@ -30,6 +30,16 @@ pub behind-drop : (rows : List Row) (n : ℕ) (ys : List Row) → Behind rows n 
 behind-drop rows n ys (xs, e, l) = ap (drop n) e ∙ drop-at xs ys n l
 
 -- What may stand behind a condition, and behind effects
+
+-- no mark that opens a preference passes the test
+pub past-kinds : (p : ℕ → Bool) → T (noneOf p (ALWAYS ∷ SOMETIME ∷ AT-END ∷ AT-MOST-ONCE ∷ SOMETIME-BEFORE ∷ SOMETIME-AFTER ∷ []))
+    → (k : Kind) → p (kindMark k) ≡ false
+past-kinds p t always = as-false (p ALWAYS) (search tests)
+past-kinds p t sometime = as-false (p SOMETIME) (search tests)
+past-kinds p t at-end = as-false (p AT-END) (search tests)
+past-kinds p t at-most-once = as-false (p AT-MOST-ONCE) (search tests)
+past-kinds p t sometime-before = as-false (p SOMETIME-BEFORE) (search tests depth 10)
+past-kinds p t sometime-after = as-false (p SOMETIME-AFTER) (search tests depth 10)
 
 abbrev pub tailRows : List Action → List Preference → List Row
 tailRows l qs = concatMap actionRows l ++ concatMap preferenceRows qs
@@ -61,7 +71,8 @@ goal-behind t =
 
 -- Before the preferences no row has a preference's mark
 
-abbrev front : Task → List Row
+-- START, the goal and the actions
+abbrev pub front : Task → List Row
 front t = map (row START) (t .start) ++ (row GOAL 0 ∷ conditionRows (t .goal)) ++ concatMap actionRows (t .actions)
 
 action-no-preference : (a : Action) → T (noneOf isPreference (actionRows a))
@@ -70,7 +81,7 @@ action-no-preference a =
     (condition-passes (without isPreference) (λ v. tt) (λ v. tt) (λ v. tt) (a .precondition))
     (effects-pass (without isPreference) (λ v. tt) (λ v. tt) (λ v. tt) (λ v. tt) (λ v. tt) (λ v. tt) (a .effects))
 
-front-no-preference : (t : Task) → T (noneOf isPreference (front t))
+pub front-no-preference : (t : Task) → T (noneOf isPreference (front t))
 front-no-preference t =
     all-both (without isPreference) (map (row START) (t .start) ++ (row GOAL 0 ∷ conditionRows (t .goal))) (concatMap actionRows (t .actions))
     (all-both (without isPreference) (map (row START) (t .start)) (row GOAL 0 ∷ conditionRows (t .goal))

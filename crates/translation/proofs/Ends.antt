@@ -11,13 +11,12 @@ use lib.Seq.{take-append-seam}
 use borrow.Author.Tests.{le-leb, lt-leb}
 use Rattle.task.specs.Lists.{all, concatMap}
 use Rattle.task.specs.Marks.{CLAUSE, LACKS, SECOND}
-use Rattle.task.specs.Task.{Kind, always, sometime, at-end, at-most-once, sometime-before, sometime-after, Condition, Preference, Row, row, kindMark, two-sided, conditionRows, preferenceRows}
+use Rattle.task.specs.Task.{Condition, Preference, Row, row, kindMark, two-sided, conditionRows, preferenceRows}
 use Rattle.task.specs.File.{paired}
 use Rattle.task.specs.Rows.{runAt}
 use Rattle.task.proofs.Back.{condition-passes}
-use Rattle.task.proofs.Tests.{tests, noneOf, as-false}
-use Rattle.task.proofs.Reading.{row-at, passes, Stops, run-stop, run-through, goes-on, stops-at, ends-at}
-use Rattle.task.proofs.Positions.{drop-next, drop-behind, preferences-stop}
+use Rattle.task.proofs.Reading.{mark-at, passes, Stops, run-stop, run-through, goes-on, stops-at, ends-at}
+use Rattle.task.proofs.Positions.{drop-next, drop-behind, preferences-stop, past-kinds}
 use Rattle.translation.specs.Writer.{part}
 use Rattle.translation.specs.Places.{between, endAt, Located}
 
@@ -26,11 +25,6 @@ still w x = w
 
 abbrev here : Unit {0} → ℕ → ℕ
 here w i = i
-
--- the mark of the first row
-abbrev pub headMark : List Row → ℕ
-headMark [] = 0
-headMark (x ∷ xs) = x .mark
 
 -- The loop
 
@@ -65,15 +59,6 @@ part-is ms vs i j ys xs e p =
     rw (e, n) (take-append-seam ys xs)
 
 -- Preferences
-
--- no mark that opens a preference passes the test
-pub past-kinds : (p : ℕ → Bool) → T (noneOf p (10 ∷ 11 ∷ 12 ∷ 13 ∷ 14 ∷ 15 ∷ [])) → (k : Kind) → p (kindMark k) ≡ false
-past-kinds p t always = as-false (p 10) (search tests)
-past-kinds p t sometime = as-false (p 11) (search tests)
-past-kinds p t at-end = as-false (p 12) (search tests)
-past-kinds p t at-most-once = as-false (p 13) (search tests)
-past-kinds p t sometime-before = as-false (p 14) (search tests depth 10)
-past-kinds p t sometime-after = as-false (p 15) (search tests depth 10)
 
 pub condition-between : (c : Condition) → T (all (passes (between CLAUSE LACKS)) (conditionRows c))
 condition-between = condition-passes (passes (between CLAUSE LACKS)) (λ v. tt) (λ v. tt) (λ v. tt)
@@ -143,7 +128,7 @@ module _ (ms vs : List ℕ) (at : ℕ) (q : Preference) (qs : List Preference)
   pub located : at < length ms → Located ms vs at q qs (record { mid = mid; second = second; next = next })
   located h =
       record {
-        mark = ap headMark (sym (row-at ms vs at h) ∙ e);
+        mark = mark-at ms vs at h e;
         first = part-is ms vs (at + 1) mid (conditionRows (q .first)) (secondRows (two-sided (q .kind)) ++ more) behind-head mid-is;
         second = λ p. second-part (q .second) (behind-second true p);
         rest = rest-behind (cond (two-sided (q .kind)) (q .second) []) (behind-second (two-sided (q .kind)) refl);

@@ -15,8 +15,8 @@ use Rattle.task.specs.File.{paired, kindOf}
 use Rattle.task.specs.Rows.{valueAt}
 use Rattle.task.proofs.Back.{effects-pass, kind-back}
 use Rattle.task.proofs.Bytes.{length-paired}
-use Rattle.task.proofs.Reading.{row-at, row-end, passes}
-use Rattle.task.proofs.Positions.{drop-next, drop-behind, tailRows, tail-stops, effects-stop}
+use Rattle.task.proofs.Reading.{row-at, mark-at, passes}
+use Rattle.task.proofs.Positions.{drop-next, drop-behind, tailRows, tail-stops, effects-stop, past-kinds}
 use Rattle.classical.specs.Translation.{holdsFact, lacksFact, alone, factS, factB, factC, normal, ended, metClause, allTrackers, sourceAction, endAction}
 use Rattle.classical.specs.Translation.{closing, collect, forgo, closings, allClosed}
 use Rattle.translation.specs.Writer.{Wrote, part}
@@ -24,7 +24,7 @@ use Rattle.translation.specs.Places.{between, endAt, Starts}
 use Rattle.translation.specs.Rows.{singleRows}
 use Rattle.translation.specs.Parts.{allTrackerRows, sourceRows, endRows, missed, closingRows, preferenceClosings, closedRows}
 use Rattle.translation.proofs.Putting.{Onward, then, wrote-none, wrote-full, as-rows}
-use Rattle.translation.proofs.Ends.{headMark, end-behind, part-is, past-kinds, condition-between}
+use Rattle.translation.proofs.Ends.{end-behind, part-is, condition-between}
 use Rattle.translation.proofs.TrackerRows.{concat-from, rows-append, effects-append}
 
 -- The met clause by a mark
@@ -187,9 +187,8 @@ pub as-read : (ms vs : List ℕ) (at : ℕ) (first : Bool) (s E : ℕ) (q : Pref
     ++ closingRows v first s E (conditionRows (missed s (s + 1) (kindOf (getD ms at 0))))
     ≡ preferenceClosings first s E q
 as-read ms vs at first s E q qs e h v value =
-    let here : row (getD ms at 0) (valueAt vs at) ∷ drop (at + 1) (paired ms vs) ≡ concatMap preferenceRows (q ∷ qs) = sym (row-at ms vs at h) ∙ e in
-    let kind : kindOf (getD ms at 0) ≡ q .kind = ap kindOf (ap headMark here) ∙ kind-back (q .kind) in
-    let weight : v ≡ q .weight = value ∙ ap headValue here in
+    let kind : kindOf (getD ms at 0) ≡ q .kind = ap kindOf (mark-at ms vs at h e) ∙ kind-back (q .kind) in
+    let weight : v ≡ q .weight = value ∙ ap headValue (sym (row-at ms vs at h) ∙ e) in
     (λ z. closingRows 0 first s E (clauseRows (metClause s (s + 1) (kind z)))
     ++ closingRows (weight z) first s E (conditionRows (missed s (s + 1) (kind z))))
 

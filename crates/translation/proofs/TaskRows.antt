@@ -12,14 +12,14 @@ use Rattle.task.specs.File.{paired}
 use Rattle.task.proofs.Tests.{all-both, all-map, all-concat}
 use Rattle.task.proofs.Back.{fromGoal, task-grouped, condition-passes, effects-pass}
 use Rattle.task.proofs.Reading.{passes, Stops}
-use Rattle.task.proofs.Positions.{drop-behind, tailRows, tail-stops, preferences-stop}
+use Rattle.task.proofs.Positions.{drop-behind, tailRows, tail-stops, preferences-stop, past-kinds}
 use Rattle.classical.specs.Translation.{holdsFact, alone, normal, ended, sourceAction, endAction, closings, allClosed, translated}
 use Rattle.translation.specs.Writer.{Wrote, part}
 use Rattle.translation.specs.Places.{between, endAt, Noted}
 use Rattle.translation.specs.Rows.{singleRows}
 use Rattle.translation.specs.Parts.{AllActsFor, openingRows, closedRows, WroteTask}
 use Rattle.translation.proofs.Putting.{then, as-rows}
-use Rattle.translation.proofs.Ends.{end-behind, part-is, past-kinds, condition-between}
+use Rattle.translation.proofs.Ends.{end-behind, part-is, condition-between}
 use Rattle.translation.proofs.TrackerRows.{concat-append, rows-append}
 use Rattle.translation.proofs.PartRows.{end-is, closed-is}
 

@@ -17,11 +17,10 @@ use Rattle.classical.specs.Translation.{holdsFact, lacksFact, deny, alone, effe
 use Rattle.translation.specs.Writer.{Wrote, part}
 use Rattle.translation.specs.Places.{Located}
 use Rattle.translation.specs.declared.places.Sides.{Sides}
-use Rattle.task.proofs.Reading.{row-at}
+use Rattle.task.proofs.Reading.{mark-at}
 use Rattle.translation.specs.Rows.{changeRows, guardRows, closeRows, falseRow, falseRows, onceRows, beforeRows, afterRows, trackerRows}
 use Rattle.translation.specs.Parts.{preferenceTrackers, allTrackerRows}
 use Rattle.translation.proofs.Putting.{Onward, next-row, no-row}
-use Rattle.translation.proofs.Ends.{headMark}
 
 -- The loop over the rows of φ
 
@@ -202,7 +201,7 @@ module _ (ms vs : List ℕ) (at : ℕ) (last : Bool) (s : ℕ) (q : Preference) 
     (e : drop at (paired ms vs) ≡ concatMap preferenceRows (q ∷ qs)) where
   -- at-end has no trackers but in end
   pub not-yet : at < length ms → eqb (getD ms at 0) AT-END && not last ≡ true → [] ≡ preferenceTrackers last s q
-  not-yet h t = go (q .kind) last (ap (λ (m : ℕ). eqb m AT-END && not last) (sym (ap headMark (sym (row-at ms vs at h) ∙ e))) ∙ t)
+  not-yet h t = go (q .kind) last (ap (λ (m : ℕ). eqb m AT-END && not last) (sym (mark-at ms vs at h e)) ∙ t)
     where
       go : (k : Kind) (l : Bool) → eqb (kindMark k) AT-END && not l ≡ true → [] ≡ concatMap effectRows (trackersOf k l s (s + 1) (q .first) (q .second))
       go at-end false p = refl

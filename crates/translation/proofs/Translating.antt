@@ -5,12 +5,12 @@ use mathlib.Core.List.{List, _++_}
 use Prim.Native.Nat.{ℕ, _+_, _*_, _-_, _≤_, _<_}
 use native.Mathlib.Omega.{arith}
 use lib.Dec.{T, leb, leb→le}
-use lib.ListN.{length, take, drop, length-drop}
-use lib.Seq.{sets, sets-eq, length-sets, take-all, take-at, drop-append-add, drop-drop}
+use lib.ListN.{length, take, drop}
+use lib.Seq.{sets, sets-eq, length-sets, take-at, drop-append-add, drop-drop}
 use borrow.Author.Tests.{le-leb, lt-leb, leb-true}
 use Rattle.task.specs.Task.{Task, Row, taskRows}
 use Rattle.task.specs.File
-use Rattle.task.specs.File.{sizes, sizesOf, paired, taskOf, bytes16, fileOf}
+use Rattle.task.specs.File.{sizesOf, taskOf, bytes16, fileOf}
 use Rattle.task.specs.Check
 use Rattle.task.specs.Check.{check}
 use Rattle.task.specs.Answers.{answer as checked, asSizes}
@@ -20,8 +20,9 @@ use Rattle.task.specs.declared.Checked.{Checked}
 use Rattle.task.specs.declared.Checked.the-variants.{Accepted, Refused}
 use Rattle.task.proofs.Tests.{tests}
 use Rattle.task.proofs.Bytes.{file-length}
-use Rattle.task.proofs.Walk.{refused≢accepted}
 use Rattle.task.proofs.Spelled.{Spelling, accepted-spelling}
+use Rattle.task.proofs.Checking.{within as limits}
+use Rattle.task.proofs.Answered.{same-refusal as passed-on, parts-spell}
 use Rattle.classical.specs.Translation.{translated, compiled, compiledRows, translatedSizes}
 use Rattle.translation.specs.Writer.{rowBehind, putRows, Wrote}
 use Rattle.translation.specs.Whole.{header, Fitted, Fits}
@@ -121,16 +122,8 @@ module _ (t : Task) (F A P : ℕ) (facts : F ≡ t .facts) (acts : A ≡ length 
 
 -- What check answered
 
--- as translate passes it on
-abbrev passed-on : Check.Answer → Translated.Translated
-passed-on (Check.accepted z) = refused 0 0
-passed-on (Check.refused n i) = refused n i
-
 pub same-refusal : (r : Refusal) (n i : ℕ) → Check.refused (r .number) (r .place) ≡ Check.refused n i → refused (r .number) (r .place) ≡ refused n i
-same-refusal r n i e = ap passed-on e
-
-pub not-refused : (z : File.Sizes) (n i : ℕ) → Check.accepted z ≡ Check.refused n i → ⊥
-not-refused z n i e = refused≢accepted n i z (sym e)
+same-refusal = passed-on refused
 
 -- Demand 3
 
@@ -198,26 +191,23 @@ promised b area r out e f = (
 )
 
 module _ (b area : List ℕ) (x : Checked) (e : checked x ≡ check b) where
-  by-check : outcomeBy b (length area) (checked x) ≡ outcome b (length area)
-  unfolding outcome
-  by-check = ap (outcomeBy b (length area)) e
-
   -- a refusal leaves the area as it was
   refuses : (r : Translated) (k i : ℕ) → answer r ≡ refused k i → refused k i ≡ outcome b (length area) → Promised b area r area
   refuses r k i p q = promised b area r area (p ∙ q) (sym (ap (areaAfter (compiled b) area) p))
 
   pub turned-down : (f : Refusal) → x ≡ Refused f → (r : Translated) → ((n i : ℕ) → checked x ≡ Check.refused n i → answer r ≡ refused n i)
       → Promised b area r area
+  unfolding outcome
   turned-down f q r says =
-      refuses r (f .number) (f .place) (says (f .number) (f .place) (ap checked q))
-      (sym (ap (λ (c : Checked). outcomeBy b (length area) (checked c)) q) ∙ by-check)
+      refuses r (f .number) (f .place) (says (f .number) (f .place) (ap checked q)) (ap (outcomeBy b (length area)) (sym (ap checked q) ∙ e))
 
   module _ (z : Sizes) (q : x ≡ Accepted z) where
-    on-task : outcomeBy b (length area) (Check.accepted (asSizes z)) ≡ outcome b (length area)
-    on-task = ap (λ (c : Checked). outcomeBy b (length area) (checked c)) (sym q) ∙ by-check
-
     accepted : check b ≡ Check.accepted (asSizes z)
     accepted = sym e ∙ ap checked q
+
+    on-task : outcomeBy b (length area) (Check.accepted (asSizes z)) ≡ outcome b (length area)
+    unfolding outcome
+    on-task = ap (outcomeBy b (length area)) (sym accepted)
 
     spelling : Spelling b (asSizes z)
     spelling = accepted-spelling b (asSizes z) accepted
@@ -226,13 +216,7 @@ module _ (b area : List ℕ) (x : Checked) (e : checked x ≡ check b) where
     exact = spelling .exact
 
     pub within : (z .rows ≤ 12000) × (1 ≤ z .facts) × (z .facts ≤ 128) × (z .actions ≤ 128) × (z .preferences ≤ 16)
-    within = let a = spelling .allowed in (
-      leb→le (z .rows) 12000 (search tests),
-      leb→le 1 (z .facts) (search tests),
-      leb→le (z .facts) 128 (search tests),
-      leb→le (z .actions) 128 (search tests),
-      leb→le (z .preferences) 16 (search tests),
-    )
+    within = limits (asSizes z) (spelling .allowed)
 
     pub too-large : smallEnough (asSizes z) ≡ false → (r : Translated) → answer r ≡ refused 7 0 → Promised b area r area
     too-large h r p = refuses r 7 0 p (rw h at on-task)
@@ -244,21 +228,11 @@ module _ (b area : List ℕ) (x : Checked) (e : checked x ≡ check b) where
           leb→le (z .actions + 2 * z .preferences + 1) 128 (search tests),
         )
 
-    parts-spell : paired (take (8 + z .rows - 8) (drop 8 b)) (take (length b - (8 + z .rows)) (drop (8 + z .rows) b)) ≡ taskRows (taskOf b)
-    parts-spell =
-        let count : 8 + z .rows - 8 ≡ z .rows = omega arith in
-        let m : z .rows ≡ sizes b .rows = ap (λ (y : File.Sizes). y .rows) (spelling .same) in
-        let tail : take (length b - (8 + z .rows)) (drop (8 + z .rows) b) ≡ drop (8 + z .rows) b =
-        take-all (length b - (8 + z .rows)) (drop (8 + z .rows) b) (omega (arith, length-drop (8 + z .rows) b)) in
-        (λ i. paired (take (count i) (drop 8 b)) (tail i))
-        ∙ ap (λ (k : ℕ). paired (take k (drop 8 b)) (drop (8 + k) b)) m
-        ∙ spelling .spelled
-
     pub put : smallEnough (asSizes z) ≡ true → (r : Translated) (out : List ℕ)
         → Fits (take (8 + z .rows - 8) (drop 8 b)) (take (length b - (8 + z .rows)) (drop (8 + z .rows) b)) (z .facts) (z .actions) (z .preferences) area r out
         → Promised b area r out
     put h r out fits =
         let sized : asSizes z ≡ sizesOf (taskOf b) = sym (spelling .sized) in
         let f : Fitted (taskOf b) area r out =
-        fits (taskOf b) parts-spell (ap (λ (y : File.Sizes). y .facts) sized) (ap (λ (y : File.Sizes). y .actions) sized) (ap (λ (y : File.Sizes). y .preferences) sized) in
+        fits (taskOf b) (parts-spell b (asSizes z) accepted) (ap (λ (y : File.Sizes). y .facts) sized) (ap (λ (y : File.Sizes). y .actions) sized) (ap (λ (y : File.Sizes). y .preferences) sized) in
         promised b area r out (f .answering ∙ (rw h at on-task)) (f .area)

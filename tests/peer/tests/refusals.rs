@@ -9,6 +9,17 @@ fn answer(facts: u16, actions: u16, preferences: u16, words: &str) -> Result<(),
     check(&file(facts, actions, preferences, words)).map(|_| ())
 }
 
+/// Each of these rows, with its facts, actions and preferences, is refused with this number at this place.
+fn all_refused(number: u8, cases: &[([u16; 3], &str, u16)]) {
+    for &([facts, actions, preferences], words, place) in cases {
+        assert_eq!(
+            answer(facts, actions, preferences, words),
+            refused(number, place),
+            "{words}"
+        );
+    }
+}
+
 #[test]
 fn one_to_three() {
     let belt = belt();
@@ -74,20 +85,19 @@ fn accepted_without() {
 
 #[test]
 fn rows_end_inside_a_task() {
-    assert_eq!(answer(1, 0, 0, ""), refused(4, 0));
-    assert_eq!(answer(1, 0, 0, "START 0"), refused(4, 1));
-    assert_eq!(answer(1, 0, 0, "GOAL CLAUSE"), refused(4, 2));
-    assert_eq!(answer(1, 1, 0, "GOAL ACTION CLAUSE"), refused(4, 3));
-    assert_eq!(answer(1, 1, 0, "GOAL ACTION EFFECT CLAUSE"), refused(4, 4));
-    assert_eq!(answer(1, 0, 1, "GOAL always CLAUSE"), refused(4, 3));
-    assert_eq!(answer(1, 0, 1, "GOAL sometime-before"), refused(4, 2));
-    assert_eq!(
-        answer(1, 0, 1, "GOAL sometime-after CLAUSE LACKS 0"),
-        refused(4, 4)
-    );
-    assert_eq!(
-        answer(1, 0, 1, "GOAL sometime-after SECOND CLAUSE"),
-        refused(4, 4)
+    all_refused(
+        4,
+        &[
+            ([1, 0, 0], "", 0),
+            ([1, 0, 0], "START 0", 1),
+            ([1, 0, 0], "GOAL CLAUSE", 2),
+            ([1, 1, 0], "GOAL ACTION CLAUSE", 3),
+            ([1, 1, 0], "GOAL ACTION EFFECT CLAUSE", 4),
+            ([1, 0, 1], "GOAL always CLAUSE", 3),
+            ([1, 0, 1], "GOAL sometime-before", 2),
+            ([1, 0, 1], "GOAL sometime-after CLAUSE LACKS 0", 4),
+            ([1, 0, 1], "GOAL sometime-after SECOND CLAUSE", 4),
+        ],
     );
 }
 
@@ -178,29 +188,25 @@ fn marks_that_may_come() {
 
 #[test]
 fn values() {
-    assert_eq!(answer(3, 0, 0, "START 3 GOAL"), refused(5, 0));
-    assert_eq!(answer(3, 0, 0, "START 1 START 1 GOAL"), refused(5, 1));
-    assert_eq!(answer(3, 0, 0, "START 2 START 1 GOAL"), refused(5, 1));
-    assert_eq!(answer(3, 0, 0, "GOAL 1"), refused(5, 0));
-    assert_eq!(answer(3, 0, 0, "GOAL CLAUSE 1 HOLDS 0"), refused(5, 1));
-    assert_eq!(
-        answer(3, 0, 0, "GOAL CLAUSE HOLDS 2 LACKS 3"),
-        refused(5, 3)
+    all_refused(
+        5,
+        &[
+            ([3, 0, 0], "START 3 GOAL", 0),
+            ([3, 0, 0], "START 1 START 1 GOAL", 1),
+            ([3, 0, 0], "START 2 START 1 GOAL", 1),
+            ([3, 0, 0], "GOAL 1", 0),
+            ([3, 0, 0], "GOAL CLAUSE 1 HOLDS 0", 1),
+            ([3, 0, 0], "GOAL CLAUSE HOLDS 2 LACKS 3", 3),
+            ([3, 1, 0], "GOAL ACTION 1000001", 1),
+            ([3, 1, 0], "GOAL ACTION EFFECT 1", 2),
+            ([3, 1, 0], "GOAL ACTION EFFECT ADD 3", 3),
+            ([3, 1, 0], "GOAL ACTION EFFECT ADD 2 DELETE 4294967295", 4),
+            ([3, 0, 1], "GOAL always 1000001", 1),
+            ([3, 0, 1], "GOAL sometime-after SECOND 1", 2),
+            ([3, 0, 0], "START 256 GOAL", 0),
+            ([3, 0, 0], "START 16777216 GOAL", 0),
+        ],
     );
-    assert_eq!(answer(3, 1, 0, "GOAL ACTION 1000001"), refused(5, 1));
-    assert_eq!(answer(3, 1, 0, "GOAL ACTION EFFECT 1"), refused(5, 2));
-    assert_eq!(answer(3, 1, 0, "GOAL ACTION EFFECT ADD 3"), refused(5, 3));
-    assert_eq!(
-        answer(3, 1, 0, "GOAL ACTION EFFECT ADD 2 DELETE 4294967295"),
-        refused(5, 4)
-    );
-    assert_eq!(answer(3, 0, 1, "GOAL always 1000001"), refused(5, 1));
-    assert_eq!(
-        answer(3, 0, 1, "GOAL sometime-after SECOND 1"),
-        refused(5, 2)
-    );
-    assert_eq!(answer(3, 0, 0, "START 256 GOAL"), refused(5, 0));
-    assert_eq!(answer(3, 0, 0, "START 16777216 GOAL"), refused(5, 0));
 }
 
 #[test]

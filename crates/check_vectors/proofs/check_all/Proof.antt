@@ -1,5 +1,4 @@
--- `check_vectors::check_all` is safe and ends. The measure is the number of turns that are left.
--- Nothing has to hold from turn to turn, so the invariant is `Unit {0}`, the fact that says nothing, which `tt` shows.
+-- The loop ends since fewer turns are left after each; nothing else has to hold from turn to turn.
 use native.Mathlib.Omega.{arith}
 use Rattle.check_vectors.proofs.check_all.Statement.{statement}
 use Rattle.check_vectors.proofs.check_all.Tie as tie

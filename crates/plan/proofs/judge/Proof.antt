@@ -1,12 +1,14 @@
 use borrow.Author.Needs.{needs}
-use mathlib.Core.Path.{_≡_, ap, _∙_}
+use mathlib.Core.Path.{_≡_, sym, ap, _∙_}
 use Prim.Native.Nat.{_+_, _*_, _≤_}
 use native.Mathlib.Omega.{arith}
 use denote.Ref.{now}
 use lib.ListN.{length, length-take, length-drop}
+use Rattle.task.specs.Answers.{answer as checked, asSizes}
+use Rattle.task.proofs.Answered.{lengths}
 use Rattle.plan.specs.Answers.{answer, asVerdict}
 use Rattle.plan.specs.Judged.{refused}
-use Rattle.plan.proofs.Judging.{turned-down, exact, few, too-long, unknown, run-on}
+use Rattle.plan.proofs.Judging.{turned-down, too-long, unknown, run-on}
 use Rattle.plan.proofs.judge.Statement.{statement}
 use Rattle.plan.proofs.judge.Tie as tie
 
@@ -15,12 +17,7 @@ parts : (c : tie.After-known-told) → let f = now (c .before .before .before .b
     (length f ≡ 8 + 5 * c .before .c .given .0 .0 .rows) × (c .before .c .given .0 .0 .rows ≤ 12000)
 parts c =
     let k = c .before .before .before in
-    let a = k .before .before .before .args in
-    let z = c .before .c .given .0 .0 in
-    let q = c .before .c .given .1 in (
-      exact (now (a .file)) (now (a .plan)) (k .check .result) (k .check .ensures) z q,
-      few (now (a .file)) (now (a .plan)) (k .check .result) (k .check .ensures) z q,
-    )
+    lengths (now (k .before .before .before .args .file)) (asSizes (c .before .c .given .0 .0)) (sym (k .check .ensures) ∙ ap checked (c .before .c .given .1))
 
 check-requires : tie.Need-check-requires
 check-requires c κs = search needs

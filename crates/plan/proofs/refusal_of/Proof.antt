@@ -1,7 +1,8 @@
 use borrow.Author.Needs.{needs}
 use mathlib.Core.Path.{sym, ap, _∙_}
 use Rattle.task.specs.Answers.{answer as checked, asSizes}
-use Rattle.plan.proofs.Judging.{same-refusal, not-refused}
+use Rattle.task.proofs.Answered.{same-refusal, not-refused}
+use Rattle.plan.specs.Judged.{refused}
 use Rattle.plan.proofs.refusal_of.Statement.{statement}
 use Rattle.plan.proofs.refusal_of.Tie as tie
 
@@ -15,7 +16,7 @@ refuse-requires : tie.Need-refuse-requires
 refuse-requires c κs = search needs
 
 returns : tie.Need-returns
-returns c = λ n i e. same-refusal (c .before .c .given .0 .0) n i (sym (ap checked (c .before .c .given .1)) ∙ e)
+returns c = λ n i e. same-refusal refused (c .before .c .given .0 .0) n i (sym (ap checked (c .before .c .given .1)) ∙ e)
 
 returns-2 : tie.Need-returns-2
 returns-2 c = λ n i e. absurd (not-refused (asSizes (c .before .enum-told .given .0 .0)) n i (sym (ap checked (c .before .enum-told .given .1)) ∙ e))

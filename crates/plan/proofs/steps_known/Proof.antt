@@ -4,9 +4,11 @@ use Prim.Native.Nat.{_+_, _-_}
 use native.Mathlib.Nat.{zero-add}
 use native.Mathlib.Omega.{arith}
 use denote.Ref.{now}
+use lib.Dec.{leb}
 use lib.ListN.{length, drop}
+use borrow.Author.Tests.{le-leb, lt-leb}
 use Rattle.plan.specs.Judged.{stepsKnown}
-use Rattle.plan.proofs.Judging.{known-here, known-on, known-end}
+use Rattle.plan.proofs.Seeking.{upTo-here, upTo-on, upTo-end}
 use Rattle.plan.proofs.steps_known.Statement.{statement}
 use Rattle.plan.proofs.steps_known.Tie as tie
 
@@ -29,7 +31,8 @@ returns : tie.Need-returns Inv-loop μ-loop
 returns c =
     let l = c .before .before .before .before in
     let a = l .before .before .args in
-    sym (known-here (a .actions) (now (a .plan)) (l .loop .i) (search needs) (omega (arith, c .if1 .taken, c .before .wide .ensures)))
+    sym (upTo-here (leb (a .actions)) (now (a .plan)) (l .loop .i) (search needs)
+    (le-leb (a .actions) _ (omega (arith, c .if1 .taken, c .before .wide .ensures))))
     ∙ l .loop .inv
 
 add-i : tie.Need-add-i Inv-loop μ-loop
@@ -42,14 +45,15 @@ loop-again : tie.Need-loop-again Inv-loop μ-loop
 loop-again c =
     let l = c .before .before .before .before in
     let a = l .before .before .args in
-    known-on (a .actions) (now (a .plan)) (l .loop .i) (search needs) (omega (arith, c .if1 .left, c .before .wide .ensures))
+    upTo-on (leb (a .actions)) (now (a .plan)) (l .loop .i) (search needs)
+    (lt-leb (a .actions) _ (omega (arith, c .if1 .left, c .before .wide .ensures)))
     ∙ l .loop .inv
 
 returns-2 : tie.Need-returns-2 Inv-loop μ-loop
 returns-2 c =
     let l = c .before in
     let a = l .before .before .args in
-    sym (known-end (a .actions) (now (a .plan)) (l .loop .i) (search needs)) ∙ l .loop .inv
+    sym (upTo-end (leb (a .actions)) (now (a .plan)) (l .loop .i) (search needs)) ∙ l .loop .inv
 
 pub steps-known-spec : {M : Type 1} → statement M
 steps-known-spec =

@@ -1,11 +1,12 @@
 use mathlib.Core.Path.{_≡_, sym, ap, _∙_}
+use Prim.Native.Nat.{_+_, _*_, _≤_}
 use native.Mathlib.Omega.{arith}
-use lib.ListN.{length-take, length-drop}
+use lib.ListN.{length, length-take, length-drop}
 use denote.Ref.{now}
 use Rattle.task.specs.Check.{check, accepted}
-use Rattle.task.specs.Answers.{asSizes}
-use Rattle.task.specs.Answers.{answer as checked}
-use Rattle.report.proofs.Answering.{Lent, lent, on-accepted, on-refused}
+use Rattle.task.specs.Answers.{answer as checked, asSizes}
+use Rattle.task.proofs.Answered.{lengths}
+use Rattle.report.proofs.Answering.{on-accepted, on-refused}
 use borrow.Author.Needs.{needs}
 use Rattle.report.proofs.write_on.Statement.{statement}
 use Rattle.report.proofs.write_on.Tie as tie
@@ -14,8 +15,10 @@ use Rattle.report.proofs.write_on.Tie as tie
 was-accepted : (c : tie.After-c) → check (now (c .before .before .before .before .before .before .args .file)) ≡ accepted (asSizes (c .c .given .0 .0))
 was-accepted c = sym (c .before .before .check .ensures) ∙ ap checked (c .c .given .1)
 
-lengths : (c : tie.After-c) → Lent (now (c .before .before .before .before .before .before .args .file)) (c .c .given .0 .0 .rows)
-lengths c = lent (now (c .before .before .before .before .before .before .args .file)) (asSizes (c .c .given .0 .0)) (was-accepted c)
+-- the file's length by its rows, of which there are few
+parts : (c : tie.After-c) → (length (now (c .before .before .before .before .before .before .args .file)) ≡ 8 + 5 * c .c .given .0 .0 .rows)
+    × (c .c .given .0 .0 .rows ≤ 12000)
+parts c = lengths (now (c .before .before .before .before .before .before .args .file)) (asSizes (c .c .given .0 .0)) (was-accepted c)
 
 check-requires : tie.Need-check-requires
 check-requires c κs = search needs
@@ -48,7 +51,7 @@ returns c =
     (w .write-judged .last .1 .1 .1 .1 .0) _ _ (sym (k .check .ensures) ∙ ap checked (t .enum-told .given .1)) _ (w .write-judged .ensures .0)
 
 add-middle : tie.Need-add-middle
-add-middle c = let l = lengths (c .before .before) in search needs
+add-middle c = let l = parts (c .before .before) in search needs
 
 sub-write-judged : tie.Need-sub-write-judged
 sub-write-judged c = search needs
@@ -57,21 +60,21 @@ part-write-judged-start : tie.Need-part-write-judged-start
 part-write-judged-start c = search needs
 
 part-write-judged-end : tie.Need-part-write-judged-end
-part-write-judged-end c = let l = lengths (c .before .before) in search needs
+part-write-judged-end c = let l = parts (c .before .before) in search needs
 
 sub-write-judged-2 : tie.Need-sub-write-judged-2
-sub-write-judged-2 c = let l = lengths (c .before .before .before) in search needs
+sub-write-judged-2 c = let l = parts (c .before .before .before) in search needs
 
 part-write-judged-start-2 : tie.Need-part-write-judged-start-2
-part-write-judged-start-2 c = let l = lengths (c .before .before .before) in search needs
+part-write-judged-start-2 c = let l = parts (c .before .before .before) in search needs
 
 part-write-judged-end-2 : tie.Need-part-write-judged-end-2
 part-write-judged-end-2 c = search needs
 
 write-judged-requires-2 : tie.Need-write-judged-requires-2
 write-judged-requires-2 c κs =
-    let l = lengths (c .before .before .before .before .before) in
-    (simp (length-take, length-drop) (omega (arith, l .exact)), simp (length-take, length-drop) (omega (arith, l .few)))
+    let l = parts (c .before .before .before .before .before) in
+    (simp (length-take, length-drop) (omega arith), simp (length-take, length-drop) (omega arith))
 
 same-length-2 : tie.Need-same-length-2
 same-length-2 c = search needs

@@ -1,6 +1,7 @@
 use mathlib.Core.Path.{sym, ap, _∙_}
 use Rattle.task.specs.Answers.{answer as checked, asSizes}
-use Rattle.translation.proofs.Translating.{same-refusal, not-refused}
+use Rattle.task.proofs.Answered.{not-refused}
+use Rattle.translation.proofs.Translating.{same-refusal}
 use borrow.Author.Needs.{needs}
 use Rattle.translation.proofs.refusal_of.Statement.{statement}
 use Rattle.translation.proofs.refusal_of.Tie as tie

@@ -1,7 +1,7 @@
 use denote.Ref.{now}
+use Rattle.task.proofs.Values.{preference, under, over}
 use Rattle.text.proofs.Writing.{no-bytes}
 use Rattle.report.specs.Rows.{rowLine}
-use Rattle.report.proofs.Listing.{opens, too-low, too-high}
 use borrow.Author.Needs.{needs}
 use Rattle.report.proofs.preferences.put_row.Statement.{statement}
 use Rattle.report.proofs.preferences.put_row.Tie as tie
@@ -24,19 +24,19 @@ returns c =
     let p = c .before .before in
     let m = p .before in
     let a = m .before .before .before .before .before .args in
-    rw (opens (a .mark) (a .value) (search needs) (search needs), ← m .is-met .ensures) (p .put-preference .ensures .0, search needs)
+    rw (preference (a .mark) (a .value) (search needs) (search needs), ← m .is-met .ensures) (p .put-preference .ensures .0, search needs)
 
 returns-2 : tie.Need-returns-2
 unfolding rowLine
 returns-2 c =
     let a = c .before .before .args in
-    rw (too-low (a .mark) (a .value) (search needs)) (no-bytes (now (a .out)) (a .next .at), search needs)
+    rw (under (a .mark) (a .value) (search needs)) (no-bytes (now (a .out)) (a .next .at), search needs)
 
 returns-3 : tie.Need-returns-3
 unfolding rowLine
 returns-3 c =
     let a = c .before .before .before .args in
-    rw (too-high (a .mark) (a .value) (search needs)) (no-bytes (now (a .out)) (a .next .at), search needs)
+    rw (over (a .mark) (a .value) (search needs)) (no-bytes (now (a .out)) (a .next .at), search needs)
 
 pub put-row-spec : {M : Type 1} → statement M
 put-row-spec =
