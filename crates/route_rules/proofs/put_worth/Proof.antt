@@ -1,0 +1,24 @@
+use mathlib.Core.Path.{sym, ap, ap₂, _∙_}
+use Prim.Native.Nat.{ℕ}
+use mir.Syntax.{w64}
+use mir.ValLaws.{toZ-ofZ}
+use Rattle.route_rules.specs.Numbers.{answered, signed}
+use Rattle.route_rules.proofs.Bits.{bits-of}
+use borrow.Author.Needs.{needs}
+use Rattle.route_rules.proofs.put_worth.Statement.{statement}
+use Rattle.route_rules.proofs.put_worth.Tie as tie
+
+as-word-requires : tie.Need-as-word-requires
+as-word-requires c κs = search needs
+
+put-values-requires : tie.Need-put-values-requires
+put-values-requires c κs = search needs
+
+returns : tie.Need-returns
+returns c =
+    let a = c .before .before .before .before .args in
+    c .put-values .ensures
+    ∙ ap₂ (λ (u m : ℕ). answered 1 0 (a .w .cost) (a .w .metric) u m 0) (c .before .as-word .ensures ∙ ap signed (toZ-ofZ w64 (a .w .utility) (search needs))) (sym (bits-of 64 (a .w .met) (search needs)))
+
+pub put-worth-spec : {M : Type 1} → statement M
+put-worth-spec = tie.close (tie.spec as-word-requires put-values-requires returns)
