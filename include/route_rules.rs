@@ -96,8 +96,7 @@ fn answered(call: impl FnOnce(*mut Answer) -> u32) -> Result<Answer, Refusal> {
 /// Checks a task file: accepted with its sizes, or refused by 1 to 6.
 pub fn check(file: &[u8]) -> Result<Sizes, Refusal> {
     // SAFETY: here and below, each pointer comes with the length of the area it points to.
-    let words =
-        answered(|answer| unsafe { route_rules_check(file.as_ptr(), file.len(), answer) })?;
+    let words = answered(|answer| unsafe { route_rules_check(file.as_ptr(), file.len(), answer) })?;
     Ok(Sizes {
         facts: words[1],
         actions: words[2],
@@ -124,13 +123,7 @@ pub fn translate(file: &[u8], out: &mut [u8]) -> Result<usize, Refusal> {
 /// Judges a plan, one byte a step, on the task in a file: a verdict, or refused by 1 to 6, 10 or 11.
 pub fn judge(file: &[u8], plan: &[u8]) -> Result<Verdict, Refusal> {
     let words = answered(|answer| unsafe {
-        route_rules_judge(
-            file.as_ptr(),
-            file.len(),
-            plan.as_ptr(),
-            plan.len(),
-            answer,
-        )
+        route_rules_judge(file.as_ptr(), file.len(), plan.as_ptr(), plan.len(), answer)
     })?;
     Ok(match words[1] {
         1 => Verdict::Solved {
