@@ -1,20 +1,18 @@
 #!/usr/bin/env python3
-"""The examples as text, the tool that turns texts into files and back, and judge's answers on the batch house's plans.
+"""The examples as text, the tool that turns texts into files and back, and the programs' answers on the batch house.
 
-tests/examples.py JUDGE            JUDGE is target/bin/judge
-tests/examples.py JUDGE --write    writes examples/batch_house/answers anew
+tests/examples.py            needs target/bin/translate and target/bin/judge
+tests/examples.py --write    writes examples/batch_house/answers anew
 """
 import os
 import runpy
-import subprocess
 import sys
-import tempfile
 
 ROOT = os.path.dirname(os.path.dirname(os.path.abspath(__file__)))
 HOUSE = os.path.join(ROOT, 'examples/batch_house')
-TOOL = runpy.run_path(os.path.join(ROOT, 'tools/task.py'))
+RUN = runpy.run_path(os.path.join(HOUSE, 'run'))
 ACCOUNT = runpy.run_path(os.path.join(ROOT, 'tests/check/vectors.py'))
-Text, Wrong, show, read, text_of = (TOOL[name] for name in ('Text', 'Wrong', 'show', 'read', 'text_of'))
+Text, Wrong, show, read, text_of = (RUN['TOOL'][name] for name in ('Text', 'Wrong', 'show', 'read', 'text_of'))
 
 # Texts that the tool turns down, and what it says.
 WRONG = [
@@ -50,35 +48,38 @@ def round_trips():
     return len(accepted)
 
 
-def judged(program, task, plan):
-    with tempfile.TemporaryDirectory() as folder:
-        for name, content in (('task', task), ('plan', plan)):
-            with open(os.path.join(folder, name), 'wb') as out:
-                out.write(content)
-        return subprocess.run([program], cwd=folder, capture_output=True, check=True).stdout.decode()
-
-
-def answers(program):
+def answers(text):
     """What program judge writes about each plan of the batch house."""
-    text = text_of(os.path.join(HOUSE, 'task.txt'))
     out = ''
     for name in sorted(os.listdir(os.path.join(HOUSE, 'plans'))):
         plan = text.plan(read(os.path.join(HOUSE, 'plans', name)).decode())
-        out += f'{name}\n' + judged(program, text.file(), plan)
+        out += f'{name}\n' + RUN['judged'](text.file(), plan)
     return out
 
 
-def main(program, option=None):
-    expect('the belt', text_of(os.path.join(ROOT, 'examples/belt/task.txt')).file(), read(os.path.join(ROOT, 'examples/belt/task')))
+def metrics(answers):
+    return [int(line.split()[1]) for line in answers.split('\n') if line.startswith('metric')]
+
+
+def main(option=None):
+    belt = os.path.join(ROOT, 'examples/belt/task')
+    expect('the belt', text_of(belt + '.txt').file(), read(belt))
     for text, why in WRONG:
         expect(text, turned_down(text), why)
     count = round_trips()
-    got, stored = answers(os.path.abspath(program)), os.path.join(HOUSE, 'answers')
+
+    text, stored = text_of(os.path.join(HOUSE, 'task.txt')), os.path.join(HOUSE, 'answers')
+    got = answers(text)
     if option == '--write':
         with open(stored, 'w') as out:
             out.write(got)
     expect('the batch house', got, read(stored).decode())
-    print(f'{count} files turned into text and back, and {got.count("metric")} solved plans of the batch house: as they should be')
+
+    # The planner pays the least metric of the stored plans, and judge says the same of what it found.
+    cost, plan = RUN['planned'](text)
+    expect("the planner's cost", cost, min(metrics(got)))
+    expect("the planner's plan", metrics(RUN['judged'](text.file(), plan)), [cost])
+    print(f'{count} files turned into text and back, {len(metrics(got))} solved plans and a planned one of the batch house: as they should be')
 
 
 if __name__ == '__main__':

@@ -1,12 +1,14 @@
--- A word is the number of its bits.
+-- A word is the number of its bits; so the code's words are those of a plan that solves.
 use mathlib.Core.Path.{_≡_, refl, ap, _∙_, fun-ext, sym}
-use mathlib.Core.Bool.{Bool, cond}
+use mathlib.Core.Bool.{cond}
 use Prim.Native.Nat.{ℕ, zero, suc, _+_, _*_, _/_, _%_, _^_, _<_}
 use native.Mathlib.Nat.{div-one, div-div-eq-div-mul, pow-succ'}
 use native.Mathlib.Omega.{arith}
 use lib.Dec.{eqb}
+use lib.IntN.{ℤ}
 use Rattle.state.specs.Member.{bit}
-use Rattle.route_rules.specs.Numbers.{bits}
+use Rattle.task.specs.Verdict.{solved}
+use Rattle.route_rules.specs.Numbers.{Call, answered, signed, bits, ofVerdict}
 
 digit : (d : ℕ) → d < 2 → cond (eqb d 1) 1 0 ≡ d
 digit zero h = refl
@@ -30,3 +32,7 @@ bits-of (suc n) w h =
     let half : w / 2 < 2 ^ n = omega (arith, p) in
     let e : w % 2 + 2 * (w / 2) ≡ w = omega arith in
     rw (bit-first w, fun-ext (bit-half w), bits-of n (w / 2) half) e
+
+pub solved-words : (c : Call) (cost metric m w : ℕ) (u : ℤ) → m < 2 ^ 64 → w ≡ signed u → c ≡ answered 1 0 cost metric w m 0
+    → c ≡ ofVerdict (solved cost metric u (bit m))
+solved-words c cost metric m w u h p e = rw (bits-of 64 m h, ← p) e
