@@ -118,16 +118,20 @@ static void try_translation(Area file, const uint8_t *out, size_t length)
 
 static void try_translate(Area file, size_t room, int at_end)
 {
-    static uint8_t expected[ROUTE_RULES_MAX_FILE];
-    uint64_t words[8];
+    static uint8_t expected[ROUTE_RULES_MAX_FILE], other[ROUTE_RULES_MAX_FILE];
+    uint64_t words[8], tuned[8];
     Area answer = lend(answer_pages, 64, at_end), out = lend(out_pages, room, at_end);
     memset(expected, GUARD, room);
+    memset(other, GUARD, room);
     uint32_t number =
         route_rules_translate(file.at, file.length, out.at, out.length, (route_rules_translated *)answer.at);
     same_answer(number, answer, plain_translate(file.at, file.length, expected, room, words), words);
     guarded(out);
     if (memcmp(out.at, expected, room) != 0) fail("another output");
     if (number > ROUTE_RULES_SHORT_OUTPUT) fail("a refusal that is not translate's");
+    if (number != tuned_translate(file.at, file.length, other, room, tuned) || memcmp(words, tuned, 64) != 0 ||
+        memcmp(expected, other, room) != 0)
+        fail("the two translations in C differ");
     if (number == 0) {
         untouched(out.at + words[1], room - words[1]);
         try_translation(file, out.at, words[1]);
@@ -158,28 +162,45 @@ static uint8_t next(Data *d)
     return *d->at++;
 }
 
-/* Rows of two bytes, with the sizes that fit them but for a byte that changes one. */
+/* The value of a row made from one byte: mostly allowed for its mark. */
+static uint32_t wide(uint8_t mark, uint8_t value)
+{
+    switch (mark) {
+    case 2: case 3: case 8: case 16: return value == 255;
+    case 4: case 5: case 6: case 7: case 9: return value;
+    default: return value * 4000u; /* over a million from 251 on */
+    }
+}
+
+static void put_size(uint8_t *at, uint32_t size)
+{
+    at[0] = size & 255;
+    at[1] = size >> 8;
+}
+
+/* Rows of two bytes, with the sizes that fit them but for a byte that changes one. Now and then each literal stands there so many
+ * times that a short input makes a long file. */
 static size_t make_file(Data *d, uint8_t *file)
 {
-    uint32_t sizes[4] = {1 + next(d) % 128, 0, 0, d->left / 2}, changed = next(d);
-    if (sizes[3] > ROUTE_RULES_MAX_ROWS) sizes[3] = ROUTE_RULES_MAX_ROWS;
-    uint8_t *marks = file + 8, *values = file + 8 + sizes[3];
-    for (uint32_t i = 0; i < sizes[3]; i++) {
+    static uint8_t marks[ROUTE_RULES_MAX_ROWS];
+    static uint32_t values[ROUTE_RULES_MAX_ROWS];
+    uint32_t sizes[4] = {1 + next(d) % 128, 0, 0, 0}, changed = next(d), repeat = next(d);
+    uint32_t times = repeat % 16 == 15 ? 1 + repeat : 1;
+    while (d->left > 1) {
         uint8_t mark = next(d) % 18, value = next(d);
         sizes[1] += mark == 1;
         sizes[2] += mark >= 10 && mark <= 15;
-        marks[i] = mark;
-        uint32_t wide = mark == 1 || mark >= 10 ? value * 4000u : value; /* over a million from 251 on */
-        if (mark == 2 || mark == 3 || mark == 8 || mark == 16) wide = value == 255;
-        memcpy(values + 4 * i, &wide, 4);
+        for (uint32_t n = mark == 4 || mark == 5 ? times : 1; n > 0 && sizes[3] < ROUTE_RULES_MAX_ROWS; n--) {
+            marks[sizes[3]] = mark;
+            values[sizes[3]++] = wide(mark, value);
+        }
     }
-    size_t length = 8 + 5 * (size_t)sizes[3];
+    uint32_t rows = sizes[3];
+    memcpy(file + 8, marks, rows);
+    memcpy(file + 8 + rows, values, 4 * (size_t)rows);
     if (changed % 16 == 15) sizes[changed / 16 % 4] += 1;
-    for (int i = 0; i < 4; i++) {
-        file[2 * i] = sizes[i] & 255;
-        file[2 * i + 1] = sizes[i] >> 8;
-    }
-    return length;
+    for (int i = 0; i < 4; i++) put_size(file + 2 * i, sizes[i]);
+    return 8 + 5 * (size_t)rows;
 }
 
 static size_t make_plan(Data *d, uint8_t *plan)
