@@ -24,7 +24,7 @@ bit-first : (w : ℕ) → cond (bit w 0) 1 0 ≡ w % 2
 unfolding bit
 bit-first w = rw (div-one w) (digit (w % 2) (omega arith))
 
-pub bits-of : (n w : ℕ) → w < 2 ^ n → bits n (bit w) ≡ w
+bits-of : (n w : ℕ) → w < 2 ^ n → bits n (bit w) ≡ w
 unfolding bits
 bits-of zero w h = omega arith
 bits-of (suc n) w h =

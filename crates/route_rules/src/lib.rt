@@ -1,7 +1,6 @@
 // The operations for callers in C and Rust. include/route_rules.h is their header.
 ghost use mathlib.Core.Path.{_≡_};
-ghost use mathlib.Core.List.{[], _∷_};
-ghost use Prim.Native.Nat.{ℕ, _*_, _+_};
+ghost use Prim.Native.Nat.{ℕ};
 ghost use lib.ListN.{length};
 ghost use Rattle.text.specs.Area.{Filled};
 ghost use Rattle.report.specs.Report.{reportOn};
