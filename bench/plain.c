@@ -186,11 +186,10 @@ static int condition_true(const Task *t, uint32_t *at, State s)
 
 static int true_at(const Task *t, uint32_t at, State s) { return condition_true(t, &at, s); }
 
-/* The state behind an action whose effects stand from row `at` up to row `end`. */
+/* The state behind an action whose effects stand from row `at` up to row `end`. A condition that was left early is passed. */
 static State after(const Task *t, uint32_t at, uint32_t end, State s)
 {
     State adds = {{0, 0}}, deletes = {{0, 0}};
-    while (at < end && t->marks[at] != EFFECT) at++;
     while (at < end) {
         at++;
         int fires = condition_true(t, &at, s);
