@@ -1,8 +1,55 @@
--- Answers as numbers, for callers in C and Rust.
-use Prim.Native.Nat.{ℕ, _+_, _*_}
-use Rattle.translation.specs.Translated.{Translated, written, refused}
+-- Answers as numbers, for callers in C and Rust: the number that a function returns, and the words that it leaves in the
+-- answer area.
+use mathlib.Core.Bool.{Bool, cond}
+use mathlib.Core.List.{List, [], _∷_}
+use Prim.Native.Nat.{ℕ, zero, suc, _+_, _*_, _-_, _^_}
+use lib.IntN.{ℤ, pos, negsuc}
+use Rattle.task.specs.Check
+use Rattle.task.specs.Check.{Answer}
+use Rattle.task.specs.Verdict.{Verdict, solved, stopped, goal-missed}
+use Rattle.plan.specs.Judged
+use Rattle.plan.specs.Judged.{Judged, given}
+use Rattle.translation.specs.Translated
+use Rattle.translation.specs.Translated.{Translated, written}
 
--- the length written, or a refusal: its number in the upper 32 bits, its place in the lower
-abbrev pub number : Translated → ℕ
-number (written n) = n
-number (refused k i) = 4294967296 * k + i
+pub data Call : Type 0 where
+  call : ℕ → List ℕ → Call
+
+-- an answer that is no refusal: 0 is returned, and word 0 is 0
+abbrev pub answered : ℕ → ℕ → ℕ → ℕ → ℕ → ℕ → ℕ → Call
+answered a b c d e f g = call 0 (0 ∷ a ∷ b ∷ c ∷ d ∷ e ∷ f ∷ g ∷ [])
+
+-- a refusal: its number is returned, word 0 is its place, and the other words are 0
+abbrev pub refusal : ℕ → ℕ → Call
+refusal n i = call n (i ∷ 0 ∷ 0 ∷ 0 ∷ 0 ∷ 0 ∷ 0 ∷ 0 ∷ [])
+
+-- words 1 to 4 are the sizes
+abbrev pub ofCheck : Answer → Call
+ofCheck (Check.accepted z) = answered (z .facts) (z .actions) (z .preferences) (z .rows) 0 0 0
+ofCheck (Check.refused n i) = refusal n i
+
+-- word 1 is the length written
+abbrev pub ofTranslate : Translated → Call
+ofTranslate (written n) = answered n 0 0 0 0 0 0
+ofTranslate (Translated.refused n i) = refusal n i
+
+-- a signed number in 64 bits, by two's complement
+abbrev pub signed : ℤ → ℕ
+signed (pos n) = n
+signed (negsuc n) = 2 ^ 64 - 1 - n
+
+-- the numbers below n of a set, as bits
+unfoldable pub bits : ℕ → (ℕ → Bool) → ℕ
+bits zero f = 0
+bits (suc n) f = cond (f 0) 1 0 + 2 * bits n (λ (k : ℕ). f (suc k))
+
+-- word 1 is the verdict: 1 solved, 2 stopped, 3 goal missed. Word 2 is the step at which a plan stopped, words 3 to 6 are
+-- cost, metric, utility and the met preferences of a plan that solves
+abbrev pub ofVerdict : Verdict → Call
+ofVerdict (solved cost metric utility met) = answered 1 0 cost metric (signed utility) (bits 64 met) 0
+ofVerdict (stopped step) = answered 2 step 0 0 0 0 0
+ofVerdict goal-missed = answered 3 0 0 0 0 0 0
+
+abbrev pub ofJudge : Judged → Call
+ofJudge (given v) = ofVerdict v
+ofJudge (Judged.refused n i) = refusal n i

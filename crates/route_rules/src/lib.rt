@@ -1,39 +1,144 @@
-// The operations for callers in C and Rust.
+// The operations for callers in C and Rust. include/route_rules.h is their header.
 ghost use mathlib.Core.Path.{_≡_};
-ghost use Prim.Native.Nat.{_+_, _*_};
+ghost use Prim.Native.Nat.{ℕ};
 ghost use lib.ListN.{length};
 ghost use Rattle.text.specs.Area.{Filled};
 ghost use Rattle.report.specs.Report.{reportOn};
-ghost use Rattle.translation.specs.Answers.{answer};
+ghost use Rattle.task.specs.Check.{check};
+ghost use Rattle.task.specs.Answers.{answer as ofChecked};
+ghost use Rattle.plan.specs.Judged.{judged};
+ghost use Rattle.plan.specs.Answers.{answer as ofJudged, asVerdict};
+ghost use Rattle.plan.specs.declared.Verdict.the-variants.{Solved};
+ghost use Rattle.translation.specs.Answers.{answer as ofTranslated};
 ghost use Rattle.classical.specs.Translation.{compiled};
-ghost use Rattle.translation.specs.Translated.{outcome, areaAfter};
-ghost use Rattle.route_rules.specs.Numbers.{number};
+ghost use Rattle.translation.specs.Translated.{written, outcome, areaAfter, Delivered};
+ghost use Rattle.route_rules.specs.Numbers.{call, refusal, answered, ofCheck, ofTranslate, ofVerdict, ofJudge, signed};
+use plan::Judged;
+use plan::Verdict;
+use plan::Worth;
+use task::Checked;
+use task::Refusal;
 use translation::Translated;
 
-// Writes what program judge writes about a plan on a task, as far as the area has room, and answers its length.
+// Word 1 of a verdict.
+const SOLVED: u64 = 1;
+
+const STOPPED: u64 = 2;
+
+const GOAL_MISSED: u64 = 3;
+
+// Writes a refusal, and returns its number.
+fn put_refusal(f: Refusal, answer: &mut [u64; 8]) -> u32
+    ensures { λ r. ⌜ call r (now (answer .exit)) ≡ refusal (f .number) (f .place) ⌝ }
+{
+    *answer = [f.place as u64, 0, 0, 0, 0, 0, 0, 0];
+    f.number as u32
+}
+
+// Writes up to six values of an answer that is no refusal.
+fn put_values(answer: &mut [u64; 8], a: u64, b: u64, c: u64, d: u64, e: u64, f: u64) -> u32
+    ensures { λ r. ⌜ call r (now (answer .exit)) ≡ answered a b c d e f 0 ⌝ }
+{
+    *answer = [0, a, b, c, d, e, f, 0];
+    0
+}
+
+fn put_checked(c: Checked, answer: &mut [u64; 8]) -> u32
+    ensures { λ r. ⌜ call r (now (answer .exit)) ≡ ofCheck (ofChecked c) ⌝ }
+{
+    match c {
+        Checked::Accepted(z) => put_values(
+            answer,
+            z.facts as u64,
+            z.actions as u64,
+            z.preferences as u64,
+            z.rows as u64,
+            0,
+            0,
+        ),
+        Checked::Refused(f) => put_refusal(f, answer),
+    }
+}
+
+fn put_translated(t: Translated, answer: &mut [u64; 8]) -> u32
+    ensures { λ r. ⌜ call r (now (answer .exit)) ≡ ofTranslate (ofTranslated t) ⌝ }
+{
+    match t {
+        Translated::Written(n) => put_values(answer, n as u64, 0, 0, 0, 0, 0),
+        Translated::Refused(f) => put_refusal(f, answer),
+    }
+}
+
+// A signed number by two's complement.
+fn as_word(n: i64) -> u64
+    ensures { λ r. ⌜ r ≡ signed n ⌝ }
+{
+    if n < 0 { !((!n) as u64) } else { n as u64 }
+}
+
+fn put_worth(w: Worth, answer: &mut [u64; 8]) -> u32
+    ensures { λ r. ⌜ call r (now (answer .exit)) ≡ ofVerdict (asVerdict (Solved w)) ⌝ }
+{
+    put_values(
+        answer,
+        SOLVED,
+        0,
+        w.cost,
+        w.metric,
+        as_word(w.utility),
+        w.met,
+    )
+}
+
+fn put_verdict(v: Verdict, answer: &mut [u64; 8]) -> u32
+    ensures { λ r. ⌜ call r (now (answer .exit)) ≡ ofVerdict (asVerdict v) ⌝ }
+{
+    match v {
+        Verdict::Solved(w) => put_worth(w, answer),
+        Verdict::Stopped(step) => put_values(answer, STOPPED, step as u64, 0, 0, 0, 0),
+        Verdict::GoalMissed => put_values(answer, GOAL_MISSED, 0, 0, 0, 0, 0),
+    }
+}
+
+fn put_judged(j: Judged, answer: &mut [u64; 8]) -> u32
+    ensures { λ r. ⌜ call r (now (answer .exit)) ≡ ofJudge (ofJudged j) ⌝ }
+{
+    match j {
+        Judged::Given(v) => put_verdict(v, answer),
+        Judged::Refused(f) => put_refusal(f, answer),
+    }
+}
+
+// Checks a task file.
+#[no_mangle]
+pub extern "C" fn route_rules_check(file: &[u8], answer: &mut [u64; 8]) -> u32
+    ensures { λ r. ⌜ call r (now (answer .exit)) ≡ ofCheck (check (now (file .entry))) ⌝ }
+{
+    put_checked(task::check(file), answer)
+}
+
+// Translates the task in a file into the area `out`. A refusal leaves that area as it was.
+#[no_mangle]
+pub extern "C" fn route_rules_translate(file: &[u8], out: &mut [u8], answer: &mut [u64; 8]) -> u32
+    ensures { λ r. ⌜ call r (now (answer .exit)) ≡ ofTranslate (outcome (now (file .entry)) (length (now (out .entry)))) ⌝ }
+    ensures { λ r. ⌜ now (out .exit) ≡ areaAfter (compiled (now (file .entry))) (now (out .entry)) (outcome (now (file .entry)) (length (now (out .entry)))) ⌝ }
+    ensures { λ r. ⌜ ((n : ℕ) → outcome (now (file .entry)) (length (now (out .entry))) ≡ written n → Delivered (now (file .entry)) (now (out .exit)) n) ⌝ }
+{
+    put_translated(translation::translate(file, out), answer)
+}
+
+// Judges a plan on the task in a file.
+#[no_mangle]
+pub extern "C" fn route_rules_judge(file: &[u8], plan: &[u8], answer: &mut [u64; 8]) -> u32
+    ensures { λ r. ⌜ call r (now (answer .exit)) ≡ ofJudge (judged (now (file .entry)) (now (plan .entry))) ⌝ }
+{
+    put_judged(plan::judge(file, plan), answer)
+}
+
+// Writes what program judge writes about a plan on a task, as far as the area has room, and returns its length.
 #[no_mangle]
 pub extern "C" fn route_rules_report(file: &[u8], plan: &[u8], out: &mut [u8]) -> usize
     ensures { λ r. ⌜ Filled (now (out .entry)) (reportOn (now (file .entry)) (now (plan .entry))) r (now (out .exit)) ⌝ }
 {
     report::write_report(file, plan, out)
-}
-
-// An answer of translate as one number.
-fn as_number(t: Translated) -> u64
-    ensures { λ r. ⌜ r ≡ number (answer t) ⌝ }
-{
-    match t {
-        Translated::Written(n) => n as u64,
-        Translated::Refused(f) => 4294967296 * (f.number as u64) + (f.place as u64),
-    }
-}
-
-// Translates the task in a file into the area, and answers the length written, or a refusal: its number in the upper 32
-// bits, its place in the lower. A refusal leaves the area as it was.
-#[no_mangle]
-pub extern "C" fn route_rules_translate(file: &[u8], out: &mut [u8]) -> u64
-    ensures { λ r. ⌜ r ≡ number (outcome (now (file .entry)) (length (now (out .entry)))) ⌝ }
-    ensures { λ r. ⌜ now (out .exit) ≡ areaAfter (compiled (now (file .entry))) (now (out .entry)) (outcome (now (file .entry)) (length (now (out .entry)))) ⌝ }
-{
-    as_number(translation::translate(file, out))
 }

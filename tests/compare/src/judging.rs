@@ -1,6 +1,6 @@
-//! Judged plans: the library's text beside the independent implementation's.
+//! Checked files and judged plans: the library's numbers and text beside the independent implementation's.
 
-use crate::library;
+use crate::library::{self, refusal, Refusal, Sizes, Verdict};
 use crate::tally::Tally;
 
 /// Every answer of judge, as the beginning of its text.
@@ -26,10 +26,59 @@ fn expected(text: &str, room: usize) -> Vec<u8> {
     out
 }
 
+fn sizes(sizes: peer::Sizes) -> Sizes {
+    Sizes {
+        facts: u64::from(sizes.facts),
+        actions: u64::from(sizes.actions),
+        preferences: u64::from(sizes.preferences),
+        rows: u64::from(sizes.rows),
+    }
+}
+
+fn verdict(verdict: peer::Verdict) -> Verdict {
+    match verdict {
+        peer::Verdict::Solved {
+            cost,
+            metric,
+            utility,
+            met,
+        } => Verdict::Solved {
+            cost,
+            metric,
+            utility,
+            met: u64::from(met),
+        },
+        peer::Verdict::Stopped(step) => Verdict::Stopped(step as u64),
+        peer::Verdict::GoalMissed => Verdict::GoalMissed,
+    }
+}
+
+fn same<T: PartialEq + std::fmt::Debug>(
+    operation: &str,
+    library: Result<T, Refusal>,
+    peer: Result<T, peer::Refusal>,
+) -> Result<(), String> {
+    let peer = peer.map_err(refusal);
+    if library == peer {
+        return Ok(());
+    }
+    Err(format!(
+        "{operation} of the library is {library:?}, of the independent implementation {peer:?}"
+    ))
+}
+
+/// The numbers of check and judge.
+fn numbers(file: &[u8], plan: &[u8]) -> Result<(), String> {
+    same("check", library::check(file), peer::check(file).map(sizes))?;
+    let judged = peer::judge(file, plan).map(verdict);
+    same("judge", library::judge(file, plan), judged)
+}
+
 pub fn compare(first: u64, count: u64) -> Result<(), String> {
     let mut tally = Tally::new(&ANSWERS);
     for seed in first..first + count {
         let case = peer::random::case(seed);
+        numbers(&case.file, &case.plan).map_err(|why| format!("seed {seed}: {why}"))?;
         let text = peer::report(&case.file, &case.plan);
         // Mostly an area that has room, now and then one that cuts the text.
         let room = if seed % 8 == 0 { case.room % 64 } else { 1024 };

@@ -1,18 +1,9 @@
-//! The proved library, through its C interface, on areas with guard bytes behind.
+//! The proved library on areas with guard bytes behind, through the functions that Rust callers use.
 
-extern "C" {
-    fn route_rules_report(
-        file: *const u8,
-        file_len: usize,
-        plan: *const u8,
-        plan_len: usize,
-        out: *mut u8,
-        out_len: usize,
-    ) -> usize;
+#[path = "../../../include/route_rules.rs"]
+mod route_rules;
 
-    fn route_rules_translate(file: *const u8, file_len: usize, out: *mut u8, out_len: usize)
-        -> u64;
-}
+pub use route_rules::{check, judge, Refusal, Sizes, Verdict};
 
 /// Fills an area before it is lent, and stands behind it.
 pub const GUARD: u8 = 0xA5;
@@ -25,31 +16,21 @@ pub fn area(room: usize) -> Vec<u8> {
 /// The text of a judged plan in an area of `room` bytes, and the length that is answered.
 pub fn report(file: &[u8], plan: &[u8], room: usize) -> (Vec<u8>, usize) {
     let mut out = area(room);
-    // The lengths are those of the three areas that are lent.
-    let length = unsafe {
-        route_rules_report(
-            file.as_ptr(),
-            file.len(),
-            plan.as_ptr(),
-            plan.len(),
-            out.as_mut_ptr(),
-            room,
-        )
-    };
+    let length = route_rules::report(file, plan, &mut out[..room]);
     (out, length)
 }
 
-/// The translation in an area of `room` bytes, and its length, or the number and place of a refusal.
-pub fn translate(file: &[u8], room: usize) -> (Vec<u8>, Result<usize, (u64, u64)>) {
+/// The translation in an area of `room` bytes, and its length or the refusal.
+pub fn translate(file: &[u8], room: usize) -> (Vec<u8>, Result<usize, Refusal>) {
     let mut out = area(room);
-    // The lengths are those of the two areas that are lent.
-    let answer =
-        unsafe { route_rules_translate(file.as_ptr(), file.len(), out.as_mut_ptr(), room) };
-    let (number, low) = (answer >> 32, answer & 0xFFFF_FFFF);
-    let answer = if number == 0 {
-        Ok(low as usize)
-    } else {
-        Err((number, low))
-    };
+    let answer = route_rules::translate(file, &mut out[..room]);
     (out, answer)
+}
+
+/// A refusal of the independent implementation, as the library has it.
+pub fn refusal(refusal: peer::Refusal) -> Refusal {
+    Refusal {
+        number: u32::from(refusal.number),
+        place: u64::from(refusal.place),
+    }
 }

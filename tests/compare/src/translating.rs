@@ -1,6 +1,6 @@
 //! Translations: the library's bytes beside the independent implementation's.
 
-use crate::library;
+use crate::library::{self, Verdict};
 use crate::tally::Tally;
 use peer::{Action, Condition, Effect, Kind, Literal, Preference, Task};
 
@@ -26,9 +26,7 @@ fn same(file: &[u8], room: usize) -> Result<&'static str, String> {
     if let Ok(bytes) = &wanted {
         expected[..bytes.len()].copy_from_slice(bytes);
     }
-    let wanted = wanted
-        .map(|bytes| bytes.len())
-        .map_err(|refusal| (u64::from(refusal.number), u64::from(refusal.place)));
+    let wanted = wanted.map(|bytes| bytes.len()).map_err(library::refusal);
     if answer != wanted || out != expected {
         return Err(format!(
             "the library answers {answer:?}, and not {wanted:?}, or writes other bytes"
@@ -36,20 +34,16 @@ fn same(file: &[u8], room: usize) -> Result<&'static str, String> {
     }
     Ok(match answer {
         Ok(_) => "written",
-        Err((number, _)) => ANSWERS[number as usize - 1],
+        Err(refusal) => ANSWERS[refusal.number as usize - 1],
     })
 }
 
-/// The metric in the library's text on a plan that solves.
-fn metric(file: &[u8], plan: &[u8]) -> u128 {
-    let (out, length) = library::report(file, plan, 1024);
-    let text = String::from_utf8_lossy(&out[..length]).into_owned();
-    let last = text.lines().last().expect("a line");
-    last.split(' ')
-        .nth(1)
-        .expect("an amount")
-        .parse()
-        .expect("a number")
+/// The metric that the library gives a plan that solves.
+fn metric(file: &[u8], plan: &[u8]) -> Option<u128> {
+    match library::judge(file, plan) {
+        Ok(Verdict::Solved { metric, .. }) => Some(u128::from(metric)),
+        _ => None,
+    }
 }
 
 /// A plan that solves, completed by end and one closing action for each preference, solves the task in the bytes that the
@@ -61,12 +55,12 @@ fn completed(file: &[u8], plan: &[u8]) -> Result<(), String> {
     let compiled =
         peer::decode(&out[..n]).map_err(|refusal| format!("compiled is refused: {refusal:?}"))?;
     let cost = peer::run(&compiled, &peer::complete(&source, plan));
-    if cost == Some(metric(file, plan)) {
+    let metric = metric(file, plan);
+    if cost.is_some() && cost == metric {
         Ok(())
     } else {
         Err(format!(
-            "the completed list costs {cost:?}, the metric is {}",
-            metric(file, plan)
+            "the completed list costs {cost:?}, the metric is {metric:?}"
         ))
     }
 }
@@ -154,12 +148,12 @@ fn long(rows: usize) -> Task {
 
 /// The library refuses by `number`, or writes the translation where that is 0, in an area that just fits and in one with room
 /// to spare; in one that is a byte short it refuses by 9.
-fn edge(what: &str, task: &Task, number: u64) -> Result<(), String> {
+fn edge(what: &str, task: &Task, number: usize) -> Result<(), String> {
     let file = peer::encode(task);
     let name = if number == 0 {
         "written"
     } else {
-        ANSWERS[number as usize - 1]
+        ANSWERS[number - 1]
     };
     let room = peer::random::MAX_FILE;
     let answer = same(&file, room).map_err(|why| format!("{what}: {why}"))?;

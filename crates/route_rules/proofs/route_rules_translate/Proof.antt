@@ -1,21 +1,23 @@
-use borrow.Author.Needs.{needs}
 use mathlib.Core.Path.{ap, _∙_}
-use Rattle.route_rules.specs.Numbers.{number}
+use Rattle.route_rules.specs.Numbers.{ofTranslate}
+use borrow.Author.Needs.{needs}
 use Rattle.route_rules.proofs.route_rules_translate.Statement.{statement}
 use Rattle.route_rules.proofs.route_rules_translate.Tie as tie
 
 translate-requires : tie.Need-translate-requires
 translate-requires c κs = search needs
 
-as-number-requires : tie.Need-as-number-requires
-as-number-requires c κs = search needs
+put-translated-requires : tie.Need-put-translated-requires
+put-translated-requires c κs = search needs
 
 same-length : tie.Need-same-length
 same-length c = search needs
 
 returns : tie.Need-returns
-returns c = (c .as-number .ensures ∙ ap number (c .before .before .before .translate .ensures .0), c .before .before .before .translate .ensures .1 .0)
+returns c =
+    let t = c .before .before .before .before .translate in
+    (c .put-translated .ensures ∙ ap ofTranslate (t .ensures .0), (t .ensures .1 .0, λ n e. t .ensures .1 .1 n (t .ensures .0 ∙ e)))
 
 pub route-rules-translate-spec : {M : Type 1} → statement M
 route-rules-translate-spec =
-    tie.close (tie.spec translate-requires as-number-requires same-length returns)
+    tie.close (tie.spec translate-requires put-translated-requires same-length returns)

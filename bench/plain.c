@@ -1,0 +1,657 @@
+/* check, judge and translate in C, written from document 01 for speed, to measure the library beside. The answers are those of
+ * include/route_rules.h.
+ *
+ * plain_ reads the rows where they lie: parts of a file are found once, a condition is left as soon as it is decided, parts of
+ * the source are copied by memcpy. tuned_ also makes tables before it begins: judge turns every clause into masks over
+ * the state, translate writes the trackers of all preferences once and copies them into each action. */
+#include "plain.h"
+
+#include <string.h>
+
+enum { ACTION = 1, EFFECT, CLAUSE, HOLDS, LACKS, ADD, DELETE, GOAL, START, ALWAYS, SOMETIME, AT_END, AT_MOST_ONCE,
+       SOMETIME_BEFORE, SOMETIME_AFTER, SECOND };
+
+#define MAX_ROWS ROUTE_RULES_MAX_ROWS
+
+typedef struct { uint64_t word[2]; } State;
+
+/* The rows of a file, and where its parts begin. */
+typedef struct {
+    const uint8_t *marks, *values;
+    uint32_t rows, at;
+    uint32_t facts, actions, preferences;
+    uint32_t goal, first_action, first_preference; /* rows */
+    uint32_t action[129];                          /* row of ACTION; behind the last: where the preferences begin */
+    struct { uint32_t open, second, next; } side[16]; /* row of the preference, of SECOND or next, and behind it */
+    uint32_t number; /* of a refusal */
+    uint64_t place;
+} Task;
+
+static inline uint32_t value_at(const Task *t, uint32_t i)
+{
+    uint32_t v;
+    memcpy(&v, t->values + 4 * (size_t)i, 4);
+    return v;
+}
+
+static int refuse(Task *t, uint32_t number, uint64_t place)
+{
+    t->number = number;
+    t->place = place;
+    return 0;
+}
+
+static inline int next_is(const Task *t, uint8_t mark)
+{
+    return t->at < t->rows && t->marks[t->at] == mark;
+}
+
+/* The next row, which has a mark that may come: its value is at most `most`. */
+static inline int take(Task *t, uint32_t most)
+{
+    if (value_at(t, t->at) > most) return refuse(t, ROUTE_RULES_VALUE, t->at);
+    t->at++;
+    return 1;
+}
+
+static int need(Task *t, uint8_t mark)
+{
+    if (!next_is(t, mark)) return refuse(t, ROUTE_RULES_MARK, t->at);
+    return take(t, 0);
+}
+
+static int walk_condition(Task *t)
+{
+    while (next_is(t, CLAUSE)) {
+        if (!take(t, 0)) return 0;
+        uint32_t first = t->at;
+        while (next_is(t, HOLDS) || next_is(t, LACKS))
+            if (!take(t, t->facts - 1)) return 0;
+        if (t->at == first) return refuse(t, ROUTE_RULES_MARK, t->at);
+    }
+    return 1;
+}
+
+static int walk_action(Task *t)
+{
+    if (t->actions < 128) t->action[t->actions] = t->at;
+    t->actions++;
+    if (!take(t, ROUTE_RULES_MAX_AMOUNT) || !walk_condition(t)) return 0;
+    while (next_is(t, EFFECT)) {
+        if (!take(t, 0) || !walk_condition(t)) return 0;
+        while (next_is(t, ADD))
+            if (!take(t, t->facts - 1)) return 0;
+        while (next_is(t, DELETE))
+            if (!take(t, t->facts - 1)) return 0;
+    }
+    return 1;
+}
+
+static int walk_preference(Task *t)
+{
+    uint32_t open = t->at;
+    if (!take(t, ROUTE_RULES_MAX_AMOUNT) || !walk_condition(t)) return 0;
+    uint32_t second = t->at;
+    if (t->marks[open] >= SOMETIME_BEFORE && (!need(t, SECOND) || !walk_condition(t))) return 0;
+    if (t->preferences < 16) {
+        t->side[t->preferences].open = open;
+        t->side[t->preferences].second = second;
+        t->side[t->preferences].next = t->at;
+    }
+    t->preferences++;
+    return 1;
+}
+
+static int walk_rows(Task *t)
+{
+    for (uint32_t floor = 0; next_is(t, START); floor = value_at(t, t->at - 1) + 1) {
+        if (value_at(t, t->at) < floor) return refuse(t, ROUTE_RULES_VALUE, t->at);
+        if (!take(t, t->facts - 1)) return 0;
+    }
+    t->goal = t->at;
+    if (!need(t, GOAL) || !walk_condition(t)) return 0;
+    t->first_action = t->at;
+    while (next_is(t, ACTION))
+        if (!walk_action(t)) return 0;
+    t->first_preference = t->at;
+    if (t->actions <= 128) t->action[t->actions] = t->at;
+    while (t->at < t->rows && t->marks[t->at] >= ALWAYS && t->marks[t->at] <= SOMETIME_AFTER)
+        if (!walk_preference(t)) return 0;
+    return t->at == t->rows || refuse(t, ROUTE_RULES_MARK, t->at);
+}
+
+static int check(Task *t, const uint8_t *file, size_t length)
+{
+    t->number = 0;
+    t->place = 0;
+    if (length < 8) return refuse(t, ROUTE_RULES_SHORT_FILE, 0);
+    uint32_t facts = file[0] | file[1] << 8, actions = file[2] | file[3] << 8, preferences = file[4] | file[5] << 8;
+    t->rows = file[6] | file[7] << 8;
+    if (facts < 1 || facts > 128 || actions > 128 || preferences > 16 || t->rows > MAX_ROWS)
+        return refuse(t, ROUTE_RULES_SIZE, 0);
+    if (length != 8 + 5 * (size_t)t->rows) return refuse(t, ROUTE_RULES_LENGTH, 0);
+    t->marks = file + 8;
+    t->values = file + 8 + t->rows;
+    t->at = 0;
+    t->facts = facts;
+    t->actions = t->preferences = 0;
+    if (!walk_rows(t)) return 0;
+    if (t->actions != actions || t->preferences != preferences) return refuse(t, ROUTE_RULES_COUNTS, t->rows);
+    return 1;
+}
+
+uint32_t plain_check(const uint8_t *file, size_t length, uint64_t answer[8])
+{
+    Task t;
+    memset(answer, 0, 64);
+    if (check(&t, file, length)) {
+        answer[1] = t.facts;
+        answer[2] = t.actions;
+        answer[3] = t.preferences;
+        answer[4] = t.rows;
+    }
+    answer[0] = t.place;
+    return t.number;
+}
+
+/* ---- judge */
+
+static inline int holds(State s, uint32_t fact) { return s.word[fact / 64] >> (fact % 64) & 1; }
+
+static inline void set(State *s, uint32_t fact) { s->word[fact / 64] |= (uint64_t)1 << (fact % 64); }
+
+/* Whether the clause whose literals stand from row *at on is true; *at is then behind it. */
+static int clause_true(const Task *t, uint32_t *at, State s)
+{
+    uint32_t i = *at;
+    int yes = 0;
+    for (; i < t->rows && (t->marks[i] == HOLDS || t->marks[i] == LACKS); i++)
+        if (holds(s, value_at(t, i)) == (t->marks[i] == HOLDS)) {
+            yes = 1;
+            break;
+        }
+    while (i < t->rows && (t->marks[i] == HOLDS || t->marks[i] == LACKS)) i++;
+    *at = i;
+    return yes;
+}
+
+static int condition_true(const Task *t, uint32_t *at, State s)
+{
+    while (*at < t->rows && t->marks[*at] == CLAUSE) {
+        ++*at;
+        if (!clause_true(t, at, s)) return 0;
+    }
+    return 1;
+}
+
+static int true_at(const Task *t, uint32_t at, State s) { return condition_true(t, &at, s); }
+
+/* The state behind an action whose effects stand from row `at` up to row `end`. A condition that was left early is passed. */
+static State after(const Task *t, uint32_t at, uint32_t end, State s)
+{
+    State adds = {{0, 0}}, deletes = {{0, 0}};
+    while (at < end) {
+        at++;
+        int fires = condition_true(t, &at, s);
+        while (at < end && t->marks[at] != ADD && t->marks[at] != DELETE && t->marks[at] != EFFECT) at++;
+        for (; at < end && t->marks[at] == ADD; at++)
+            if (fires) set(&adds, value_at(t, at));
+        for (; at < end && t->marks[at] == DELETE; at++)
+            if (fires) set(&deletes, value_at(t, at));
+    }
+    for (int w = 0; w < 2; w++) s.word[w] = (s.word[w] & ~deletes.word[w]) | adds.word[w];
+    return s;
+}
+
+/* What is known of a preference after the states so far. */
+typedef struct { uint8_t s, b; } Monitor;
+
+static inline void watch(Monitor *m, uint8_t kind, int last, int phi, int psi)
+{
+    switch (kind) {
+    case ALWAYS: m->b |= !phi; break;
+    case SOMETIME: m->s |= phi; break;
+    case AT_END: m->s |= last & phi; break;
+    case AT_MOST_ONCE: /* s: φ was seen; b: and was false again since, or true once more (s gone) */
+        if (!m->s && !m->b) m->s = phi;
+        else if (m->s && !phi) m->b = 1;
+        else if (m->s && m->b && phi) m->s = 0;
+        break;
+    case SOMETIME_BEFORE:
+        m->b |= phi & !m->s;
+        m->s |= psi;
+        break;
+    default: m->b = phi | (m->b & !psi);
+    }
+}
+
+static inline int good(Monitor m, uint8_t kind)
+{
+    return kind == SOMETIME || kind == AT_END ? m.s : kind == AT_MOST_ONCE ? m.s | !m.b : !m.b;
+}
+
+static int admitted(Task *t, const uint8_t *plan, size_t steps)
+{
+    if (steps > ROUTE_RULES_MAX_STEPS) return refuse(t, ROUTE_RULES_LONG_PLAN, 0);
+    for (size_t i = 0; i < steps; i++)
+        if (plan[i] >= t->actions) return refuse(t, ROUTE_RULES_STEP, i);
+    return 1;
+}
+
+static void solved(const Task *t, const Monitor *m, uint64_t cost, uint64_t answer[8])
+{
+    uint64_t met = 0, gained = 0, lost = 0;
+    for (uint32_t k = 0; k < t->preferences; k++) {
+        uint32_t open = t->side[k].open;
+        if (good(m[k], t->marks[open])) {
+            met |= (uint64_t)1 << k;
+            gained += value_at(t, open);
+        } else
+            lost += value_at(t, open);
+    }
+    answer[1] = ROUTE_RULES_SOLVED;
+    answer[3] = cost;
+    answer[4] = cost + lost;
+    answer[5] = gained - cost;
+    answer[6] = met;
+}
+
+static State opening(const Task *t)
+{
+    State s = {{0, 0}};
+    for (uint32_t i = 0; i < t->goal; i++) set(&s, value_at(t, i));
+    return s;
+}
+
+static void watch_all(const Task *t, Monitor *m, int last, State s)
+{
+    for (uint32_t k = 0; k < t->preferences; k++) {
+        uint8_t kind = t->marks[t->side[k].open];
+        if (kind == AT_END && !last) continue;
+        int psi = kind >= SOMETIME_BEFORE ? true_at(t, t->side[k].second + 1, s) : 1;
+        watch(&m[k], kind, last, true_at(t, t->side[k].open + 1, s), psi);
+    }
+}
+
+uint32_t plain_judge(const uint8_t *file, size_t length, const uint8_t *plan, size_t steps, uint64_t answer[8])
+{
+    Task t;
+    Monitor m[16] = {{0, 0}};
+    memset(answer, 0, 64);
+    if (!check(&t, file, length) || !admitted(&t, plan, steps)) {
+        answer[0] = t.place;
+        return t.number;
+    }
+    State s = opening(&t);
+    uint64_t cost = 0;
+    for (size_t i = 0; i < steps; i++) {
+        uint32_t at = t.action[plan[i]], from = at + 1;
+        watch_all(&t, m, 0, s);
+        if (!condition_true(&t, &from, s)) {
+            answer[1] = ROUTE_RULES_STOPPED;
+            answer[2] = i;
+            return 0;
+        }
+        cost += value_at(&t, at);
+        s = after(&t, from, t.action[plan[i] + 1], s);
+    }
+    watch_all(&t, m, 1, s);
+    if (true_at(&t, t.goal + 1, s))
+        solved(&t, m, cost, answer);
+    else
+        answer[1] = ROUTE_RULES_GOAL_MISSED;
+    return 0;
+}
+
+/* The same with masks: a clause is true where a fact of `held` is held, or one of `lacked` isn't. */
+typedef struct { uint64_t held[2], lacked[2]; } Clause;
+
+typedef struct { uint16_t from, to; } Clauses;
+
+typedef struct { Clauses when; State adds, deletes; } Effect;
+
+typedef struct {
+    Clause clause[MAX_ROWS];
+    Effect effect[MAX_ROWS];
+    uint32_t clauses, effects;
+    struct { Clauses when; uint16_t from, to; } action[128];
+    Clauses phi[16], psi[16], goal;
+} Tables;
+
+static Clauses table_condition(const Task *t, Tables *x, uint32_t *at)
+{
+    Clauses c;
+    uint32_t i = *at;
+    c.from = x->clauses;
+    while (i < t->rows && t->marks[i] == CLAUSE) {
+        Clause *d = &x->clause[x->clauses++];
+        memset(d, 0, sizeof *d);
+        for (i++; i < t->rows && (t->marks[i] == HOLDS || t->marks[i] == LACKS); i++) {
+            uint32_t fact = value_at(t, i);
+            (t->marks[i] == HOLDS ? d->held : d->lacked)[fact / 64] |= (uint64_t)1 << (fact % 64);
+        }
+    }
+    c.to = x->clauses;
+    *at = i;
+    return c;
+}
+
+static void table_action(const Task *t, Tables *x, uint32_t k)
+{
+    uint32_t at = t->action[k] + 1, end = t->action[k + 1];
+    x->action[k].when = table_condition(t, x, &at);
+    x->action[k].from = x->effects;
+    while (at < end) {
+        Effect *e = &x->effect[x->effects++];
+        at++;
+        memset(e, 0, sizeof *e);
+        e->when = table_condition(t, x, &at);
+        for (; at < end && t->marks[at] == ADD; at++) set(&e->adds, value_at(t, at));
+        for (; at < end && t->marks[at] == DELETE; at++) set(&e->deletes, value_at(t, at));
+    }
+    x->action[k].to = x->effects;
+}
+
+static void table_all(const Task *t, Tables *x)
+{
+    uint32_t at = t->goal + 1;
+    x->clauses = x->effects = 0;
+    x->goal = table_condition(t, x, &at);
+    for (uint32_t k = 0; k < t->actions; k++) table_action(t, x, k);
+    for (uint32_t k = 0; k < t->preferences; k++) {
+        at = t->side[k].open + 1;
+        x->phi[k] = table_condition(t, x, &at);
+        at = t->side[k].second + 1;
+        if (t->marks[t->side[k].open] >= SOMETIME_BEFORE) x->psi[k] = table_condition(t, x, &at);
+    }
+}
+
+static inline int clauses_true(const Tables *x, Clauses c, State s)
+{
+    for (uint32_t i = c.from; i < c.to; i++) {
+        const Clause *d = &x->clause[i];
+        if (!((s.word[0] & d->held[0]) | (s.word[1] & d->held[1]) | (~s.word[0] & d->lacked[0]) |
+              (~s.word[1] & d->lacked[1])))
+            return 0;
+    }
+    return 1;
+}
+
+static void watch_tables(const Task *t, const Tables *x, Monitor *m, int last, State s)
+{
+    for (uint32_t k = 0; k < t->preferences; k++) {
+        uint8_t kind = t->marks[t->side[k].open];
+        if (kind == AT_END && !last) continue;
+        int psi = kind >= SOMETIME_BEFORE ? clauses_true(x, x->psi[k], s) : 1;
+        watch(&m[k], kind, last, clauses_true(x, x->phi[k], s), psi);
+    }
+}
+
+static State after_tables(const Tables *x, uint32_t k, State s)
+{
+    State adds = {{0, 0}}, deletes = {{0, 0}};
+    for (uint32_t i = x->action[k].from; i < x->action[k].to; i++) {
+        const Effect *e = &x->effect[i];
+        if (!clauses_true(x, e->when, s)) continue;
+        for (int w = 0; w < 2; w++) {
+            adds.word[w] |= e->adds.word[w];
+            deletes.word[w] |= e->deletes.word[w];
+        }
+    }
+    for (int w = 0; w < 2; w++) s.word[w] = (s.word[w] & ~deletes.word[w]) | adds.word[w];
+    return s;
+}
+
+uint32_t tuned_judge(const uint8_t *file, size_t length, const uint8_t *plan, size_t steps, uint64_t answer[8])
+{
+    Task t;
+    Tables x;
+    Monitor m[16] = {{0, 0}};
+    memset(answer, 0, 64);
+    if (!check(&t, file, length) || !admitted(&t, plan, steps)) {
+        answer[0] = t.place;
+        return t.number;
+    }
+    table_all(&t, &x);
+    State s = opening(&t);
+    uint64_t cost = 0;
+    for (size_t i = 0; i < steps; i++) {
+        watch_tables(&t, &x, m, 0, s);
+        if (!clauses_true(&x, x.action[plan[i]].when, s)) {
+            answer[1] = ROUTE_RULES_STOPPED;
+            answer[2] = i;
+            return 0;
+        }
+        cost += value_at(&t, t.action[plan[i]]);
+        s = after_tables(&x, plan[i], s);
+    }
+    watch_tables(&t, &x, m, 1, s);
+    if (clauses_true(&x, x.goal, s))
+        solved(&t, m, cost, answer);
+    else
+        answer[1] = ROUTE_RULES_GOAL_MISSED;
+    return 0;
+}
+
+/* ---- translate */
+
+typedef struct {
+    const Task *source;
+    uint8_t *marks, *values;
+    uint32_t at;
+} Writer;
+
+static inline void put(Writer *w, uint8_t mark, uint32_t value)
+{
+    w->marks[w->at] = mark;
+    memcpy(w->values + 4 * (size_t)w->at, &value, 4);
+    w->at++;
+}
+
+static inline void put_single(Writer *w, uint8_t mark, uint32_t fact)
+{
+    put(w, CLAUSE, 0);
+    put(w, mark, fact);
+}
+
+static inline void copy(Writer *w, uint32_t from, uint32_t to)
+{
+    memcpy(w->marks + w->at, w->source->marks + from, to - from);
+    memcpy(w->values + 4 * (size_t)w->at, w->source->values + 4 * (size_t)from, 4 * (size_t)(to - from));
+    w->at += to - from;
+}
+
+/* An effect for each false clause of the condition from row `at` up to row `to`, which adds b; behind holds s if guarded. */
+static void put_false(Writer *w, uint32_t at, uint32_t to, int guarded, uint32_t s, uint32_t b)
+{
+    while (at < to) {
+        put(w, EFFECT, 0);
+        if (guarded) put_single(w, HOLDS, s);
+        for (at++; at < to && w->source->marks[at] != CLAUSE; at++)
+            put_single(w, w->source->marks[at] == HOLDS ? LACKS : HOLDS, value_at(w->source, at));
+        put(w, ADD, b);
+    }
+}
+
+static void put_tracker(Writer *w, uint32_t k, int last)
+{
+    const Task *t = w->source;
+    uint32_t open = t->side[k].open + 1, second = t->side[k].second, next = t->side[k].next;
+    uint32_t s = t->facts + 3 * k, b = s + 1;
+    switch (t->marks[open - 1]) {
+    case ALWAYS: put_false(w, open, second, 0, s, b); break;
+    case AT_END:
+        if (!last) break;
+        /* fall through */
+    case SOMETIME:
+        put(w, EFFECT, 0);
+        copy(w, open, second);
+        put(w, ADD, s);
+        break;
+    case AT_MOST_ONCE:
+        put(w, EFFECT, 0);
+        put_single(w, LACKS, s);
+        put_single(w, LACKS, b);
+        copy(w, open, second);
+        put(w, ADD, s);
+        put_false(w, open, second, 1, s, b);
+        put(w, EFFECT, 0);
+        put_single(w, HOLDS, s);
+        put_single(w, HOLDS, b);
+        copy(w, open, second);
+        put(w, DELETE, s);
+        break;
+    case SOMETIME_BEFORE:
+        put(w, EFFECT, 0);
+        copy(w, second + 1, next);
+        put(w, ADD, s);
+        put(w, EFFECT, 0);
+        put_single(w, LACKS, s);
+        copy(w, open, second);
+        put(w, ADD, b);
+        break;
+    default:
+        put(w, EFFECT, 0);
+        copy(w, open, second);
+        put(w, ADD, b);
+        put(w, EFFECT, 0);
+        copy(w, second + 1, next);
+        put(w, DELETE, b);
+    }
+}
+
+static void put_trackers(Writer *w, int last)
+{
+    for (uint32_t k = 0; k < w->source->preferences; k++) put_tracker(w, k, last);
+}
+
+/* How many rows the tracker of preference k has. */
+static uint64_t tracker_rows(const Task *t, uint32_t k, int last)
+{
+    uint32_t open = t->side[k].open + 1, second = t->side[k].second, next = t->side[k].next;
+    uint64_t clauses = 0, phi = second - open, psi = next > second ? next - second - 1 : 0;
+    for (uint32_t i = open; i < second; i++) clauses += t->marks[i] == CLAUSE;
+    uint64_t denied = 2 * clauses + 2 * (phi - clauses); /* EFFECT and ADD of each clause; two rows for a literal */
+    switch (t->marks[open - 1]) {
+    case ALWAYS: return denied;
+    case AT_END: return last ? phi + 2 : 0;
+    case SOMETIME: return phi + 2;
+    case AT_MOST_ONCE: return denied + 2 * clauses + 2 * (phi + 6);
+    case SOMETIME_BEFORE: return psi + 2 + phi + 4;
+    default: return phi + 2 + psi + 2;
+    }
+}
+
+static uint64_t count_rows(const Task *t)
+{
+    uint64_t rows = t->first_preference + 1 + 2 + 2 * (uint64_t)t->preferences + 2 * (uint64_t)t->actions;
+    uint64_t normal = 0, last = 0, closing = 0;
+    for (uint32_t k = 0; k < t->preferences; k++) {
+        normal += tracker_rows(t, k, 0);
+        last += tracker_rows(t, k, 1);
+        /* collect and forgo: ACTION, three or two clauses, met or missed, EFFECT, ADD */
+        closing += 2 * (3 + 2 * (k > 0 ? 3 : 2)) + (t->marks[t->side[k].open] == AT_MOST_ONCE ? 7 : 4);
+    }
+    return rows + t->actions * normal + 6 + last + closing;
+}
+
+static void put_closing(Writer *w, uint32_t k, int collect)
+{
+    const Task *t = w->source;
+    uint32_t open = t->side[k].open, s = t->facts + 3 * k, b = s + 1;
+    put(w, ACTION, collect ? 0 : value_at(t, open));
+    put_single(w, HOLDS, t->facts + 3 * t->preferences + 1);
+    if (k > 0) put_single(w, HOLDS, s - 1);
+    put_single(w, LACKS, s + 2);
+    switch (t->marks[open]) {
+    case SOMETIME:
+    case AT_END: put_single(w, collect ? HOLDS : LACKS, s); break;
+    case AT_MOST_ONCE:
+        put_single(w, collect ? HOLDS : LACKS, s);
+        if (collect)
+            put(w, LACKS, b);
+        else
+            put_single(w, HOLDS, b);
+        break;
+    default: put_single(w, collect ? LACKS : HOLDS, b);
+    }
+    put(w, EFFECT, 0);
+    put(w, ADD, s + 2);
+}
+
+/* The source's actions. With `once` the trackers are written in the first action only, and copied from there. */
+static void put_actions(Writer *w, uint32_t normal, int once)
+{
+    const Task *t = w->source;
+    uint32_t from = 0, rows = 0;
+    for (uint32_t k = 0; k < t->actions; k++) {
+        uint32_t at = t->action[k], mid = at + 1;
+        while (mid < t->action[k + 1] && t->marks[mid] != EFFECT) mid++;
+        copy(w, at, mid);
+        put_single(w, HOLDS, normal);
+        copy(w, mid, t->action[k + 1]);
+        if (once && k > 0) {
+            memcpy(w->marks + w->at, w->marks + from, rows);
+            memcpy(w->values + 4 * (size_t)w->at, w->values + 4 * (size_t)from, 4 * (size_t)rows);
+            w->at += rows;
+        } else {
+            from = w->at;
+            put_trackers(w, 0);
+            rows = w->at - from;
+        }
+    }
+}
+
+static void put_size(uint8_t *out, uint32_t size)
+{
+    out[0] = size & 255;
+    out[1] = size >> 8;
+}
+
+static uint32_t translate(const uint8_t *file, size_t length, uint8_t *out, size_t room, uint64_t answer[8], int once)
+{
+    Task t;
+    memset(answer, 0, 64);
+    if (!check(&t, file, length)) {
+        answer[0] = t.place;
+        return t.number;
+    }
+    uint32_t normal = t.facts + 3 * t.preferences;
+    if (normal + 2 > 128 || t.actions + 2 * t.preferences + 1 > 128) return ROUTE_RULES_TOO_MANY;
+    uint64_t rows = count_rows(&t);
+    if (rows > MAX_ROWS) return ROUTE_RULES_TRANSLATION_ROWS;
+    if (room < 8 + 5 * rows) return ROUTE_RULES_SHORT_OUTPUT;
+    put_size(out, normal + 2);
+    put_size(out + 2, t.actions + 2 * t.preferences + 1);
+    put_size(out + 4, 0);
+    put_size(out + 6, rows);
+    Writer w = {&t, out + 8, out + 8 + rows, 0};
+    copy(&w, 0, t.goal);
+    put(&w, START, normal);
+    copy(&w, t.goal, t.first_action);
+    put_single(&w, HOLDS, normal + 1);
+    for (uint32_t k = 0; k < t.preferences; k++) put_single(&w, HOLDS, t.facts + 3 * k + 2);
+    put_actions(&w, normal, once);
+    put(&w, ACTION, 0);
+    put_single(&w, HOLDS, normal);
+    put(&w, EFFECT, 0);
+    put(&w, ADD, normal + 1);
+    put(&w, DELETE, normal);
+    put_trackers(&w, 1);
+    for (uint32_t k = 0; k < t.preferences; k++) {
+        put_closing(&w, k, 1);
+        put_closing(&w, k, 0);
+    }
+    answer[1] = 8 + 5 * rows;
+    return 0;
+}
+
+uint32_t plain_translate(const uint8_t *file, size_t length, uint8_t *out, size_t room, uint64_t answer[8])
+{
+    return translate(file, length, out, room, answer, 0);
+}
+
+uint32_t tuned_translate(const uint8_t *file, size_t length, uint8_t *out, size_t room, uint64_t answer[8])
+{
+    return translate(file, length, out, room, answer, 1);
+}

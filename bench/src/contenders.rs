@@ -1,0 +1,88 @@
+//! The implementations beside each other, all with the answers of include/route_rules.h.
+
+use peer::{Refusal, Verdict};
+
+/// What a call returns, and the words of its answer.
+pub type Answer = (u32, [u64; 8]);
+
+type Judge = unsafe extern "C" fn(*const u8, usize, *const u8, usize, *mut [u64; 8]) -> u32;
+type Translate = unsafe extern "C" fn(*const u8, usize, *mut u8, usize, *mut [u64; 8]) -> u32;
+
+extern "C" {
+    fn route_rules_judge(a: *const u8, b: usize, c: *const u8, d: usize, e: *mut [u64; 8]) -> u32;
+    fn route_rules_translate(a: *const u8, b: usize, c: *mut u8, d: usize, e: *mut [u64; 8])
+        -> u32;
+    fn plain_judge(a: *const u8, b: usize, c: *const u8, d: usize, e: *mut [u64; 8]) -> u32;
+    fn plain_translate(a: *const u8, b: usize, c: *mut u8, d: usize, e: *mut [u64; 8]) -> u32;
+    fn tuned_judge(a: *const u8, b: usize, c: *const u8, d: usize, e: *mut [u64; 8]) -> u32;
+    fn tuned_translate(a: *const u8, b: usize, c: *mut u8, d: usize, e: *mut [u64; 8]) -> u32;
+}
+
+pub const NAMES: [&str; 4] = ["library", "Rust", "plain C", "tuned C"];
+
+fn refused(refusal: Refusal) -> Answer {
+    let place = u64::from(refusal.place);
+    (u32::from(refusal.number), [place, 0, 0, 0, 0, 0, 0, 0])
+}
+
+fn words(verdict: Verdict) -> [u64; 8] {
+    match verdict {
+        Verdict::Solved {
+            cost,
+            metric,
+            utility,
+            met,
+        } => [0, 1, 0, cost, metric, utility as u64, u64::from(met), 0],
+        Verdict::Stopped(step) => [0, 2, step as u64, 0, 0, 0, 0, 0],
+        Verdict::GoalMissed => [0, 3, 0, 0, 0, 0, 0, 0],
+    }
+}
+
+pub fn judge(who: usize, file: &[u8], plan: &[u8]) -> Answer {
+    let call = |judge: Judge| {
+        let mut answer = [0; 8];
+        // Each pointer comes with the length of its area.
+        let number = unsafe {
+            judge(
+                file.as_ptr(),
+                file.len(),
+                plan.as_ptr(),
+                plan.len(),
+                &mut answer,
+            )
+        };
+        (number, answer)
+    };
+    match who {
+        0 => call(route_rules_judge),
+        1 => peer::judge(file, plan).map_or_else(refused, |verdict| (0, words(verdict))),
+        2 => call(plain_judge),
+        _ => call(tuned_judge),
+    }
+}
+
+/// The translation stands in `out` afterwards. The Rust makes its own area, and its bytes are copied.
+pub fn translate(who: usize, file: &[u8], out: &mut [u8]) -> Answer {
+    let mut call = |translate: Translate| {
+        let mut answer = [0; 8];
+        let number = unsafe {
+            translate(
+                file.as_ptr(),
+                file.len(),
+                out.as_mut_ptr(),
+                out.len(),
+                &mut answer,
+            )
+        };
+        (number, answer)
+    };
+    match who {
+        0 => call(route_rules_translate),
+        1 => peer::translate(file, out.len()).map_or_else(refused, |bytes| {
+            out[..bytes.len()].copy_from_slice(&bytes);
+            (0, [0, bytes.len() as u64, 0, 0, 0, 0, 0, 0])
+        }),
+        2 => call(plain_translate),
+        _ => call(tuned_translate),
+    }
+}

@@ -1,0 +1,234 @@
+//! The tasks and plans that are measured.
+
+use peer::random::{task_and_plan, Random, Shape};
+use peer::task::MAX_ROWS;
+use peer::{
+    encode, judge, translated, Action, Clause, Condition, Effect, Kind, Literal, Preference, Task,
+    Verdict,
+};
+
+/// A task file and a plan.
+pub struct Input {
+    pub name: String,
+    pub file: Vec<u8>,
+    pub plan: Vec<u8>,
+}
+
+fn input(name: &str, task: &Task, plan: Vec<u8>) -> Input {
+    Input {
+        name: name.to_string(),
+        file: encode(task),
+        plan,
+    }
+}
+
+/// The belt of document 01.
+pub fn belt() -> Input {
+    let literal = |holds, fact| vec![vec![Literal { holds, fact }]];
+    let action = |cost, adds, deletes| Action {
+        cost,
+        precondition: vec![],
+        effects: vec![Effect {
+            condition: vec![],
+            adds,
+            deletes,
+        }],
+    };
+    let rule = |kind, weight, phi| Preference {
+        kind,
+        weight,
+        phi,
+        psi: vec![],
+    };
+    let task = Task {
+        facts: 2,
+        start: vec![1],
+        goal: literal(false, 1),
+        actions: vec![action(3, vec![0], vec![1]), action(1, vec![1], vec![0])],
+        preferences: vec![
+            rule(Kind::Always, 5, literal(false, 1)),
+            rule(Kind::Sometime, 7, literal(true, 0)),
+        ],
+    };
+    input("belt", &task, vec![0])
+}
+
+/// A random task with every kind of preference, and a plan of 200 steps that solves it.
+pub fn middle() -> Input {
+    let shape = Shape {
+        facts: 60,
+        actions: 40,
+        preferences: 8,
+        clauses: 3,
+        literals: 3,
+        effects: 3,
+        steps: 200,
+    };
+    let fits = |task: &Task, plan: &[u8]| {
+        let has = |&kind: &Kind| task.preferences.iter().any(|p| p.kind == kind);
+        plan.len() == 200
+            && Kind::ALL.iter().all(has)
+            && matches!(judge(&encode(task), plan), Ok(Verdict::Solved { .. }))
+            && translated(task, MAX_ROWS).is_some()
+    };
+    let (task, plan) = (1..)
+        .map(|seed| task_and_plan(&mut Random::new(seed), &shape))
+        .find(|(task, plan)| fits(task, plan))
+        .expect("such a task");
+    input("middle", &task, plan)
+}
+
+/// A clause whose last literal alone is true: facts from 2 on are never held.
+fn clause(literals: usize) -> Clause {
+    let fact = |n| 2 + n % 40;
+    let mut clause: Clause = (1..literals)
+        .map(|n| Literal {
+            holds: true,
+            fact: fact(n),
+        })
+        .collect();
+    clause.push(Literal {
+        holds: false,
+        fact: fact(literals),
+    });
+    clause
+}
+
+/// A true condition of so many rows (not 1), in clauses of up to 8 literals.
+fn condition(rows: usize) -> Condition {
+    let mut clauses = vec![];
+    let mut left = rows;
+    while left > 0 {
+        let next = if left > 10 { 9 } else { left };
+        clauses.push(clause(next - 1));
+        left -= next;
+    }
+    clauses
+}
+
+/// An action that turns two facts over, with so many more rows of conditions in its effect.
+fn action(rows: usize, adds: usize) -> Action {
+    Action {
+        cost: 1,
+        precondition: vec![],
+        effects: vec![Effect {
+            condition: condition(rows),
+            adds: vec![adds],
+            deletes: vec![1 - adds],
+        }],
+    }
+}
+
+fn task(actions: Vec<Action>, preferences: Vec<Preference>) -> Task {
+    Task {
+        facts: 60,
+        start: vec![0],
+        goal: condition(2),
+        actions,
+        preferences,
+    }
+}
+
+/// 16 preferences of all kinds with so many rows of conditions between them.
+fn preferences(rows: usize) -> Vec<Preference> {
+    let sides: usize = (0..16).map(|k| sides(kind(k))).sum();
+    let mut left = rows;
+    let mut still = sides;
+    let mut share = || {
+        let n = left / still;
+        left -= n;
+        still -= 1;
+        condition(n)
+    };
+    (0..16)
+        .map(|k| Preference {
+            kind: kind(k),
+            weight: 7,
+            phi: share(),
+            psi: if kind(k).has_second() {
+                share()
+            } else {
+                vec![]
+            },
+        })
+        .collect()
+}
+
+fn kind(k: usize) -> Kind {
+    Kind::ALL[k % 6]
+}
+
+fn sides(kind: Kind) -> usize {
+    if kind.has_second() {
+        2
+    } else {
+        1
+    }
+}
+
+/// A task of so many rows, nearly all in its preferences, none of which is decided early.
+pub fn in_preferences(rows: usize, steps: usize) -> Input {
+    let small = task(vec![action(0, 0), action(0, 1)], preferences(64)).rows();
+    let full = task(
+        vec![action(0, 0), action(0, 1)],
+        preferences(rows + 64 - small),
+    );
+    assert_eq!(full.rows(), rows);
+    let plan = (0..steps).map(|i| (i % 2) as u8).collect();
+    input(
+        &format!("{rows} rows in preferences, {steps} steps"),
+        &full,
+        plan,
+    )
+}
+
+/// A task of so many rows, nearly all in the one action that every step takes.
+pub fn in_action(rows: usize, steps: usize) -> Input {
+    let small = task(vec![action(2, 0)], preferences(64)).rows();
+    let full = task(vec![action(rows + 2 - small, 0)], preferences(64));
+    assert_eq!(full.rows(), rows);
+    input(
+        &format!("{rows} rows in an action, {steps} steps"),
+        &full,
+        vec![0; steps],
+    )
+}
+
+/// A task whose translation has so many rows, most of them in the trackers of its actions.
+pub fn in_trackers(rows: usize, actions: usize) -> Input {
+    let of = |clauses: usize, goal: usize| Task {
+        goal: vec![clause(goal)],
+        ..task(
+            (0..actions).map(|k| action(8, k % 2)).collect(),
+            preferences(clauses),
+        )
+    };
+    let length = |task: &Task| translated(task, 2 * MAX_ROWS).map(|t| t.rows());
+    let clauses = (20..)
+        .map(|n| 2 * n)
+        .take_while(|&n| length(&of(n, 1)).is_some_and(|found| found <= rows))
+        .last()
+        .expect("room");
+    let missing = rows - length(&of(clauses, 1)).expect("rows");
+    let full = of(clauses, 1 + missing);
+    assert_eq!(length(&full), Some(rows));
+    input(
+        &format!("{rows} rows written, {actions} actions"),
+        &full,
+        vec![],
+    )
+}
+
+/// A task whose translation has so many rows, nearly all of them copied.
+pub fn copied(rows: usize) -> Input {
+    let of = |goal: usize| Task {
+        goal: condition(goal),
+        ..task(vec![], vec![])
+    };
+    let more = translated(&of(2), MAX_ROWS).expect("rows").rows() - 2;
+    input(
+        &format!("{rows} rows written, copied"),
+        &of(rows - more),
+        vec![],
+    )
+}

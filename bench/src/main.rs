@@ -1,0 +1,123 @@
+//! Measures judge and translate of the library, of the independent Rust and of C on the same inputs, and prints tables. It fails
+//! where two of them differ.
+
+mod contenders;
+mod inputs;
+mod measure;
+
+use contenders::NAMES;
+use inputs::Input;
+use peer::random::MAX_FILE;
+use std::hint::black_box;
+
+type Times = [f64; NAMES.len()];
+
+fn same<T: PartialEq + std::fmt::Debug>(name: &str, results: &[T]) {
+    for (who, result) in NAMES.iter().zip(results).skip(1) {
+        assert!(result == &results[0], "{name}: {who} differs");
+    }
+}
+
+fn judge(input: &Input) -> Times {
+    let run = |who| contenders::judge(who, &input.file, &input.plan);
+    let answers = [0, 1, 2, 3].map(run);
+    assert_eq!((answers[0].0, answers[0].1[1]), (0, 1), "a solved plan");
+    same(&input.name, &answers);
+    measure::medians(|who| {
+        black_box(run(who));
+    })
+}
+
+fn translate(input: &Input) -> Times {
+    let results = [0, 1, 2, 3].map(|who| {
+        let mut out = vec![0xA5; MAX_FILE];
+        let answer = contenders::translate(who, &input.file, &mut out);
+        (answer, out)
+    });
+    assert_eq!(results[0].0 .0, 0, "a translation");
+    same(&input.name, &results);
+    let mut out = vec![0; MAX_FILE];
+    measure::medians(|who| {
+        black_box(contenders::translate(who, &input.file, &mut out));
+    })
+}
+
+/// A time with three digits or more.
+fn shown(nanoseconds: f64) -> String {
+    if nanoseconds < 10_000.0 {
+        format!("{nanoseconds:.0} ns")
+    } else if nanoseconds < 10_000_000.0 {
+        format!("{:.1} µs", nanoseconds / 1e3)
+    } else {
+        format!("{:.1} ms", nanoseconds / 1e6)
+    }
+}
+
+fn line(operation: &str, input: &Input, times: Times) {
+    let columns: Vec<String> = times.iter().map(|&time| shown(time)).collect();
+    let ratios: Vec<String> = times[1..]
+        .iter()
+        .map(|time| format!("{:.2}", times[0] / time))
+        .collect();
+    println!(
+        "| {operation} | {} | {} | {} |",
+        input.name,
+        columns.join(" | "),
+        ratios.join(" | ")
+    );
+}
+
+fn comparison() {
+    let [library, rest @ ..] = NAMES;
+    let ratios = rest.map(|name| format!("{library} / {name}"));
+    println!(
+        "| operation | input | {} | {} |",
+        NAMES.join(" | "),
+        ratios.join(" | ")
+    );
+    println!("|---|---|{}", "---|".repeat(2 * NAMES.len() - 1));
+    let judged = [
+        inputs::belt(),
+        inputs::middle(),
+        inputs::in_preferences(12_000, 2_048),
+        inputs::in_action(12_000, 2_048),
+    ];
+    for input in &judged {
+        line("judge", input, judge(input));
+    }
+    let translated = [
+        inputs::belt(),
+        inputs::middle(),
+        inputs::in_trackers(12_000, 40),
+        inputs::copied(12_000),
+    ];
+    for input in &translated {
+        line("translate", input, translate(input));
+    }
+}
+
+/// The library's time alone.
+fn growth() {
+    println!("\n| operation | input | library |\n|---|---|---|");
+    for rows in [1_500, 3_000, 6_000, 12_000] {
+        let input = inputs::in_preferences(rows, 2_048);
+        println!("| judge | {} | {} |", input.name, shown(judge(&input)[0]));
+    }
+    for steps in [256, 512, 1_024, 2_048] {
+        let input = inputs::in_preferences(12_000, steps);
+        println!("| judge | {} | {} |", input.name, shown(judge(&input)[0]));
+    }
+    for rows in [1_500, 3_000, 6_000, 12_000] {
+        let input = inputs::in_trackers(rows, 2);
+        println!(
+            "| translate | {} | {} |",
+            input.name,
+            shown(translate(&input)[0])
+        );
+    }
+}
+
+fn main() {
+    comparison();
+    growth();
+}

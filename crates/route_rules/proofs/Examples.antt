@@ -1,0 +1,38 @@
+-- The words of answers on the belt: what the definitions give, and what they should.
+use mathlib.Core.Path.{_≡_, refl}
+use mathlib.Core.List.{List, [], _∷_, map}
+use Prim.Native.Nat.{ℕ, _-_, _^_}
+use Rattle.task.specs.Check.{check, walk}
+use Rattle.task.specs.Verdict.{verdict, stopped}
+use Rattle.task.proofs.Lettered.{belt}
+use Rattle.plan.specs.Judged.{given, judged}
+use Rattle.translation.specs.Translation.{translated}
+use Rattle.translation.specs.Translated.{outcome}
+use Rattle.route_rules.specs.Numbers.{Call, call, bits, ofCheck, ofTranslate, ofJudge}
+
+pub record Example : Type 0 where
+  pub given : Call
+  pub number : ℕ
+  pub words : List ℕ
+
+abbrev example : Call → ℕ → List ℕ → Example
+example c n ws = record { given = c; number = n; words = ws }
+
+abbrev examples : List Example
+examples =
+    example (ofCheck (check belt)) 0 (0 ∷ 2 ∷ 2 ∷ 2 ∷ 18 ∷ 0 ∷ 0 ∷ 0 ∷ [])
+    ∷ example (ofCheck (check [])) 1 (0 ∷ 0 ∷ 0 ∷ 0 ∷ 0 ∷ 0 ∷ 0 ∷ 0 ∷ [])
+    ∷ example (ofTranslate (outcome belt 473)) 0 (0 ∷ 473 ∷ 0 ∷ 0 ∷ 0 ∷ 0 ∷ 0 ∷ 0 ∷ [])
+    ∷ example (ofTranslate (outcome belt 472)) 9 (0 ∷ 0 ∷ 0 ∷ 0 ∷ 0 ∷ 0 ∷ 0 ∷ 0 ∷ [])
+    -- preference 1 is met, so bit 1 is set
+    ∷ example (ofJudge (judged belt (0 ∷ []))) 0 (0 ∷ 1 ∷ 0 ∷ 3 ∷ 8 ∷ 4 ∷ 2 ∷ 0 ∷ [])
+    -- a utility of -2
+    ∷ example (ofJudge (judged belt (0 ∷ 0 ∷ 0 ∷ []))) 0 (0 ∷ 1 ∷ 0 ∷ 9 ∷ 14 ∷ (2 ^ 64 - 2) ∷ 2 ∷ 0 ∷ [])
+    ∷ example (ofJudge (given (stopped 10))) 0 (0 ∷ 2 ∷ 10 ∷ 0 ∷ 0 ∷ 0 ∷ 0 ∷ 0 ∷ [])
+    ∷ example (ofJudge (judged belt [])) 0 (0 ∷ 3 ∷ 0 ∷ 0 ∷ 0 ∷ 0 ∷ 0 ∷ 0 ∷ [])
+    ∷ example (ofJudge (judged belt (0 ∷ 2 ∷ []))) 11 (1 ∷ 0 ∷ 0 ∷ 0 ∷ 0 ∷ 0 ∷ 0 ∷ 0 ∷ [])
+    ∷ []
+
+pub as-said : map (λ (e : Example). e .given) examples ≡ map (λ (e : Example). call (e .number) (e .words)) examples
+unfolding check walk judged verdict translated outcome bits
+as-said = refl

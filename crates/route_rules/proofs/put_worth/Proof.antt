@@ -1,0 +1,24 @@
+use mathlib.Core.Path.{ap, _∙_}
+use mir.Syntax.{w64}
+use mir.ValLaws.{toZ-ofZ}
+use Rattle.route_rules.specs.Numbers.{signed}
+use Rattle.route_rules.proofs.Bits.{solved-words}
+use borrow.Author.Needs.{needs}
+use Rattle.route_rules.proofs.put_worth.Statement.{statement}
+use Rattle.route_rules.proofs.put_worth.Tie as tie
+
+as-word-requires : tie.Need-as-word-requires
+as-word-requires c κs = search needs
+
+put-values-requires : tie.Need-put-values-requires
+put-values-requires c κs = search needs
+
+returns : tie.Need-returns
+returns c =
+    let a = c .before .before .before .before .args in
+    let u = a .w .utility in
+    solved-words _ (a .w .cost) (a .w .metric) (a .w .met) (c .before .as-word .result) u (search needs)
+    (c .before .as-word .ensures ∙ ap signed (toZ-ofZ w64 u (search needs))) (c .put-values .ensures)
+
+pub put-worth-spec : {M : Type 1} → statement M
+put-worth-spec = tie.close (tie.spec as-word-requires put-values-requires returns)

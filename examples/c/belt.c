@@ -1,0 +1,89 @@
+/* Checks the belt's task, translates it, judges a plan on it, and prints the answers: belt TASK PLAN. */
+#include "route_rules.h"
+
+#include <inttypes.h>
+#include <stdio.h>
+#include <stdlib.h>
+
+static size_t read_file(const char *name, uint8_t *area, size_t room)
+{
+    FILE *file = fopen(name, "rb");
+    if (file == NULL) {
+        fprintf(stderr, "no file %s\n", name);
+        exit(1);
+    }
+    size_t length = fread(area, 1, room, file);
+    fclose(file);
+    return length;
+}
+
+static void refused(const char *operation, uint32_t number, uint64_t place)
+{
+    printf("%s: refused %" PRIu32 " %" PRIu64 "\n", operation, number, place);
+}
+
+static void check(const uint8_t *file, size_t length)
+{
+    route_rules_checked answer;
+    uint32_t number = route_rules_check(file, length, &answer);
+    if (number != 0)
+        refused("check", number, answer.place);
+    else
+        printf("check: facts %" PRIu64 " actions %" PRIu64 " preferences %" PRIu64 " rows %" PRIu64 "\n", answer.facts,
+               answer.actions, answer.preferences, answer.rows);
+}
+
+static void translate(const uint8_t *file, size_t length)
+{
+    static uint8_t out[ROUTE_RULES_MAX_FILE];
+    route_rules_translated answer;
+    uint32_t number = route_rules_translate(file, length, out, sizeof out, &answer);
+    if (number != 0) {
+        refused("translate", number, answer.place);
+        return;
+    }
+    printf("translate: %" PRIu64 " bytes\n", answer.length);
+    check(out, answer.length);
+}
+
+static void judge(const uint8_t *file, size_t length, const uint8_t *plan, size_t steps)
+{
+    route_rules_judged answer;
+    uint32_t number = route_rules_judge(file, length, plan, steps, &answer);
+    if (number != 0) {
+        refused("judge", number, answer.place);
+        return;
+    }
+    switch (answer.verdict) {
+    case ROUTE_RULES_SOLVED:
+        printf("judge: solved cost %" PRIu64 " metric %" PRIu64 " utility %" PRId64 " met", answer.cost, answer.metric,
+               answer.utility);
+        for (int k = 0; k < ROUTE_RULES_MAX_PREFERENCES; k++)
+            if (answer.met >> k & 1) printf(" %d", k);
+        printf("\n");
+        break;
+    case ROUTE_RULES_STOPPED: printf("judge: stopped %" PRIu64 "\n", answer.step); break;
+    case ROUTE_RULES_GOAL_MISSED: printf("judge: goal missed\n"); break;
+    }
+}
+
+int main(int count, char **words)
+{
+    /* A byte more than the longest accepted file and plan: a longer one is refused as its whole would be. */
+    static uint8_t file[ROUTE_RULES_MAX_FILE + 1], plan[ROUTE_RULES_MAX_STEPS + 1], text[2048];
+    if (count != 3) return 2;
+    size_t length = read_file(words[1], file, sizeof file);
+    size_t steps = read_file(words[2], plan, sizeof plan);
+
+    check(file, length);
+    translate(file, length);
+    judge(file, length, plan, steps);
+    judge(file, length, plan, 0);                     /* the goal is missed */
+    judge(file, length, (const uint8_t *)"\0\1\1\0", 4); /* utility below 0 */
+    judge(file, length, (const uint8_t *)"\2", 1);    /* no action 2 */
+    check(file, length - 1);                          /* a byte is missing */
+
+    size_t written = route_rules_report(file, length, plan, steps, text, sizeof text);
+    fwrite(text, 1, written, stdout);
+    return 0;
+}

@@ -1,0 +1,74 @@
+//! Checks the belt's task, translates it, judges a plan on it, and prints the answers: `belt TASK PLAN`.
+
+#[path = "../../include/route_rules.rs"]
+mod route_rules;
+
+use route_rules::{Refusal, Verdict, MAX_FILE};
+use std::fs;
+
+fn refused(refusal: Refusal) -> String {
+    format!("refused {} {}", refusal.number, refusal.place)
+}
+
+fn check(file: &[u8]) {
+    let line = route_rules::check(file).map_or_else(refused, |sizes| {
+        format!(
+            "facts {} actions {} preferences {} rows {}",
+            sizes.facts, sizes.actions, sizes.preferences, sizes.rows
+        )
+    });
+    println!("check: {line}");
+}
+
+fn translate(file: &[u8]) {
+    let mut out = vec![0; MAX_FILE];
+    match route_rules::translate(file, &mut out) {
+        Ok(length) => {
+            println!("translate: {length} bytes");
+            check(&out[..length]);
+        }
+        Err(refusal) => println!("translate: {}", refused(refusal)),
+    }
+}
+
+fn verdict(verdict: Verdict) -> String {
+    match verdict {
+        Verdict::Solved {
+            cost,
+            metric,
+            utility,
+            met,
+        } => {
+            let met: String = (0..16)
+                .filter(|k| met >> k & 1 == 1)
+                .map(|k| format!(" {k}"))
+                .collect();
+            format!("solved cost {cost} metric {metric} utility {utility} met{met}")
+        }
+        Verdict::Stopped(step) => format!("stopped {step}"),
+        Verdict::GoalMissed => "goal missed".to_string(),
+    }
+}
+
+fn judge(file: &[u8], plan: &[u8]) {
+    let line = route_rules::judge(file, plan).map_or_else(refused, verdict);
+    println!("judge: {line}");
+}
+
+fn main() {
+    let mut names = std::env::args().skip(1);
+    let mut read = || fs::read(names.next().expect("a file's name")).expect("a file");
+    let (file, plan) = (read(), read());
+
+    check(&file);
+    translate(&file);
+    judge(&file, &plan);
+    judge(&file, &[]); // the goal is missed
+    judge(&file, &[0, 1, 1, 0]); // utility below 0
+    judge(&file, &[2]); // no action 2
+    check(&file[..file.len() - 1]); // a byte is missing
+
+    let mut text = [0; 2048];
+    let length = route_rules::report(&file, &plan, &mut text);
+    print!("{}", String::from_utf8_lossy(&text[..length]));
+}

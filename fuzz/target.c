@@ -1,0 +1,260 @@
+/* Feeds files, plans and areas to the static library and holds every answer to the C in bench/plain.c, whose compiled code
+ * also guides the fuzzer and is watched by AddressSanitizer.
+ *
+ * The library's own code is not watched, so each area that is lent to it touches a page without access with its start or its
+ * end, and has guard bytes on the other side: a read or a write past one end faults, a write past the other is seen. */
+#include "plain.h"
+
+#include <stdio.h>
+#include <stdlib.h>
+#include <string.h>
+#include <sys/mman.h>
+
+enum { PAGE = 4096, GUARD = 0xA5, GUARDS = 64, TEXT = 2048 };
+
+/* `room` bytes between two pages without access. */
+typedef struct { uint8_t *base; size_t room; } Pages;
+
+/* What is lent of them, and the guard bytes. */
+typedef struct { uint8_t *at, *guards; size_t length; } Area;
+
+static Pages file_pages, plan_pages, out_pages, text_pages, answer_pages;
+
+static void fail(const char *what)
+{
+    fprintf(stderr, "finding: %s\n", what);
+    abort();
+}
+
+static Pages pages(size_t room)
+{
+    Pages p;
+    p.room = (room + GUARDS + PAGE - 1) / PAGE * PAGE;
+    p.base = mmap(NULL, p.room + 2 * PAGE, PROT_NONE, MAP_PRIVATE | MAP_ANONYMOUS, -1, 0);
+    if (p.base == MAP_FAILED) fail("no memory");
+    p.base += PAGE;
+    if (mprotect(p.base, p.room, PROT_READ | PROT_WRITE) != 0) fail("no pages");
+    return p;
+}
+
+static Area lend(Pages p, size_t length, int at_end)
+{
+    Area a = {p.base, p.base + length, length};
+    if (at_end) {
+        a.at = p.base + p.room - length;
+        a.guards = a.at - GUARDS;
+    }
+    memset(a.guards, GUARD, GUARDS);
+    memset(a.at, GUARD, length);
+    return a;
+}
+
+static Area lend_copy(Pages p, const uint8_t *bytes, size_t length, int at_end)
+{
+    Area a = lend(p, length, at_end);
+    if (length > 0) memcpy(a.at, bytes, length);
+    return a;
+}
+
+static void guarded(Area a)
+{
+    for (int i = 0; i < GUARDS; i++)
+        if (a.guards[i] != GUARD) fail("a byte outside the area was written");
+}
+
+static void unchanged(Area a, const uint8_t *bytes)
+{
+    guarded(a);
+    if (a.length > 0 && memcmp(a.at, bytes, a.length) != 0) fail("an area that is only read was written");
+}
+
+static void untouched(const uint8_t *bytes, size_t length)
+{
+    for (size_t i = 0; i < length; i++)
+        if (bytes[i] != GUARD) fail("a byte behind the output was written");
+}
+
+static void same_answer(uint32_t number, Area answer, uint32_t expected, const uint64_t *words)
+{
+    guarded(answer);
+    if (number != expected || memcmp(answer.at, words, 64) != 0) fail("another answer");
+    uint64_t got[8];
+    memcpy(got, answer.at, 64);
+    for (int i = 1; i < 8; i++)
+        if (number != 0 && got[i] != 0) fail("a refusal with more than a place");
+}
+
+static void try_check(Area file, int at_end)
+{
+    uint64_t words[8];
+    Area answer = lend(answer_pages, 64, at_end);
+    uint32_t number = route_rules_check(file.at, file.length, (route_rules_checked *)answer.at);
+    same_answer(number, answer, plain_check(file.at, file.length, words), words);
+    if (number > ROUTE_RULES_COUNTS) fail("a refusal that is not check's");
+}
+
+static void try_judge(Area file, Area plan, int at_end)
+{
+    uint64_t words[8], tuned[8];
+    Area answer = lend(answer_pages, 64, at_end);
+    uint32_t number = route_rules_judge(file.at, file.length, plan.at, plan.length, (route_rules_judged *)answer.at);
+    same_answer(number, answer, plain_judge(file.at, file.length, plan.at, plan.length, words), words);
+    if (number != tuned_judge(file.at, file.length, plan.at, plan.length, tuned) || memcmp(words, tuned, 64) != 0)
+        fail("the two judges in C differ");
+    if (number > ROUTE_RULES_COUNTS && number != ROUTE_RULES_LONG_PLAN && number != ROUTE_RULES_STEP)
+        fail("a refusal that is not judge's");
+}
+
+/* A translation is accepted, and its sizes follow from the source's. */
+static void try_translation(Area file, const uint8_t *out, size_t length)
+{
+    route_rules_checked from, to;
+    if (route_rules_check(file.at, file.length, &from) != 0 || route_rules_check(out, length, &to) != 0)
+        fail("a translation that is refused");
+    if (to.facts != from.facts + 3 * from.preferences + 2 || to.actions != from.actions + 2 * from.preferences + 1 ||
+        to.preferences != 0 || length != 8 + 5 * to.rows)
+        fail("a translation of other sizes");
+}
+
+static void try_translate(Area file, size_t room, int at_end)
+{
+    static uint8_t expected[ROUTE_RULES_MAX_FILE], other[ROUTE_RULES_MAX_FILE];
+    uint64_t words[8], tuned[8];
+    Area answer = lend(answer_pages, 64, at_end), out = lend(out_pages, room, at_end);
+    memset(expected, GUARD, room);
+    memset(other, GUARD, room);
+    uint32_t number =
+        route_rules_translate(file.at, file.length, out.at, out.length, (route_rules_translated *)answer.at);
+    same_answer(number, answer, plain_translate(file.at, file.length, expected, room, words), words);
+    guarded(out);
+    if (memcmp(out.at, expected, room) != 0) fail("another output");
+    if (number > ROUTE_RULES_SHORT_OUTPUT) fail("a refusal that is not translate's");
+    if (number != tuned_translate(file.at, file.length, other, room, tuned) || memcmp(words, tuned, 64) != 0 ||
+        memcmp(expected, other, room) != 0)
+        fail("the two translations in C differ");
+    if (number == 0) {
+        untouched(out.at + words[1], room - words[1]);
+        try_translation(file, out.at, words[1]);
+    } else
+        untouched(out.at, room);
+}
+
+static void try_report(Area file, Area plan, size_t room, int at_end)
+{
+    Area text = lend(text_pages, room, at_end);
+    size_t length = route_rules_report(file.at, file.length, plan.at, plan.length, text.at, room);
+    guarded(text);
+    if (length < 9 || length > TEXT) fail("a report of another length");
+    if (length < room) {
+        untouched(text.at + length, room - length);
+        if (text.at[length - 1] != '\n') fail("a report without a last newline");
+    }
+}
+
+/* ---- inputs */
+
+typedef struct { const uint8_t *at; size_t left; } Data;
+
+static uint8_t next(Data *d)
+{
+    if (d->left == 0) return 0;
+    d->left--;
+    return *d->at++;
+}
+
+/* The value of a row made from one byte: mostly allowed for its mark. */
+static uint32_t wide(uint8_t mark, uint8_t value)
+{
+    switch (mark) {
+    case 2: case 3: case 8: case 16: return value == 255;
+    case 4: case 5: case 6: case 7: case 9: return value;
+    default: return value * 4000u; /* over a million from 251 on */
+    }
+}
+
+static void put_size(uint8_t *at, uint32_t size)
+{
+    at[0] = size & 255;
+    at[1] = size >> 8;
+}
+
+/* Rows of two bytes, with the sizes that fit them but for a byte that changes one. Now and then each literal stands there so many
+ * times that a short input makes a long file. */
+static size_t make_file(Data *d, uint8_t *file)
+{
+    static uint8_t marks[ROUTE_RULES_MAX_ROWS];
+    static uint32_t values[ROUTE_RULES_MAX_ROWS];
+    uint32_t sizes[4] = {1 + next(d) % 128, 0, 0, 0}, changed = next(d), repeat = next(d);
+    uint32_t times = repeat % 16 == 15 ? 1 + repeat : 1;
+    while (d->left > 1) {
+        uint8_t mark = next(d) % 18, value = next(d);
+        sizes[1] += mark == 1;
+        sizes[2] += mark >= 10 && mark <= 15;
+        for (uint32_t n = mark == 4 || mark == 5 ? times : 1; n > 0 && sizes[3] < ROUTE_RULES_MAX_ROWS; n--) {
+            marks[sizes[3]] = mark;
+            values[sizes[3]++] = wide(mark, value);
+        }
+    }
+    uint32_t rows = sizes[3];
+    memcpy(file + 8, marks, rows);
+    memcpy(file + 8 + rows, values, 4 * (size_t)rows);
+    if (changed % 16 == 15) sizes[changed / 16 % 4] += 1;
+    for (int i = 0; i < 4; i++) put_size(file + 2 * i, sizes[i]);
+    return 8 + 5 * (size_t)rows;
+}
+
+static size_t make_plan(Data *d, uint8_t *plan)
+{
+    uint8_t steps = next(d);
+    size_t length = steps < 250 ? steps % 24 : 2043 + (size_t)(steps - 250) * 2, given = length < 8 ? length : 8;
+    for (size_t i = 0; i < given; i++) plan[i] = next(d) % 16;
+    for (size_t i = given; i < length; i++) plan[i] = plan[i % given];
+    return length;
+}
+
+/* The output area: just enough, a byte short, some bytes more, or any small one. */
+static size_t make_room(uint8_t byte, const uint8_t *file, size_t length)
+{
+    static uint8_t most[ROUTE_RULES_MAX_FILE];
+    uint64_t words[8];
+    if (plain_translate(file, length, most, sizeof most, words) != 0) return byte;
+    return byte % 4 == 0 ? words[1] - 1 : byte % 4 == 1 ? (byte < words[1] ? byte : 0) : words[1] + byte % 4 - 2;
+}
+
+int LLVMFuzzerInitialize(int *count, char ***words)
+{
+    (void)count;
+    (void)words;
+    file_pages = pages(ROUTE_RULES_MAX_FILE + 5);
+    plan_pages = pages(4096);
+    out_pages = pages(ROUTE_RULES_MAX_FILE + 8);
+    text_pages = pages(TEXT);
+    answer_pages = pages(64);
+    return 0;
+}
+
+int LLVMFuzzerTestOneInput(const uint8_t *bytes, size_t size)
+{
+    static uint8_t file_bytes[ROUTE_RULES_MAX_FILE + 5], plan_bytes[4096];
+    Data d = {bytes, size};
+    uint8_t choice = next(&d), room_byte = next(&d);
+    int at_end = choice & 1;
+    size_t steps = make_plan(&d, plan_bytes), length;
+    if (choice & 2)
+        length = make_file(&d, file_bytes);
+    else {
+        length = d.left < sizeof file_bytes ? d.left : sizeof file_bytes;
+        if (length > 0) memcpy(file_bytes, d.at, length);
+    }
+    size_t room = make_room(room_byte, file_bytes, length);
+    if (room > ROUTE_RULES_MAX_FILE) room = ROUTE_RULES_MAX_FILE;
+
+    Area file = lend_copy(file_pages, file_bytes, length, at_end), plan = lend_copy(plan_pages, plan_bytes, steps, at_end);
+    try_check(file, at_end);
+    try_judge(file, plan, at_end);
+    try_translate(file, room, at_end);
+    try_report(file, plan, choice & 4 ? TEXT : room_byte, at_end);
+    unchanged(file, file_bytes);
+    unchanged(plan, plan_bytes);
+    return 0;
+}

@@ -1,0 +1,111 @@
+/* Route rules: check a task file, translate a task with soft rules into a classical task, judge a plan.
+ *
+ * Link target/staticlib/libroute_rules.a, which `rt staticlib route_rules` writes. Every function is proved against the
+ * definitions in crates/route_rules/specs/Numbers.antt: it answers every input, always returns, touches no memory but the
+ * areas lent to it, keeps nothing, and may be called from several threads at once.
+ *
+ * An area is a pointer and its length in bytes. The pointer is never NULL, also where the length is 0. The areas of one
+ * call do not overlap, unless both are only read.
+ *
+ * check, translate and judge return 0, or the number of a refusal. They write every word of the answer: where a call is
+ * refused `place` says where and all else is 0, where it is not `place` is 0. A refusal leaves every other area as it was.
+ * `spare` is 0. A later release may give a spare word a meaning, and adds functions and refusals, but moves nothing. */
+#ifndef ROUTE_RULES_H
+#define ROUTE_RULES_H
+
+#include <stddef.h>
+#include <stdint.h>
+
+#ifdef __cplusplus
+extern "C" {
+#endif
+
+/* Sizes and amounts that are allowed. */
+#define ROUTE_RULES_MAX_FACTS 128
+#define ROUTE_RULES_MAX_ACTIONS 128
+#define ROUTE_RULES_MAX_PREFERENCES 16
+#define ROUTE_RULES_MAX_ROWS 12000
+#define ROUTE_RULES_MAX_AMOUNT 1000000 /* a cost or a weight */
+#define ROUTE_RULES_MAX_STEPS 2048
+
+/* The length of the longest task file: an output area of this length is never too short. */
+#define ROUTE_RULES_MAX_FILE (8 + 5 * ROUTE_RULES_MAX_ROWS)
+
+/* Refusals, with their place. 1 to 3 are tried in order. Rows then go from the first; the first faulty row decides, 4 before
+ * 5 on one row; 6 comes after all rows. 7 to 9 are translate's, 10 and 11 judge's, in that order, after 1 to 6. */
+enum {
+    ROUTE_RULES_SHORT_FILE = 1,       /* under 8 bytes; 0 */
+    ROUTE_RULES_SIZE = 2,             /* a size out of range; 0 */
+    ROUTE_RULES_LENGTH = 3,           /* length not 8 + 5 * N; 0 */
+    ROUTE_RULES_MARK = 4,             /* mark not possible after the rows before it: its row; or rows end inside a task: N */
+    ROUTE_RULES_VALUE = 5,            /* value not allowed for its mark, START not rising; its row */
+    ROUTE_RULES_COUNTS = 6,           /* ACTION rows not A, or preferences not P; N */
+    ROUTE_RULES_TOO_MANY = 7,         /* F + 3 * P + 2 or A + 2 * P + 1 over 128; 0 */
+    ROUTE_RULES_TRANSLATION_ROWS = 8, /* translation over 12,000 rows; 0 */
+    ROUTE_RULES_SHORT_OUTPUT = 9,     /* output area under the translation's length; 0 */
+    ROUTE_RULES_LONG_PLAN = 10,       /* plan over 2,048 steps; 0 */
+    ROUTE_RULES_STEP = 11             /* step not below A; the first such step */
+};
+
+/* The four sizes of an accepted file: F, A, P and N. */
+typedef struct route_rules_checked {
+    uint64_t place;
+    uint64_t facts;
+    uint64_t actions;
+    uint64_t preferences;
+    uint64_t rows;
+    uint64_t spare[3];
+} route_rules_checked;
+
+/* Checks a task file: accepted with the four sizes, or refused by 1 to 6. */
+uint32_t route_rules_check(const uint8_t *file, size_t file_length, route_rules_checked *answer);
+
+/* The length of the translation in bytes, 8 + 5 * N of its own rows. */
+typedef struct route_rules_translated {
+    uint64_t place;
+    uint64_t length;
+    uint64_t spare[6];
+} route_rules_translated;
+
+/* Translates the task in a file into a classical task, which is itself a task file, with P 0. It fills the first `length`
+ * bytes of the output and no others; or it is refused by 1 to 9, and the output is as it was.
+ *
+ * With A and P the source's, a solution is a list of numbers below A + 2 * P + 1 that solves the task written, and its source
+ * part is its numbers below A, in their order. The source parts of the solutions are exactly the plans that solve the source
+ * task, each of one solution only, and a solution's cost is its source part's metric. */
+uint32_t route_rules_translate(const uint8_t *file, size_t file_length, uint8_t *out, size_t out_length,
+                               route_rules_translated *answer);
+
+/* A verdict; 0 where the call was refused. */
+enum {
+    ROUTE_RULES_SOLVED = 1,     /* each step applies in turn, and the goal holds in the last state */
+    ROUTE_RULES_STOPPED = 2,    /* a step doesn't apply */
+    ROUTE_RULES_GOAL_MISSED = 3 /* each step applies in turn, and the goal doesn't hold in the last state */
+};
+
+/* A judged plan. Cost, metric, utility and met are 0 unless it is solved. */
+typedef struct route_rules_judged {
+    uint64_t place;
+    uint64_t verdict;
+    uint64_t step;   /* stopped: the first step that doesn't apply, from 0; else 0 */
+    uint64_t cost;   /* the sum of the step costs */
+    uint64_t metric; /* cost plus the weights of missed preferences */
+    int64_t utility; /* the weights of met preferences minus cost */
+    uint64_t met;    /* bit k is 1 where preference k is met */
+    uint64_t spare;
+} route_rules_judged;
+
+/* Judges a plan, one byte a step, on the task in a file: a verdict, or refused by 1 to 6, 10 or 11. */
+uint32_t route_rules_judge(const uint8_t *file, size_t file_length, const uint8_t *plan, size_t plan_length,
+                           route_rules_judged *answer);
+
+/* Writes the lines of program judge about a plan on the task in a file, or its line of a refusal: as much of the text as the
+ * area has room for, and nothing behind it. It returns the length of the whole text; 2,048 bytes hold every text. */
+size_t route_rules_report(const uint8_t *file, size_t file_length, const uint8_t *plan, size_t plan_length, uint8_t *out,
+                          size_t out_length);
+
+#ifdef __cplusplus
+}
+#endif
+
+#endif

@@ -1,0 +1,154 @@
+//! Safe functions over the static library, for Rust. It says what include/route_rules.h says.
+//!
+//! Take it into a crate as a module, and link `libroute_rules.a`: `rustc -L target/staticlib -l static=route_rules`.
+#![allow(dead_code)]
+
+/// Why a call was refused, and where: a row, a step, or 0. The numbers are those of `refused`.
+#[derive(Clone, Copy, PartialEq, Eq, Debug)]
+pub struct Refusal {
+    pub number: u32,
+    pub place: u64,
+}
+
+/// The numbers of refusals.
+pub mod refused {
+    pub const SHORT_FILE: u32 = 1;
+    pub const SIZE: u32 = 2;
+    pub const LENGTH: u32 = 3;
+    pub const MARK: u32 = 4;
+    pub const VALUE: u32 = 5;
+    pub const COUNTS: u32 = 6;
+    pub const TOO_MANY: u32 = 7;
+    pub const TRANSLATION_ROWS: u32 = 8;
+    pub const SHORT_OUTPUT: u32 = 9;
+    pub const LONG_PLAN: u32 = 10;
+    pub const STEP: u32 = 11;
+}
+
+/// The length of the longest task file: an output area of this length is never too short.
+pub const MAX_FILE: usize = 8 + 5 * 12_000;
+
+/// The four sizes of an accepted file.
+#[derive(Clone, Copy, PartialEq, Eq, Debug)]
+pub struct Sizes {
+    pub facts: u64,
+    pub actions: u64,
+    pub preferences: u64,
+    pub rows: u64,
+}
+
+/// What a plan is worth on a task.
+#[derive(Clone, Copy, PartialEq, Eq, Debug)]
+pub enum Verdict {
+    /// Bit k of `met` is 1 where preference k is met.
+    Solved {
+        cost: u64,
+        metric: u64,
+        utility: i64,
+        met: u64,
+    },
+    /// The first step that doesn't apply.
+    Stopped(u64),
+    GoalMissed,
+}
+
+/// The words of an answer: the structs of the header.
+type Answer = [u64; 8];
+
+extern "C" {
+    fn route_rules_check(file: *const u8, length: usize, answer: *mut Answer) -> u32;
+    fn route_rules_translate(
+        file: *const u8,
+        file_length: usize,
+        out: *mut u8,
+        out_length: usize,
+        answer: *mut Answer,
+    ) -> u32;
+    fn route_rules_judge(
+        file: *const u8,
+        file_length: usize,
+        plan: *const u8,
+        plan_length: usize,
+        answer: *mut Answer,
+    ) -> u32;
+    fn route_rules_report(
+        file: *const u8,
+        file_length: usize,
+        plan: *const u8,
+        plan_length: usize,
+        out: *mut u8,
+        out_length: usize,
+    ) -> usize;
+}
+
+/// The answer of a call that lends an answer area, or its refusal.
+fn answered(call: impl FnOnce(*mut Answer) -> u32) -> Result<Answer, Refusal> {
+    let mut answer = Answer::default();
+    match call(&mut answer) {
+        0 => Ok(answer),
+        number => Err(Refusal {
+            number,
+            place: answer[0],
+        }),
+    }
+}
+
+/// Checks a task file: accepted with its sizes, or refused by 1 to 6.
+pub fn check(file: &[u8]) -> Result<Sizes, Refusal> {
+    // SAFETY: here and below, each pointer comes with the length of the area it points to.
+    let words = answered(|answer| unsafe { route_rules_check(file.as_ptr(), file.len(), answer) })?;
+    Ok(Sizes {
+        facts: words[1],
+        actions: words[2],
+        preferences: words[3],
+        rows: words[4],
+    })
+}
+
+/// Translates the task in a file into the start of the output, and answers the length written; or it is refused by 1 to 9,
+/// and the output is as it was.
+pub fn translate(file: &[u8], out: &mut [u8]) -> Result<usize, Refusal> {
+    let words = answered(|answer| unsafe {
+        route_rules_translate(
+            file.as_ptr(),
+            file.len(),
+            out.as_mut_ptr(),
+            out.len(),
+            answer,
+        )
+    })?;
+    Ok(words[1] as usize)
+}
+
+/// Judges a plan, one byte a step, on the task in a file: a verdict, or refused by 1 to 6, 10 or 11.
+pub fn judge(file: &[u8], plan: &[u8]) -> Result<Verdict, Refusal> {
+    let words = answered(|answer| unsafe {
+        route_rules_judge(file.as_ptr(), file.len(), plan.as_ptr(), plan.len(), answer)
+    })?;
+    Ok(match words[1] {
+        1 => Verdict::Solved {
+            cost: words[3],
+            metric: words[4],
+            utility: words[5] as i64,
+            met: words[6],
+        },
+        2 => Verdict::Stopped(words[2]),
+        3 => Verdict::GoalMissed,
+        verdict => unreachable!("verdict {verdict}"),
+    })
+}
+
+/// Writes the lines of program judge about a plan on the task in a file, as far as the output has room, and answers the
+/// length of the whole text.
+pub fn report(file: &[u8], plan: &[u8], out: &mut [u8]) -> usize {
+    unsafe {
+        route_rules_report(
+            file.as_ptr(),
+            file.len(),
+            plan.as_ptr(),
+            plan.len(),
+            out.as_mut_ptr(),
+            out.len(),
+        )
+    }
+}

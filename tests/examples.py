@@ -1,0 +1,86 @@
+#!/usr/bin/env python3
+"""The examples as text, the tool that turns texts into files and back, and the programs' answers on the batch house.
+
+tests/examples.py            needs target/bin/translate and target/bin/judge
+tests/examples.py --write    writes examples/batch_house/answers anew
+"""
+import os
+import runpy
+import sys
+
+ROOT = os.path.dirname(os.path.dirname(os.path.abspath(__file__)))
+HOUSE = os.path.join(ROOT, 'examples/batch_house')
+RUN = runpy.run_path(os.path.join(HOUSE, 'run'))
+ACCOUNT = runpy.run_path(os.path.join(ROOT, 'tests/check/vectors.py'))
+Text, Wrong, show, read, text_of = (RUN['TOOL'][name] for name in ('Text', 'Wrong', 'show', 'read', 'text_of'))
+
+# Texts that the tool turns down, and what it says.
+WRONG = [
+    ('FACTS a\nHOLD a', 'line 2: unknown mark HOLD'),
+    ('FACTS a\nGOAL\nCLAUSE\nHOLDS b', 'line 4: unknown name b'),
+    ('FACTS a\n\nADD a b', 'line 3: b behind the value'),
+    ('FACTS a\nACTION 1 go now', 'line 2: too many words'),
+    ('FACTS a b\nFACTS a', 'line 2: a fact named twice, or by a number'),
+]
+
+
+def expect(what, got, wanted):
+    if got != wanted:
+        sys.exit(f'{what}: {got!r}, and not {wanted!r}')
+
+
+def turned_down(text):
+    try:
+        return Text(text).file()
+    except Wrong as why:
+        return str(why)
+
+
+def round_trips():
+    """Every accepted vector of check is its own text's file; a text with names shows them again."""
+    accepted = [data for _, data, line in ACCOUNT['vectors']() if line.startswith('accepted')]
+    for data in accepted:
+        expect('a vector of check', Text(show(data)).file(), data)
+    for example in ('belt', 'batch_house'):
+        text = text_of(os.path.join(ROOT, 'examples', example, 'task.txt'))
+        again = Text(show(text.file(), text))
+        expect(example, (again.file(), again.facts, again.actions), (text.file(), text.facts, text.actions))
+    return len(accepted)
+
+
+def answers(text):
+    """What program judge writes about each plan of the batch house."""
+    out = ''
+    for name in sorted(os.listdir(os.path.join(HOUSE, 'plans'))):
+        plan = text.plan(read(os.path.join(HOUSE, 'plans', name)).decode())
+        out += f'{name}\n' + RUN['judged'](text.file(), plan)
+    return out
+
+
+def metrics(answers):
+    return [int(line.split()[1]) for line in answers.split('\n') if line.startswith('metric')]
+
+
+def main(option=None):
+    belt = os.path.join(ROOT, 'examples/belt/task')
+    expect('the belt', text_of(belt + '.txt').file(), read(belt))
+    for text, why in WRONG:
+        expect(text, turned_down(text), why)
+    count = round_trips()
+
+    text, stored = text_of(os.path.join(HOUSE, 'task.txt')), os.path.join(HOUSE, 'answers')
+    got = answers(text)
+    if option == '--write':
+        with open(stored, 'w') as out:
+            out.write(got)
+    expect('the batch house', got, read(stored).decode())
+
+    # The planner pays the least metric of the stored plans, and judge says the same of what it found.
+    cost, plan = RUN['planned'](text)
+    expect("the planner's cost", cost, min(metrics(got)))
+    expect("the planner's plan", metrics(RUN['judged'](text.file(), plan)), [cost])
+    print(f'{count} files turned into text and back, {len(metrics(got))} solved plans and a planned one of the batch house: as they should be')
+
+
+if __name__ == '__main__':
+    main(*sys.argv[1:])

@@ -1,0 +1,155 @@
+#!/usr/bin/env python3
+"""Task files and plans as text that people write, and back.
+
+tools/task.py make TEXT             writes the task file of a text to standard output
+tools/task.py show FILE [TEXT]      writes a task file as text, with the names that TEXT gives
+tools/task.py plan TEXT STEPS       writes the plan of a text: names or numbers of the actions of TEXT
+
+A text has a row on each line: document 01's name of the mark, then its value; a value that is 0 may be left out. '#' starts a
+comment. FACTS and their names, or FACTS and how many, come first; a fact is then named or numbered. Behind the cost of an
+ACTION a name for it may stand. Sizes are counted. Nothing else is looked at: whether it is a task is for check to say.
+"""
+import struct
+import sys
+
+MARKS = ['ACTION', 'EFFECT', 'CLAUSE', 'HOLDS', 'LACKS', 'ADD', 'DELETE', 'GOAL', 'START', 'always', 'sometime', 'at-end',
+         'at-most-once', 'sometime-before', 'sometime-after', 'SECOND']
+MARK = {name: mark for mark, name in enumerate(MARKS, 1)}
+OF_FACTS = ['HOLDS', 'LACKS', 'ADD', 'DELETE', 'START']
+PREFERENCES = MARKS[9:15]
+# How far the rows are set in; an EFFECT's condition stands deeper than a precondition.
+DEPTH = {'EFFECT': 1, 'CLAUSE': 1, 'HOLDS': 2, 'LACKS': 2, 'ADD': 2, 'DELETE': 2, 'SECOND': 1}
+
+
+class Wrong(Exception):
+    """A text or a file that can not be turned over, and why."""
+
+
+def lines(text):
+    """The words of each line that has any."""
+    for number, line in enumerate(text.split('\n'), 1):
+        words = line.split('#')[0].split()
+        if words:
+            yield number, words
+
+
+def number_of(word, names):
+    if word.isdigit():
+        return int(word)
+    if word not in names:
+        raise Wrong(f'unknown name {word}')
+    return names.index(word)
+
+
+class Text:
+    """The facts, the rows and the actions' names of a text."""
+    def __init__(self, text):
+        self.facts, self.count, self.rows, self.actions = [], 0, [], []
+        for number, words in lines(text):
+            try:
+                self.take(*words)
+            except (Wrong, TypeError) as why:
+                raise Wrong(f'line {number}: {why if isinstance(why, Wrong) else "too many words"}')
+
+    def take(self, name, *words):
+        if name == 'FACTS':
+            self.declare(words)
+        elif name in MARK:
+            self.row(name, *words)
+        else:
+            raise Wrong(f'unknown mark {name}')
+
+    def declare(self, words):
+        if len(words) == 1 and words[0].isdigit():
+            self.count = int(words[0])
+        else:
+            self.facts += words
+            self.count = len(self.facts)
+        if len(set(self.facts)) < len(self.facts) or any(name.isdigit() for name in self.facts):
+            raise Wrong('a fact named twice, or by a number')
+
+    def row(self, name, value='0', action=None):
+        names = self.facts if name in OF_FACTS else []
+        self.rows.append((name, number_of(value, names)))
+        if name == 'ACTION':
+            self.actions.append(action)
+        elif action is not None:
+            raise Wrong(f'{action} behind the value')
+
+    def file(self):
+        names = [name for name, _ in self.rows]
+        sizes = (self.count, names.count('ACTION'), sum(name in PREFERENCES for name in names), len(names))
+        marks = bytes(MARK[name] for name in names)
+        return struct.pack('<4H', *sizes) + marks + b''.join(struct.pack('<I', value) for _, value in self.rows)
+
+    def plan(self, text):
+        steps = [number_of(word, self.actions) for _, words in lines(text) for word in words]
+        if any(step > 255 for step in steps):
+            raise Wrong('a step is one byte')
+        return bytes(steps)
+
+
+def rows_of(data):
+    """The sizes and rows of a file whose sizes are those that its rows have."""
+    sizes = struct.unpack('<4H', data[:8]) if len(data) >= 8 else (0, 0, 0, 0)
+    n = sizes[3]
+    if len(data) != 8 + 5 * n:
+        raise Wrong('not the length of a task file')
+    if any(not 1 <= mark <= len(MARKS) for mark in data[8:8 + n]):
+        raise Wrong('a mark that has no name')
+    names = [MARKS[mark - 1] for mark in data[8:8 + n]]
+    if sizes[1:3] != (names.count('ACTION'), sum(name in PREFERENCES for name in names)):
+        raise Wrong('other sizes than the rows have')
+    return sizes, list(zip(names, struct.unpack(f'<{n}I', data[8 + n:])))
+
+
+def name_of(number, names):
+    return names[number] if number < len(names) and names[number] else str(number)
+
+
+def show(data, text=None):
+    sizes, rows = rows_of(data)
+    facts, actions = (text.facts, text.actions) if text else ([], [])
+    named = facts if sizes[0] == len(facts) else []
+    out, action, in_effect = ['FACTS ' + (' '.join(named) or str(sizes[0]))], 0, False
+    for name, value in rows:
+        in_effect = DEPTH.get(name, 0) > 0 and (in_effect or name == 'EFFECT')
+        words = [name]
+        if name in OF_FACTS:
+            words.append(name_of(value, named))
+        elif value or name == 'ACTION' or name in PREFERENCES:
+            words.append(str(value))
+        if name == 'ACTION':
+            words += [actions[action]] if action < len(actions) and actions[action] else []
+            action += 1
+        deeper = in_effect and name in ('CLAUSE', 'HOLDS', 'LACKS')
+        out.append('  ' * (DEPTH.get(name, 0) + deeper) + ' '.join(words))
+    return '\n'.join(out) + '\n'
+
+
+def read(name):
+    with open(name, 'rb') as file:
+        return file.read()
+
+
+def text_of(name):
+    return Text(read(name).decode())
+
+
+def main(command, first, second=None):
+    if command == 'make':
+        return text_of(first).file()
+    if command == 'plan':
+        return text_of(first).plan(read(second).decode())
+    if command == 'show':
+        return show(read(first), text_of(second) if second else None).encode()
+    raise Wrong(__doc__)
+
+
+if __name__ == '__main__':
+    if not 3 <= len(sys.argv) <= 4:
+        sys.exit(__doc__)
+    try:
+        sys.stdout.buffer.write(main(*sys.argv[1:]))
+    except (Wrong, OSError, UnicodeError, struct.error) as why:
+        sys.exit(f'{why}')
