@@ -1,8 +1,8 @@
 /* Route rules: check a task file, translate a task with soft rules into a classical task, judge a plan.
  *
- * Link target/staticlib/libroute_rules.a, which `rt staticlib route_rules` writes. Every function is proved against the
- * definitions in crates/route_rules/specs/Numbers.antt: it answers every input, always returns, touches no memory but the
- * areas lent to it, keeps nothing, and may be called from several threads at once.
+ * Link target/staticlib/libroute_rules.a, which `rt staticlib route_rules` writes. Every function is proved: it answers every
+ * input as the definitions say (crates/route_rules/specs/Numbers.antt has the words of the answers), always returns, and
+ * touches no memory but the areas lent to it. Nothing is kept between calls, so several threads may call at once.
  *
  * An area is a pointer and its length in bytes. The pointer is never NULL, also where the length is 0. The areas of one
  * call do not overlap, unless both are only read.
@@ -98,6 +98,12 @@ typedef struct route_rules_judged {
 /* Judges a plan, one byte a step, on the task in a file: a verdict, or refused by 1 to 6, 10 or 11. */
 uint32_t route_rules_judge(const uint8_t *file, size_t file_length, const uint8_t *plan, size_t plan_length,
                            route_rules_judged *answer);
+
+/* Every answer has eight words; the functions write them all. */
+typedef char route_rules_answers_have_eight_words[sizeof(route_rules_checked) == 64 && sizeof(route_rules_translated) == 64 &&
+                                                          sizeof(route_rules_judged) == 64
+                                                      ? 1
+                                                      : -1];
 
 /* Writes the lines of program judge about a plan on the task in a file, or its line of a refusal: as much of the text as the
  * area has room for, and nothing behind it. It returns the length of the whole text; 2,048 bytes hold every text. */

@@ -18,7 +18,7 @@ Text, Wrong, show, read, text_of = (RUN['TOOL'][name] for name in ('Text', 'Wron
 WRONG = [
     ('FACTS a\nHOLD a', 'line 2: unknown mark HOLD'),
     ('FACTS a\nGOAL\nCLAUSE\nHOLDS b', 'line 4: unknown name b'),
-    ('FACTS a\n\nADD a b', 'line 3: b behind the value'),
+    ('FACTS a\n\nADD a b', 'line 3: too many words'),
     ('FACTS a\nACTION 1 go now', 'line 2: too many words'),
     ('FACTS a b\nFACTS a', 'line 2: a fact named twice, or by a number'),
 ]

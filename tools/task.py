@@ -45,17 +45,17 @@ class Text:
     """The facts, the rows and the actions' names of a text."""
     def __init__(self, text):
         self.facts, self.count, self.rows, self.actions = [], 0, [], []
-        for number, words in lines(text):
+        for number, (name, *words) in lines(text):
             try:
-                self.take(*words)
-            except (Wrong, TypeError) as why:
-                raise Wrong(f'line {number}: {why if isinstance(why, Wrong) else "too many words"}')
+                self.take(name, words)
+            except Wrong as why:
+                raise Wrong(f'line {number}: {why}')
 
-    def take(self, name, *words):
+    def take(self, name, words):
         if name == 'FACTS':
             self.declare(words)
         elif name in MARK:
-            self.row(name, *words)
+            self.row(name, words)
         else:
             raise Wrong(f'unknown mark {name}')
 
@@ -68,13 +68,13 @@ class Text:
         if len(set(self.facts)) < len(self.facts) or any(name.isdigit() for name in self.facts):
             raise Wrong('a fact named twice, or by a number')
 
-    def row(self, name, value='0', action=None):
-        names = self.facts if name in OF_FACTS else []
-        self.rows.append((name, number_of(value, names)))
+    def row(self, name, words):
+        value, *rest = words or ['0']
+        if len(rest) > (name == 'ACTION'):
+            raise Wrong('too many words')
+        self.rows.append((name, number_of(value, self.facts if name in OF_FACTS else [])))
         if name == 'ACTION':
-            self.actions.append(action)
-        elif action is not None:
-            raise Wrong(f'{action} behind the value')
+            self.actions.append(rest[0] if rest else None)
 
     def file(self):
         names = [name for name, _ in self.rows]
@@ -103,27 +103,29 @@ def rows_of(data):
     return sizes, list(zip(names, struct.unpack(f'<{n}I', data[8 + n:])))
 
 
-def name_of(number, names):
-    return names[number] if number < len(names) and names[number] else str(number)
+def name_of(fact, names):
+    return names[fact] if fact < len(names) else str(fact)
+
+
+def words_of(name, value, facts, actions):
+    """A row in words; `actions` are the names of the actions from here on."""
+    if name in OF_FACTS:
+        return [name, name_of(value, facts)]
+    if name == 'ACTION':
+        return [name, str(value)] + [given for given in actions[:1] if given]
+    return [name, str(value)] if value or name in PREFERENCES else [name]
 
 
 def show(data, text=None):
     sizes, rows = rows_of(data)
-    facts, actions = (text.facts, text.actions) if text else ([], [])
-    named = facts if sizes[0] == len(facts) else []
-    out, action, in_effect = ['FACTS ' + (' '.join(named) or str(sizes[0]))], 0, False
+    facts = text.facts if text and len(text.facts) == sizes[0] else []
+    actions = text.actions if text else []
+    out, in_effect = ['FACTS ' + (' '.join(facts) or str(sizes[0]))], False
     for name, value in rows:
-        in_effect = DEPTH.get(name, 0) > 0 and (in_effect or name == 'EFFECT')
-        words = [name]
-        if name in OF_FACTS:
-            words.append(name_of(value, named))
-        elif value or name == 'ACTION' or name in PREFERENCES:
-            words.append(str(value))
-        if name == 'ACTION':
-            words += [actions[action]] if action < len(actions) and actions[action] else []
-            action += 1
+        in_effect = name in DEPTH and (in_effect or name == 'EFFECT')
         deeper = in_effect and name in ('CLAUSE', 'HOLDS', 'LACKS')
-        out.append('  ' * (DEPTH.get(name, 0) + deeper) + ' '.join(words))
+        out.append('  ' * (DEPTH.get(name, 0) + deeper) + ' '.join(words_of(name, value, facts, actions)))
+        actions = actions[1:] if name == 'ACTION' else actions
     return '\n'.join(out) + '\n'
 
 

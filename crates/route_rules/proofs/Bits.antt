@@ -1,5 +1,5 @@
 -- A word is the number of its bits; so the code's words are those of a plan that solves.
-use mathlib.Core.Path.{_≡_, refl, ap, _∙_, fun-ext, sym}
+use mathlib.Core.Path.{_≡_, refl, sym, ap, ap₂, _∙_, fun-ext}
 use mathlib.Core.Bool.{cond}
 use Prim.Native.Nat.{ℕ, zero, suc, _+_, _*_, _/_, _%_, _^_, _<_}
 use native.Mathlib.Nat.{div-one, div-div-eq-div-mul, pow-succ'}
@@ -35,4 +35,4 @@ bits-of (suc n) w h =
 
 pub solved-words : (c : Call) (cost metric m w : ℕ) (u : ℤ) → m < 2 ^ 64 → w ≡ signed u → c ≡ answered 1 0 cost metric w m 0
     → c ≡ ofVerdict (solved cost metric u (bit m))
-solved-words c cost metric m w u h p e = rw (bits-of 64 m h, ← p) e
+solved-words c cost metric m w u h p e = e ∙ ap₂ (λ (x y : ℕ). answered 1 0 cost metric x y 0) p (sym (bits-of 64 m h))

@@ -3,7 +3,7 @@
 #[path = "../../../include/route_rules.rs"]
 mod route_rules;
 
-pub use route_rules::{check, judge, Refusal, Sizes, Verdict};
+pub use route_rules::{check, judge, refused, Refusal, Sizes, Verdict};
 
 /// Fills an area before it is lent, and stands behind it.
 pub const GUARD: u8 = 0xA5;

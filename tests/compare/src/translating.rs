@@ -1,6 +1,6 @@
 //! Translations: the library's bytes beside the independent implementation's.
 
-use crate::library::{self, Verdict};
+use crate::library::{self, refused, Verdict};
 use crate::tally::Tally;
 use peer::{Action, Condition, Effect, Kind, Literal, Preference, Task};
 
@@ -148,12 +148,12 @@ fn long(rows: usize) -> Task {
 
 /// The library refuses by `number`, or writes the translation where that is 0, in an area that just fits and in one with room
 /// to spare; in one that is a byte short it refuses by 9.
-fn edge(what: &str, task: &Task, number: usize) -> Result<(), String> {
+fn edge(what: &str, task: &Task, number: u32) -> Result<(), String> {
     let file = peer::encode(task);
     let name = if number == 0 {
         "written"
     } else {
-        ANSWERS[number - 1]
+        ANSWERS[number as usize - 1]
     };
     let room = peer::random::MAX_FILE;
     let answer = same(&file, room).map_err(|why| format!("{what}: {why}"))?;
@@ -173,13 +173,13 @@ fn edge(what: &str, task: &Task, number: usize) -> Result<(), String> {
 
 pub fn edges() -> Result<(), String> {
     edge("P 16 with F 78", &task(78, 2, 16), 0)?;
-    edge("P 16 with F 79", &task(79, 2, 16), 7)?;
+    edge("P 16 with F 79", &task(79, 2, 16), refused::TOO_MANY)?;
     edge("A 95 with P 16", &task(4, 95, 16), 0)?;
-    edge("A 96 with P 16", &task(4, 96, 16), 7)?;
+    edge("A 96 with P 16", &task(4, 96, 16), refused::TOO_MANY)?;
     edge("F 126 with P 0", &task(126, 2, 0), 0)?;
-    edge("F 127 with P 0", &task(127, 2, 0), 7)?;
+    edge("F 127 with P 0", &task(127, 2, 0), refused::TOO_MANY)?;
     edge("12,000 rows", &long(11_991), 0)?;
-    edge("12,001 rows", &long(11_992), 8)?;
+    edge("12,001 rows", &long(11_992), refused::TRANSLATION_ROWS)?;
     edge("A 0", &task(3, 0, 2), 0)?;
     edge("P 0", &task(3, 2, 0), 0)?;
     edge("A 0 and P 0", &task(3, 0, 0), 0)?;
@@ -192,7 +192,7 @@ pub fn edges() -> Result<(), String> {
         if kind != Kind::AtEnd {
             let clauses = if kind.has_second() { 110 } else { 220 };
             let huge = ruled(95, vec![preference(kind, clauses); 16]);
-            edge("a huge translation", &huge, 8)?;
+            edge("a huge translation", &huge, refused::TRANSLATION_ROWS)?;
         }
     }
     println!("edges: as they should be");
