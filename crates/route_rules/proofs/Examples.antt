@@ -6,7 +6,7 @@ use Rattle.task.specs.Check.{check, walk}
 use Rattle.task.specs.Verdict.{verdict, stopped}
 use Rattle.task.proofs.Lettered.{belt}
 use Rattle.plan.specs.Judged.{given, judged}
-use Rattle.translation.specs.Translation.{translated}
+use Rattle.classical.specs.Translation.{translated}
 use Rattle.translation.specs.Translated.{outcome}
 use Rattle.route_rules.specs.Numbers.{Call, call, bits, ofCheck, ofTranslate, ofJudge}
 

@@ -1,4 +1,6 @@
 -- What the definitions give
 pub mod Examples
+-- What the planner pays and what the judge says
+pub mod Corollary
 -- What the code answers
 pub mod Bits

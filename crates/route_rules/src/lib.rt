@@ -12,6 +12,7 @@ ghost use Rattle.plan.specs.declared.Verdict.the-variants.{Solved};
 ghost use Rattle.translation.specs.Answers.{answer as ofTranslated};
 ghost use Rattle.classical.specs.Translation.{compiled};
 ghost use Rattle.translation.specs.Translated.{written, outcome, areaAfter, Delivered};
+ghost use Rattle.route_rules.specs.Corollary.{PaidAsJudged};
 ghost use Rattle.route_rules.specs.Numbers.{call, refusal, answered, ofCheck, ofTranslate, ofVerdict, ofJudge, signed};
 use plan::Judged;
 use plan::Verdict;
@@ -123,6 +124,7 @@ pub extern "C" fn route_rules_translate(file: &[u8], out: &mut [u8], answer: &mu
     ensures { λ r. ⌜ call r (now (answer .exit)) ≡ ofTranslate (outcome (now (file .entry)) (length (now (out .entry)))) ⌝ }
     ensures { λ r. ⌜ now (out .exit) ≡ areaAfter (compiled (now (file .entry))) (now (out .entry)) (outcome (now (file .entry)) (length (now (out .entry)))) ⌝ }
     ensures { λ r. ⌜ ((n : ℕ) → outcome (now (file .entry)) (length (now (out .entry))) ≡ written n → Delivered (now (file .entry)) (now (out .exit)) n) ⌝ }
+    ensures { λ r. ⌜ ((n : ℕ) → outcome (now (file .entry)) (length (now (out .entry))) ≡ written n → PaidAsJudged (now (file .entry)) (now (out .exit)) n) ⌝ }
 {
     put_translated(translation::translate(file, out), answer)
 }

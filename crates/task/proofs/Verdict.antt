@@ -31,6 +31,22 @@ solved-iff t p = go (runs t (opening t) p) (isTrue (final t p) (t .goal)) (steps
     go true false i = (λ e. subst (λ (v : Verdict). T (isSolved v)) (sym e) tt, λ h. absurd h)
     go false b i = (λ e. subst (λ (v : Verdict). T (isSolved v)) (sym e) tt, λ h. absurd h)
 
+abbrev metricIn : Verdict → ℕ
+metricIn (solved c m u s) = m
+metricIn (stopped i) = 0
+metricIn goal-missed = 0
+
+-- where the verdict is solved with metric m, the plan solves and m is its metric
+pub solved-only : (t : Task) (p : List ℕ) (c m : ℕ) (u : ℤ) (s : ℕ → Bool) → verdict t p ≡ solved c m u s → T (solves t p) × (metric t p ≡ m)
+unfolding verdict
+solved-only t p c m u s = go (runs t (opening t) p) (isTrue (final t p) (t .goal)) (stepsApplied t (opening t) p)
+  where
+    go : (a b : Bool) (i : ℕ) → cond a (cond b (solved (cost t p) (metric t p) (utility t p) (metSet t p)) goal-missed) (stopped i) ≡ solved c m u s
+        → T (a && b) × (metric t p ≡ m)
+    go true true i e = (tt, ap metricIn e)
+    go true false i e = absurd (subst (λ (v : Verdict). T (isSolved v)) (sym e) tt)
+    go false b i e = absurd (subst (λ (v : Verdict). T (isSolved v)) (sym e) tt)
+
 -- p stops at step i from s on: the steps before it apply in turn, and it doesn't apply
 pub record Stops (t : Task) (s : State) (p : List ℕ) (i : ℕ) : Type 0 where
   pub within : i < length p

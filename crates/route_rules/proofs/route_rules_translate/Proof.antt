@@ -1,5 +1,8 @@
 use mathlib.Core.Path.{ap, _∙_}
+use denote.Ref.{now}
+use lib.ListN.{length}
 use Rattle.route_rules.specs.Numbers.{ofTranslate}
+use Rattle.route_rules.proofs.Corollary.{written-paid}
 use borrow.Author.Needs.{needs}
 use Rattle.route_rules.proofs.route_rules_translate.Statement.{statement}
 use Rattle.route_rules.proofs.route_rules_translate.Tie as tie
@@ -16,7 +19,16 @@ same-length c = search needs
 returns : tie.Need-returns
 returns c =
     let t = c .before .before .before .before .translate in
-    (c .put-translated .ensures ∙ ap ofTranslate (t .ensures .0), (t .ensures .1 .0, λ n e. t .ensures .1 .1 n (t .ensures .0 ∙ e)))
+    let a = c .before .before .before .before .before .before .before .before .args in (
+      c .put-translated .ensures ∙ ap ofTranslate (t .ensures .0),
+      (
+        t .ensures .1 .0,
+        (
+          λ n e. t .ensures .1 .1 n (t .ensures .0 ∙ e),
+          λ n e. written-paid (now (a .file)) _ (length (now (a .out))) n e (t .ensures .1 .1 n (t .ensures .0 ∙ e)),
+        ),
+      ),
+    )
 
 pub route-rules-translate-spec : {M : Type 1} → statement M
 route-rules-translate-spec =

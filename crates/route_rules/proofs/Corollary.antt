@@ -1,0 +1,108 @@
+-- The buyer's corollary, from demand 3 and from what judge answers.
+use mathlib.Core.Path.{_≡_, refl, sym, ap, _∙_, subst}
+use mathlib.Core.Bool.{Bool, true, false, cond}
+use mathlib.Core.List.{List}
+use Prim.Native.Nat.{ℕ, _≤_}
+use lib.Dec.{T, leb, ltb}
+use lib.IntN.{ℤ}
+use lib.ListN.{length, take}
+use borrow.Author.Tests.{le-leb}
+use Rattle.task.specs.Lists.{all}
+use Rattle.task.specs.Task.{Task}
+use Rattle.task.specs.File.{Sizes, taskOf}
+use Rattle.task.specs.Check.{Answer, accepted, refused, check}
+use Rattle.task.specs.Meaning.{solves, cost, metric, utility}
+use Rattle.task.specs.Verdict.{Verdict, solved, metSet, verdict}
+use Rattle.task.proofs.Tests.{as-true, all-keep}
+use Rattle.task.proofs.Verdict.{solved-iff, solved-only}
+use Rattle.task.proofs.Spelled.{accepted-spelling}
+use Rattle.classical.specs.Claim.{Faithful, sourcePart}
+use Rattle.plan.specs.Judged
+use Rattle.plan.specs.Judged.{Judged, given, stepsKnown, judged}
+use Rattle.translation.specs.Translated
+use Rattle.translation.specs.Translated.{Translated, written, outcomeBy, outcome, Delivered}
+use Rattle.route_rules.specs.Corollary.{JudgedAt, PaidAsJudged}
+
+-- What judge answers on an accepted file
+
+isGiven : Judged → Bool
+isGiven (given v) = true
+isGiven (Judged.refused n i) = false
+
+verdictOf : Verdict → Judged → Verdict
+verdictOf d (given v) = v
+verdictOf d (Judged.refused n i) = d
+
+module _ (b : List ℕ) (z : Sizes) (h : check b ≡ accepted z) (p : List ℕ) where
+  abbrev known : Bool
+  known = all (λ (k : ℕ). ltb k (z .actions)) p
+
+  abbrev answered : Bool → Bool → Judged
+  answered short all-known = cond short (cond all-known (given (verdict (taskOf b) p)) (Judged.refused 11 (stepsKnown (z .actions) p))) (Judged.refused 10 0)
+
+  by-check : judged b p ≡ answered (leb (length p) 2048) known
+  unfolding judged
+  by-check = rw h
+
+  given-verdict : length p ≤ 2048 → known ≡ true → judged b p ≡ given (verdict (taskOf b) p)
+  given-verdict l k = by-check ∙ rw (le-leb (length p) 2048 l, k)
+
+  only-verdict : (v : Verdict) → judged b p ≡ given v → verdict (taskOf b) p ≡ v
+  unfolding isGiven verdictOf
+  only-verdict v e = go (leb (length p) 2048) known (sym by-check ∙ e)
+    where
+      go : (s k : Bool) → answered s k ≡ given v → verdict (taskOf b) p ≡ v
+      go true true e = ap (verdictOf v) e
+      go true false e = absurd (subst (λ (j : Judged). T (isGiven j)) (sym e) tt)
+      go false k e = absurd (subst (λ (j : Judged). T (isGiven j)) (sym e) tt)
+
+-- The corollary
+
+module _ (b area : List ℕ) (n : ℕ) (z : Sizes) (h : check b ≡ accepted z) (d : Delivered b area n) where
+  abbrev source : Task
+  source = taskOf b
+
+  abbrev written-task : Task
+  written-task = taskOf (take n area)
+
+  -- the steps of a source part are known
+  steps : (x : List ℕ) → all (λ (k : ℕ). ltb k (z .actions)) (sourcePart source x) ≡ true
+  steps x =
+      subst (λ (A : ℕ). all (λ (k : ℕ). ltb k A) (sourcePart source x) ≡ true) (ap (λ (z : Sizes). z .actions) (accepted-spelling b z h .sized))
+      (as-true (all (λ (k : ℕ). ltb k (length (source .actions))) (sourcePart source x)) (all-keep (λ (k : ℕ). ltb k (length (source .actions))) x))
+
+  pub paid-as-judged : PaidAsJudged b area n
+  paid-as-judged =
+      record {
+        pays = λ x solving short.
+            let p : List ℕ = sourcePart source x in
+            let solving-p : T (solves source p) = d .faithfully .reaches p .0 (x, solving, refl) in (
+              cost source p,
+              utility source p,
+              metSet source p,
+              given-verdict b z h p short (steps x) ∙ ap given (solved-iff source p .1 solving-p)
+                  ∙ ap (λ (m : ℕ). given (solved (cost source p) m (utility source p) (metSet source p))) (sym (d .faithfully .priced x solving)),
+            );
+        offers = λ p m (c, u, s, e). found p m (solved-only source p c m u s (only-verdict b z h p (solved c m u s) e));
+      }
+    where
+      found : (p : List ℕ) (m : ℕ) → T (solves source p) × (metric source p ≡ m)
+          → (x : List ℕ) × T (solves written-task x) × (sourcePart source x ≡ p) × (cost written-task x ≡ m)
+      found p m (solving, same) = priced-at (d .faithfully .reaches p .1 solving)
+        where
+          priced-at : (x : List ℕ) × T (solves written-task x) × (sourcePart source x ≡ p)
+              → (x : List ℕ) × T (solves written-task x) × (sourcePart source x ≡ p) × (cost written-task x ≡ m)
+          priced-at (x, solving-x, part) = (x, solving-x, part, d .faithfully .priced x solving-x ∙ ap (metric source) part ∙ same)
+
+-- what translate has written is a translation of an accepted file
+isWritten : Translated → Bool
+isWritten (written n) = true
+isWritten (Translated.refused k i) = false
+
+pub written-paid : (b area : List ℕ) (room n : ℕ) → outcome b room ≡ written n → Delivered b area n → PaidAsJudged b area n
+unfolding outcome isWritten
+written-paid b area room n e d = go (check b) refl e
+  where
+    go : (a : Answer) → check b ≡ a → outcomeBy b room a ≡ written n → PaidAsJudged b area n
+    go (accepted z) h w = paid-as-judged b area n z h d
+    go (refused k i) h w = absurd (subst (λ (t : Translated). T (isWritten t)) (sym w) tt)
