@@ -22,7 +22,7 @@ use Rattle.task.proofs.Tests.{tests}
 use Rattle.task.proofs.Bytes.{file-length}
 use Rattle.task.proofs.Spelled.{Spelling, accepted-spelling}
 use Rattle.task.proofs.Checking.{within as limits}
-use Rattle.task.proofs.Answered.{same-refusal as passed-on, parts-spell}
+use Rattle.task.proofs.Answered.{parts-spell}
 use Rattle.classical.specs.Translation.{translated, compiled, compiledRows, translatedSizes}
 use Rattle.translation.specs.Writer.{rowBehind, putRows, Wrote}
 use Rattle.translation.specs.Whole.{header, Fitted, Fits}
@@ -121,10 +121,6 @@ module _ (t : Task) (F A P : ℕ) (facts : F ≡ t .facts) (acts : A ≡ length 
       ∙ ap (λ (l : List ℕ). fileOf (translated t) ++ l) behind
 
 -- What check answered
-
-pub same-refusal : (r : Refusal) (n i : ℕ) → Check.refused (r .number) (r .place) ≡ Check.refused n i → refused (r .number) (r .place) ≡ refused n i
-same-refusal = passed-on refused
-
 -- Demand 3
 
 -- a number for each outcome: the length, or 0

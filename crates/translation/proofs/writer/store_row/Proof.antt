@@ -1,8 +1,8 @@
 use mathlib.Core.Path.{_∙_}
 use native.Mathlib.Omega.{arith}
 use lib.ListN.{length-set}
+use borrow.Author.Tests.{lt-ltb}
 use Rattle.translation.specs.Writer.{putRow}
-use Rattle.task.proofs.Tests.{below-true}
 use borrow.Author.Needs.{needs}
 use Rattle.translation.proofs.writer.store_row.Statement.{statement}
 use Rattle.translation.proofs.writer.store_row.Tie as tie
@@ -32,7 +32,7 @@ returns : tie.Need-returns
 unfolding putRow
 returns c =
     let a = c .before .before .before .before .before .args in
-    rw (below-true (a .i) (a .n) (search needs)) (c .before .before .put-word .ensures)
+    rw (lt-ltb (a .i) (a .n) (search needs)) (c .before .before .put-word .ensures)
 
 pub store-row-spec : {M : Type 1} → statement M
 store-row-spec =
