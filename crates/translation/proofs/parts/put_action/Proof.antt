@@ -19,7 +19,13 @@ same-length : tie.Need-same-length
 same-length c = search needs
 
 returns : tie.Need-returns
-returns c = λ qs e. then (search needs) (c .before .before .before .before .before .before .before .before .before .before .before .before .before .before .copy-rows .ensures) (then (search needs) (c .before .before .before .before .before .before .before .before .before .before .put-single .ensures) (then (search needs) (c .before .before .before .before .before .before .copy-rows2 .ensures) (c .before .before .all-trackers .ensures qs e)))
+returns c = λ qs s.
+    let z = c .before .before in
+    let y = z .before .before .before .before in
+    let x = y .before .before .before .before in
+    let w = x .before .before .before .before in
+    let few = w .before .before .before .before .before .before .pre .0 in
+    then few (w .copy-rows .ensures) (then few (x .put-single .ensures) (then few (y .copy-rows2 .ensures) (z .all-trackers .ensures qs s)))
 
 pub put-action-spec : {M : Type 1} → statement M
 put-action-spec =

@@ -28,9 +28,16 @@ same-length : tie.Need-same-length
 same-length c = search needs
 
 returns : tie.Need-returns
-returns c = λ qs e.
-    let few = c .before .before .before .before .before .before .before .before .before .before .before .before .before .before .before .before .before .before .before .before .before .before .before .before .before .before .before .before .pre .0 in
-    then few (c .before .before .before .before .before .before .before .before .before .before .before .before .before .before .before .before .before .before .before .before .before .before .put-row .ensures) (then few (c .before .before .before .before .before .before .before .before .before .before .before .before .before .before .before .before .before .before .put-single .ensures) (then few (c .before .before .before .before .before .before .before .before .before .before .before .before .before .before .put-row2 .ensures) (then few (c .before .before .before .before .before .before .before .before .before .before .put-row3 .ensures) (then few (c .before .before .before .before .before .before .put-row4 .ensures) (c .before .before .all-trackers .ensures qs e)))))
+returns c = λ qs s.
+    let z = c .before .before in
+    let y = z .before .before .before .before in
+    let x = y .before .before .before .before in
+    let w = x .before .before .before .before in
+    let v = w .before .before .before .before in
+    let u = v .before .before .before .before in
+    let few = u .before .before .before .before .before .before .pre .0 in
+    then few (u .put-row .ensures) (then few (v .put-single .ensures) (then few (w .put-row2 .ensures)
+    (then few (x .put-row3 .ensures) (then few (y .put-row4 .ensures) (z .all-trackers .ensures qs s)))))
 
 pub put-end-spec : {M : Type 1} → statement M
 put-end-spec =

@@ -28,8 +28,14 @@ same-length c = search needs
 
 returns : tie.Need-returns
 returns c = λ m e.
-    let few = c .before .before .before .before .before .before .before .before .before .before .before .before .before .before .before .before .before .before .before .before .before .before .before .pre .0 in
-    then few (c .before .before .before .before .before .before .before .before .before .before .before .before .before .before .before .before .before .before .copy-rows .ensures) (then few (c .before .before .before .before .before .before .before .before .before .before .before .before .before .before .put-row .ensures) (then few (c .before .before .before .before .before .before .before .before .before .before .copy-rows2 .ensures) (then few (c .before .before .before .before .before .before .put-single .ensures) (c .before .before .put-all-closed .ensures m (ap (λ (x : ℕ). x + 1) e)))))
+    let z = c .before .before in
+    let y = z .before .before .before .before in
+    let x = y .before .before .before .before in
+    let w = x .before .before .before .before in
+    let v = w .before .before .before .before in
+    let few = v .before .before .before .before .before .pre .0 in
+    then few (v .copy-rows .ensures) (then few (w .put-row .ensures) (then few (x .copy-rows2 .ensures)
+    (then few (y .put-single .ensures) (z .put-all-closed .ensures m (ap (λ (n : ℕ). n + 1) e)))))
 
 pub put-opening-spec : {M : Type 1} → statement M
 put-opening-spec =
