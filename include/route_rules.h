@@ -27,12 +27,14 @@ extern "C" {
 #define ROUTE_RULES_MAX_ROWS 12000
 #define ROUTE_RULES_MAX_AMOUNT 1000000 /* a cost or a weight */
 #define ROUTE_RULES_MAX_STEPS 2048
+#define ROUTE_RULES_MAX_TEXT 65536 /* bytes */
 
 /* The length of the longest task file: an output area of this length is never too short. */
 #define ROUTE_RULES_MAX_FILE (8 + 5 * ROUTE_RULES_MAX_ROWS)
 
 /* Refusals, with their place. 1 to 3 are tried in order. Rows then go from the first; the first faulty row decides, 4 before
- * 5 on one row; 6 comes after all rows. 7 to 9 are translate's, 10 and 11 judge's, in that order, after 1 to 6. */
+ * 5 on one row; 6 comes after all rows. 7 to 9 are translate's, 10 and 11 judge's, in that order, after 1 to 6.
+ * Of a plan's text 12 comes after 6, and before 10 and 11; reading alone is refused by 12, then 10, then 9. */
 enum {
     ROUTE_RULES_SHORT_FILE = 1,       /* under 8 bytes; 0 */
     ROUTE_RULES_SIZE = 2,             /* a size out of range; 0 */
@@ -42,9 +44,10 @@ enum {
     ROUTE_RULES_COUNTS = 6,           /* ACTION rows not A, or preferences not P; N */
     ROUTE_RULES_TOO_MANY = 7,         /* F + 3 * P + 2 or A + 2 * P + 1 over 128; 0 */
     ROUTE_RULES_TRANSLATION_ROWS = 8, /* translation over 12,000 rows; 0 */
-    ROUTE_RULES_SHORT_OUTPUT = 9,     /* output area under the translation's length; 0 */
+    ROUTE_RULES_SHORT_OUTPUT = 9,     /* output area under the output's length; 0 */
     ROUTE_RULES_LONG_PLAN = 10,       /* plan over 2,048 steps; 0 */
-    ROUTE_RULES_STEP = 11             /* step not below A; the first such step */
+    ROUTE_RULES_STEP = 11,            /* step not below A; the first such step */
+    ROUTE_RULES_TEXT = 12             /* text over 65,536 bytes: 0; or a line of another form or without a newline: that line */
 };
 
 /* The four sizes of an accepted file: F, A, P and N. */
@@ -99,9 +102,32 @@ typedef struct route_rules_judged {
 uint32_t route_rules_judge(const uint8_t *file, size_t file_length, const uint8_t *plan, size_t plan_length,
                            route_rules_judged *answer);
 
+/* The length in bytes of the plan read, or of the text written. */
+typedef struct route_rules_listed {
+    uint64_t place;
+    uint64_t length;
+    uint64_t spare[6];
+} route_rules_listed;
+
+/* Reads a plan as planners print it: a line `(aN)` for each step, N decimal without leading zeros, and comment lines, which
+ * begin with a semicolon; a newline ends each line. It fills the first `length` bytes of the output, one for each step, and no
+ * others; a number too large for a byte is read as 255. Or it is refused by 12, 10 or 9, and the output is as it was. Lines are
+ * counted from 0, comments too. */
+uint32_t route_rules_read_plan(const uint8_t *text, size_t text_length, uint8_t *out, size_t out_length,
+                               route_rules_listed *answer);
+
+/* Writes a plan as such a text, without comments, into the first `length` bytes of the output and no others; or it is refused
+ * by 10 or 9, and the output is as it was. */
+uint32_t route_rules_write_plan(const uint8_t *plan, size_t plan_length, uint8_t *out, size_t out_length,
+                                route_rules_listed *answer);
+
+/* Judges the plan in a text on the task in a file: a verdict, or refused by 1 to 6, 12, 10 or 11. */
+uint32_t route_rules_judge_text(const uint8_t *file, size_t file_length, const uint8_t *text, size_t text_length,
+                                route_rules_judged *answer);
+
 /* Every answer has eight words; the functions write them all. */
 typedef char route_rules_answers_have_eight_words[sizeof(route_rules_checked) == 64 && sizeof(route_rules_translated) == 64 &&
-                                                          sizeof(route_rules_judged) == 64
+                                                          sizeof(route_rules_judged) == 64 && sizeof(route_rules_listed) == 64
                                                       ? 1
                                                       : -1];
 

@@ -23,6 +23,7 @@ pub mod refused {
     pub const SHORT_OUTPUT: u32 = 9;
     pub const LONG_PLAN: u32 = 10;
     pub const STEP: u32 = 11;
+    pub const TEXT: u32 = 12;
 }
 
 /// The length of the longest task file: an output area of this length is never too short.
@@ -69,6 +70,27 @@ extern "C" {
         file_length: usize,
         plan: *const u8,
         plan_length: usize,
+        answer: *mut Answer,
+    ) -> u32;
+    fn route_rules_read_plan(
+        text: *const u8,
+        text_length: usize,
+        out: *mut u8,
+        out_length: usize,
+        answer: *mut Answer,
+    ) -> u32;
+    fn route_rules_write_plan(
+        plan: *const u8,
+        plan_length: usize,
+        out: *mut u8,
+        out_length: usize,
+        answer: *mut Answer,
+    ) -> u32;
+    fn route_rules_judge_text(
+        file: *const u8,
+        file_length: usize,
+        text: *const u8,
+        text_length: usize,
         answer: *mut Answer,
     ) -> u32;
     fn route_rules_report(
@@ -125,7 +147,19 @@ pub fn judge(file: &[u8], plan: &[u8]) -> Result<Verdict, Refusal> {
     let words = answered(|answer| unsafe {
         route_rules_judge(file.as_ptr(), file.len(), plan.as_ptr(), plan.len(), answer)
     })?;
-    Ok(match words[1] {
+    Ok(verdict(words))
+}
+
+/// Judges the plan in a text on the task in a file: a verdict, or refused by 1 to 6, 12, 10 or 11.
+pub fn judge_text(file: &[u8], text: &[u8]) -> Result<Verdict, Refusal> {
+    let words = answered(|answer| unsafe {
+        route_rules_judge_text(file.as_ptr(), file.len(), text.as_ptr(), text.len(), answer)
+    })?;
+    Ok(verdict(words))
+}
+
+fn verdict(words: Answer) -> Verdict {
+    match words[1] {
         1 => Verdict::Solved {
             cost: words[3],
             metric: words[4],
@@ -135,7 +169,37 @@ pub fn judge(file: &[u8], plan: &[u8]) -> Result<Verdict, Refusal> {
         2 => Verdict::Stopped(words[2]),
         3 => Verdict::GoalMissed,
         verdict => unreachable!("verdict {verdict}"),
-    })
+    }
+}
+
+/// Reads a plan's text into the start of the output, one byte a step, and answers the number of steps; or it is refused by 12,
+/// 10 or 9, and the output is as it was.
+pub fn read_plan(text: &[u8], out: &mut [u8]) -> Result<usize, Refusal> {
+    let words = answered(|answer| unsafe {
+        route_rules_read_plan(
+            text.as_ptr(),
+            text.len(),
+            out.as_mut_ptr(),
+            out.len(),
+            answer,
+        )
+    })?;
+    Ok(words[1] as usize)
+}
+
+/// Writes a plan as text into the start of the output, and answers its length; or it is refused by 10 or 9, and the output is as
+/// it was.
+pub fn write_plan(plan: &[u8], out: &mut [u8]) -> Result<usize, Refusal> {
+    let words = answered(|answer| unsafe {
+        route_rules_write_plan(
+            plan.as_ptr(),
+            plan.len(),
+            out.as_mut_ptr(),
+            out.len(),
+            answer,
+        )
+    })?;
+    Ok(words[1] as usize)
 }
 
 /// Writes the lines of program judge about a plan on the task in a file, as far as the output has room, and answers the

@@ -9,6 +9,8 @@ use Rattle.task.specs.Check.{Answer}
 use Rattle.task.specs.Verdict.{Verdict, solved, stopped, goal-missed}
 use Rattle.plan.specs.Judged
 use Rattle.plan.specs.Judged.{Judged, given}
+use Rattle.plan_text.specs.Outcome
+use Rattle.plan_text.specs.Outcome.{Outcome}
 use Rattle.translation.specs.Translated
 use Rattle.translation.specs.Translated.{Translated, written}
 
@@ -32,6 +34,11 @@ ofCheck (Check.refused n i) = refusal n i
 abbrev pub ofTranslate : Translated → Call
 ofTranslate (written n) = answered n 0 0 0 0 0 0
 ofTranslate (Translated.refused n i) = refusal n i
+
+-- word 1 is the length of the plan or of the text written
+abbrev pub ofListing : Outcome → Call
+ofListing (Outcome.written n) = answered n 0 0 0 0 0 0
+ofListing (Outcome.refused n i) = refusal n i
 
 -- a signed number in 64 bits, by two's complement
 abbrev pub signed : ℤ → ℕ

@@ -13,10 +13,15 @@ ghost use Rattle.translation.specs.Answers.{answer as ofTranslated};
 ghost use Rattle.classical.specs.Translation.{compiled};
 ghost use Rattle.translation.specs.Translated.{written, outcome, areaAfter, Delivered};
 ghost use Rattle.route_rules.specs.Corollary.{PaidAsJudged};
-ghost use Rattle.route_rules.specs.Numbers.{call, refusal, answered, ofCheck, ofTranslate, ofVerdict, ofJudge, signed};
+ghost use Rattle.plan_text.specs.PlanText.{textOf};
+ghost use Rattle.plan_text.specs.Outcome.{readOutcome, stepsIn, writeOutcome, textJudged};
+ghost use Rattle.plan_text.specs.Outcome.{areaAfter as listedAfter};
+ghost use Rattle.plan_text.specs.Answers.{answer as ofListed};
+ghost use Rattle.route_rules.specs.Numbers.{call, refusal, answered, ofCheck, ofTranslate, ofListing, ofVerdict, ofJudge, signed};
 use plan::Judged;
 use plan::Verdict;
 use plan::Worth;
+use plan_text::Listed;
 use task::Checked;
 use task::Refusal;
 use translation::Translated;
@@ -67,6 +72,15 @@ fn put_translated(t: Translated, answer: &mut [u64; 8]) -> u32
     match t {
         Translated::Written(n) => put_values(answer, n as u64, 0, 0, 0, 0, 0),
         Translated::Refused(f) => put_refusal(f, answer),
+    }
+}
+
+fn put_listed(l: Listed, answer: &mut [u64; 8]) -> u32
+    ensures { λ r. ⌜ call r (now (answer .exit)) ≡ ofListing (ofListed l) ⌝ }
+{
+    match l {
+        Listed::Written(n) => put_values(answer, n as u64, 0, 0, 0, 0, 0),
+        Listed::Refused(f) => put_refusal(f, answer),
     }
 }
 
@@ -135,6 +149,32 @@ pub extern "C" fn route_rules_judge(file: &[u8], plan: &[u8], answer: &mut [u64;
     ensures { λ r. ⌜ call r (now (answer .exit)) ≡ ofJudge (judged (now (file .entry)) (now (plan .entry))) ⌝ }
 {
     put_judged(plan::judge(file, plan), answer)
+}
+
+// Reads a plan's text into the area `out`, one byte a step. A refusal leaves that area as it was.
+#[no_mangle]
+pub extern "C" fn route_rules_read_plan(text: &[u8], out: &mut [u8], answer: &mut [u64; 8]) -> u32
+    ensures { λ r. ⌜ call r (now (answer .exit)) ≡ ofListing (readOutcome (now (text .entry)) (length (now (out .entry)))) ⌝ }
+    ensures { λ r. ⌜ now (out .exit) ≡ listedAfter (stepsIn (now (text .entry))) (now (out .entry)) (readOutcome (now (text .entry)) (length (now (out .entry)))) ⌝ }
+{
+    put_listed(plan_text::read(text, out), answer)
+}
+
+// Writes a plan as text into the area `out`. A refusal leaves that area as it was.
+#[no_mangle]
+pub extern "C" fn route_rules_write_plan(plan: &[u8], out: &mut [u8], answer: &mut [u64; 8]) -> u32
+    ensures { λ r. ⌜ call r (now (answer .exit)) ≡ ofListing (writeOutcome (now (plan .entry)) (length (now (out .entry)))) ⌝ }
+    ensures { λ r. ⌜ now (out .exit) ≡ listedAfter (textOf (now (plan .entry))) (now (out .entry)) (writeOutcome (now (plan .entry)) (length (now (out .entry)))) ⌝ }
+{
+    put_listed(plan_text::write(plan, out), answer)
+}
+
+// Judges the plan in a text on the task in a file.
+#[no_mangle]
+pub extern "C" fn route_rules_judge_text(file: &[u8], text: &[u8], answer: &mut [u64; 8]) -> u32
+    ensures { λ r. ⌜ call r (now (answer .exit)) ≡ ofJudge (textJudged (now (file .entry)) (now (text .entry))) ⌝ }
+{
+    put_judged(plan_text::judge_text(file, text), answer)
 }
 
 // Writes what program judge writes about a plan on a task, as far as the area has room, and returns its length.

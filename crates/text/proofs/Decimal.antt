@@ -11,7 +11,7 @@ use borrow.Author.Tests.{lt-ltb, le-ltb, ltb-true, ltb-false}
 use Rattle.text.specs.Text.{digit, lastDigits, decimal}
 
 -- one digit, or more
-by-size : {P : Type 0} (n : ℕ) → (n < 10 → P) → (10 ≤ n → P) → P
+pub by-size : {P : Type 0} (n : ℕ) → (n < 10 → P) → (10 ≤ n → P) → P
 by-size {P} n one more = go (ltb n 10) refl
   where
     go : (b : Bool) → ltb n 10 ≡ b → P

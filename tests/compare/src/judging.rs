@@ -35,7 +35,7 @@ fn sizes(sizes: peer::Sizes) -> Sizes {
     }
 }
 
-fn verdict(verdict: peer::Verdict) -> Verdict {
+pub fn verdict(verdict: peer::Verdict) -> Verdict {
     match verdict {
         peer::Verdict::Solved {
             cost,
@@ -53,7 +53,7 @@ fn verdict(verdict: peer::Verdict) -> Verdict {
     }
 }
 
-fn same<T: PartialEq + std::fmt::Debug>(
+pub fn same<T: PartialEq + std::fmt::Debug>(
     operation: &str,
     library: Result<T, Refusal>,
     peer: Result<T, peer::Refusal>,

@@ -3,7 +3,7 @@
 #[path = "../../../include/route_rules.rs"]
 mod route_rules;
 
-pub use route_rules::{check, judge, refused, Refusal, Sizes, Verdict};
+pub use route_rules::{check, judge, judge_text, refused, Refusal, Sizes, Verdict};
 
 /// Fills an area before it is lent, and stands behind it.
 pub const GUARD: u8 = 0xA5;
@@ -20,10 +20,34 @@ pub fn report(file: &[u8], plan: &[u8], room: usize) -> (Vec<u8>, usize) {
     (out, length)
 }
 
-/// The translation in an area of `room` bytes, and its length or the refusal.
-pub fn translate(file: &[u8], room: usize) -> (Vec<u8>, Result<usize, Refusal>) {
+/// What an operation leaves in an area of `room` bytes, and the length or the refusal that it answers.
+pub type Left = (Vec<u8>, Result<usize, Refusal>);
+
+fn left(room: usize, call: impl FnOnce(&mut [u8]) -> Result<usize, Refusal>) -> Left {
     let mut out = area(room);
-    let answer = route_rules::translate(file, &mut out[..room]);
+    let answer = call(&mut out[..room]);
+    (out, answer)
+}
+
+pub fn translate(file: &[u8], room: usize) -> Left {
+    left(room, |out| route_rules::translate(file, out))
+}
+
+pub fn read_plan(text: &[u8], room: usize) -> Left {
+    left(room, |out| route_rules::read_plan(text, out))
+}
+
+pub fn write_plan(plan: &[u8], room: usize) -> Left {
+    left(room, |out| route_rules::write_plan(plan, out))
+}
+
+/// What the area and the answer have to be where the independent implementation gives this output.
+pub fn expected(room: usize, output: Result<Vec<u8>, peer::Refusal>) -> Left {
+    let mut out = area(room);
+    let answer = output.map_err(refusal).map(|bytes| {
+        out[..bytes.len()].copy_from_slice(&bytes);
+        bytes.len()
+    });
     (out, answer)
 }
 

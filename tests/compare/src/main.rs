@@ -7,6 +7,7 @@
 mod judging;
 mod library;
 mod tally;
+mod texts;
 mod translating;
 
 use std::process::exit;
@@ -20,7 +21,8 @@ fn main() {
     println!("{count} cases, first seed {first}");
     let done = judging::compare(first, count)
         .and_then(|()| translating::edges())
-        .and_then(|()| translating::compare(first, count));
+        .and_then(|()| translating::compare(first, count))
+        .and_then(|()| texts::compare(first, count));
     if let Err(why) = done {
         println!("{why}");
         exit(1);

@@ -8,6 +8,7 @@ pub mod judge;
 pub mod meaning;
 pub mod random;
 pub mod task;
+pub mod text;
 pub mod translate;
 
 pub use decode::{check, decode, Sizes};

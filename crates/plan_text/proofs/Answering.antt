@@ -1,0 +1,175 @@
+-- What reading, writing and judging answer, from what the code has found.
+use mathlib.Core.Path.{_≡_, refl, sym, ap, _∙_}
+use mathlib.Core.Bool.{Bool, true, false, cond, true≢false}
+use mathlib.Core.List.{List, _++_}
+use Prim.Native.Nat.{ℕ, _+_, _≤_, _<_}
+use native.Mathlib.Nat.{zero-add}
+use native.Mathlib.Omega.{arith}
+use lib.Dec.{leb}
+use lib.ListN.{length, take, drop}
+use lib.Seq.{take-at}
+use borrow.Author.Tests.{le-leb, lt-leb}
+use Rattle.text.specs.Area.{written as put}
+use Rattle.text.proofs.Writing.{written-whole}
+use Rattle.task.specs.Check
+use Rattle.task.specs.Check.{Answer, check}
+use Rattle.task.specs.Answers.{answer as checked}
+use Rattle.task.specs.declared.Sizes.{Sizes}
+use Rattle.task.specs.declared.Refusal.{Refusal}
+use Rattle.task.specs.declared.Checked.{Checked}
+use Rattle.task.specs.declared.Checked.the-variants.{Accepted, Refused}
+use Rattle.plan.specs.Judged
+use Rattle.plan.specs.Judged.{Judged, judgedBy, judged}
+use Rattle.plan_text.specs.PlanText.{linesOf, Read, plan, faulty, readLines, readPlan}
+use Rattle.plan_text.specs.Outcome.{Outcome, written, refused, fitted, areaAfter, readBy, readOutcome, steps, stepsIn, refusedAfter, textJudgedBy, textJudged}
+use Rattle.plan_text.specs.Scan.{isOpening, Count, all, faultyAt, count, counted, begun, start, stepsFrom}
+use Rattle.plan_text.specs.declared.scan.Scan.{Scan}
+use Rattle.plan_text.proofs.Scanning.{steps-read}
+
+-- An outcome and its area
+
+pub turned-down : (bytes area : List ℕ) (o a : Outcome) (n i : ℕ) → a ≡ refused n i → o ≡ refused n i → (a ≡ o) × (area ≡ areaAfter bytes area o)
+turned-down bytes area o a n i x y = (x ∙ sym y, sym (ap (areaAfter bytes area) y))
+
+pub put-whole : (bytes area out : List ℕ) (n : ℕ) (o : Outcome) → length bytes ≡ n → n ≤ length area → out ≡ put bytes 0 area → o ≡ written n
+    → (written n ≡ o) × (out ≡ areaAfter bytes area o)
+put-whole bytes area out n o e h w y =
+    (sym y, w ∙ written-whole bytes area (omega arith) ∙ ap (λ (k : ℕ). bytes ++ drop k area) e ∙ sym (ap (areaAfter bytes area) y))
+
+-- Room
+
+module _ (k bytes room : ℕ) where
+  pub too-many : 2048 < k → fitted k bytes room ≡ refused 10 0
+  too-many h = rw (lt-leb k 2048 h)
+
+  pub too-small : k ≤ 2048 → room < bytes → fitted k bytes room ≡ refused 9 0
+  too-small h l = rw (le-leb k 2048 h, lt-leb bytes room l)
+
+  pub roomy : k ≤ 2048 → bytes ≤ room → fitted k bytes room ≡ written bytes
+  roomy h l = rw (le-leb k 2048 h, le-leb bytes room l)
+
+-- Reading
+
+-- a plan of k steps was read
+pub record Counted (r : Read) (k : ℕ) : Type 0 where
+  pub its-plan : List ℕ
+  pub is : r ≡ plan its-plan
+  pub size : length its-plan ≡ k
+
+abbrev stepsOf : Count → ℕ
+stepsOf (all k) = k
+stepsOf (faultyAt i) = 0
+
+abbrev lineOf : Count → ℕ
+lineOf (all k) = 0
+lineOf (faultyAt i) = i
+
+abbrev isAll : Count → Bool
+isAll (all k) = true
+isAll (faultyAt i) = false
+
+all-counted : (r : Read) (k : ℕ) → all k ≡ count 0 r → Counted r k
+all-counted (plan p) k e = record { its-plan = p; is = refl; size = sym (ap stepsOf e ∙ zero-add (length p)) }
+all-counted (faulty i) k e = absurd (true≢false (ap isAll e))
+
+stopped-at : (r : Read) (i : ℕ) → faultyAt i ≡ count 0 r → r ≡ faulty i
+stopped-at (plan p) i e = absurd (true≢false (sym (ap isAll e)))
+stopped-at (faulty j) i e = ap faulty (sym (ap lineOf e))
+
+module _ (t : List ℕ) (room : ℕ) where
+  pub too-long : 65536 < length t → readOutcome t room ≡ refused 12 0
+  unfolding readOutcome readPlan
+  too-long h = rw (lt-leb (length t) 65536 h)
+
+  module _ (short : length t ≤ 65536) where
+    read-short : readPlan t ≡ readLines 0 (linesOf t)
+    unfolding readPlan
+    read-short = rw (le-leb (length t) 65536 short)
+
+    module _ (s : Scan) (e : counted s ≡ count 0 (readLines 0 (linesOf t))) where
+      pub bad-line : isOpening (s .mode) ≡ false → readOutcome t room ≡ refused 12 (s .line)
+      unfolding readOutcome
+      bad-line h =
+          let c : faultyAt (s .line) ≡ count 0 (readLines 0 (linesOf t)) = (rw h at e) in
+          ap (readBy room) (read-short ∙ stopped-at (readLines 0 (linesOf t)) (s .line) c)
+
+      module _ (h : isOpening (s .mode) ≡ true) where
+        found : Counted (readLines 0 (linesOf t)) (s .steps)
+        found = let c : all (s .steps) ≡ count 0 (readLines 0 (linesOf t)) = (rw h at e) in all-counted (readLines 0 (linesOf t)) (s .steps) c
+
+        pub by-size : readOutcome t room ≡ fitted (s .steps) (s .steps) room
+        unfolding readOutcome
+        by-size = ap (readBy room) (read-short ∙ found .is) ∙ ap (λ (k : ℕ). fitted k k room) (found .size)
+
+        pub steps-found : (stepsFrom start t ≡ stepsIn t) × (length (stepsIn t) ≡ s .steps)
+        unfolding stepsIn
+        steps-found =
+            let p : steps (readPlan t) ≡ found .its-plan = ap steps (read-short ∙ found .is) in
+            (steps-read t (found .its-plan) (found .is) ∙ sym p, ap length p ∙ found .size)
+
+-- the place of a faulty line
+pub line-below : (t : List ℕ) (s : Scan) → length t ≤ 65536 → s .line + begun (s .mode) ≤ length t → isOpening (s .mode) ≡ false → s .line < 65536
+line-below t s short h e = let l : s .line + 1 ≤ length t = (rw e at h) in omega arith
+
+-- Judging
+
+abbrev asJudged : Outcome → Judged
+asJudged (written n) = Judged.refused 0 0
+asJudged (refused n i) = Judged.refused n i
+
+abbrev isWritten : Outcome → Bool
+isWritten (written n) = true
+isWritten (refused n i) = false
+
+abbrev lengthOf : Outcome → ℕ
+lengthOf (written n) = n
+lengthOf (refused n i) = 0
+
+size-read : (r : Read) (room n : ℕ) → readBy room r ≡ written n → length (steps r) ≡ n
+size-read (plan p) room n e = go (leb (length p) 2048) (leb (length p) room) e
+  where
+    go : (x y : Bool) → cond x (cond y (written (length p)) (refused 9 0)) (refused 10 0) ≡ written n → length p ≡ n
+    go true true e = ap lengthOf e
+    go true false e = absurd (true≢false (sym (ap isWritten e)))
+    go false y e = absurd (true≢false (sym (ap isWritten e)))
+size-read (faulty i) room n e = absurd (true≢false (sym (ap isWritten e)))
+
+-- an area that was read into begins with the plan
+pub at-front : (t area out : List ℕ) (room n : ℕ) → readOutcome t room ≡ written n
+    → out ≡ areaAfter (stepsIn t) area (readOutcome t room) → take n out ≡ stepsIn t
+unfolding readOutcome stepsIn
+at-front t area out room n e w =
+    ap (take n) (w ∙ ap (areaAfter (steps (readPlan t)) area) e) ∙ take-at (steps (readPlan t)) (drop n area) n (size-read (readPlan t) room n e)
+
+module _ (b : List ℕ) (x : Checked) (e : checked x ≡ check b) (m j : ℕ) where
+  pub file-refused : (f : Refusal) → x ≡ Refused f → Judged.refused (f .number) (f .place) ≡ refusedAfter (check b) m j
+  file-refused f q = ap (λ (a : Answer). refusedAfter a m j) (sym (ap checked q) ∙ e)
+
+  pub file-accepted : (z : Sizes) → x ≡ Accepted z → Judged.refused m j ≡ refusedAfter (check b) m j
+  file-accepted z q = ap (λ (a : Answer). refusedAfter a m j) (sym (ap checked q) ∙ e)
+
+module _ (b : List ℕ) where
+  on-refusal : (a : Answer) → check b ≡ a → (r : Read) (m j : ℕ) → readBy 2048 r ≡ refused m j → refusedAfter a m j ≡ textJudgedBy b a r
+  unfolding judged
+  on-refusal (Check.refused n i) q r m j e = refl
+  on-refusal (Check.accepted z) q (faulty i) m j e = sym (ap asJudged e)
+  on-refusal (Check.accepted z) q (plan p) m j e = go (leb (length p) 2048) refl e
+    where
+      go : (x : Bool) → leb (length p) 2048 ≡ x → cond x (cond x (written (length p)) (refused 9 0)) (refused 10 0) ≡ refused m j
+          → Judged.refused m j ≡ judged b p
+      go true l e = absurd (true≢false (ap isWritten e))
+      go false l e = sym (ap asJudged e) ∙ rw (q, l)
+
+  on-plan : (a : Answer) → check b ≡ a → (r : Read) (n : ℕ) → readBy 2048 r ≡ written n → judgedBy b (steps r) a ≡ textJudgedBy b a r
+  unfolding judged
+  on-plan (Check.refused n i) q r k e = refl
+  on-plan (Check.accepted z) q (plan p) k e = ap (judgedBy b p) (sym q)
+  on-plan (Check.accepted z) q (faulty i) k e = absurd (true≢false (sym (ap isWritten e)))
+
+  pub text-refused : (t : List ℕ) (m j : ℕ) → readOutcome t 2048 ≡ refused m j → refusedAfter (check b) m j ≡ textJudged b t
+  unfolding readOutcome textJudged
+  text-refused t m j e = on-refusal (check b) refl (readPlan t) m j e
+
+  pub text-judged : (t : List ℕ) (n : ℕ) → readOutcome t 2048 ≡ written n → judged b (stepsIn t) ≡ textJudged b t
+  unfolding readOutcome textJudged stepsIn judged
+  text-judged t n e = on-plan (check b) refl (readPlan t) n e

@@ -1,0 +1,9 @@
+pub mod Examples
+pub mod Modes
+pub mod Numerals
+pub mod Lines
+pub mod Scanning
+pub mod Printing
+pub mod Answering
+pub mod Returned
+pub mod Comments

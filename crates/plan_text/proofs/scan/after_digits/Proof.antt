@@ -1,0 +1,26 @@
+use mathlib.Core.Path.{sym, _∙_}
+use lib.Dec.{leb}
+use borrow.Author.Tests.{ne-eqb, leb-true}
+use Rattle.task.proofs.Tests.{and-left, as-T, as-true}
+use borrow.Author.Needs.{needs}
+use Rattle.plan_text.proofs.scan.after_digits.Statement.{statement}
+use Rattle.plan_text.proofs.scan.after_digits.Tie as tie
+
+is-digit-requires : tie.Need-is-digit-requires
+is-digit-requires c κs = search needs
+
+with-digit-requires : tie.Need-with-digit-requires
+with-digit-requires c κs = leb-true 48 (c .before .before .before .args .b) (as-true _ (and-left (leb 48 (c .before .before .before .args .b)) (leb (c .before .before .before .args .b) 57) (as-T (sym (c .before .is-digit .ensures) ∙ c .if2 .taken))))
+
+returns : tie.Need-returns
+returns c = rw (c .if1 .taken)
+
+returns-2 : tie.Need-returns-2
+returns-2 c = rw (ne-eqb (c .before .before .before .before .args .b) 41 (c .before .before .before .if1 .left), sym (c .before .before .is-digit .ensures) ∙ c .before .if2 .taken, c .with-digit .ensures)
+
+returns-3 : tie.Need-returns-3
+returns-3 c = rw (ne-eqb (c .before .before .before .args .b) 41 (c .before .before .if1 .left), sym (c .before .is-digit .ensures) ∙ c .if2 .left)
+
+pub after-digits-spec : {M : Type 1} → statement M
+after-digits-spec =
+    tie.close (tie.spec is-digit-requires with-digit-requires returns returns-2 returns-3)

@@ -1,0 +1,75 @@
+use borrow.Author.Needs.{needs}
+use mathlib.Core.Path.{_≡_, refl, _∙_}
+use Prim.Native.Nat.{_-_, _≤_}
+use denote.Ref.{now}
+use lib.ListN.{length, drop, getD}
+use Rattle.text.specs.Area.{written}
+use Rattle.plan_text.specs.Scan.{start, stepsFrom}
+use Rattle.plan_text.proofs.Scanning.{Passed, passed-start, passed-on, write-at, write-behind}
+use Rattle.plan_text.proofs.scan.fill.Statement.{statement}
+use Rattle.plan_text.proofs.scan.fill.Tie as tie
+
+abbrev Inv-loop : tie.InvT-loop
+Inv-loop text out₀ s₀ i₀ out s i = (i ≤ length text) × Passed s i × (length out ≡ length out₀) × (written (stepsFrom s (drop i text)) (s .steps) out ≡ written (stepsFrom start text) 0 out₀)
+
+abbrev μ-loop : tie.MeasureT-loop
+μ-loop text out₀ s₀ i₀ out s i = length text - i
+
+opening-requires : tie.Need-opening-requires Inv-loop μ-loop
+opening-requires c κs = tt
+
+loop-holds : tie.Need-loop-holds Inv-loop μ-loop
+loop-holds c = rw (c .opening .ensures) (search needs, passed-start, refl, refl)
+
+shared-slice-read-b : tie.Need-shared-slice-read-b Inv-loop μ-loop
+shared-slice-read-b c = search needs
+
+put-byte-requires : tie.Need-put-byte-requires Inv-loop μ-loop
+put-byte-requires c κs = let p = c .before .before .before .loop .inv .1 in search needs
+
+advanced-requires : tie.Need-advanced-requires Inv-loop μ-loop
+advanced-requires c κs = let p = c .before .before .before .before .before .before .loop .inv .1 in (search needs, search needs)
+
+add-i : tie.Need-add-i Inv-loop μ-loop
+add-i c = search needs
+
+loop-less : tie.Need-loop-less Inv-loop μ-loop
+loop-less c = search needs
+
+loop-again : tie.Need-loop-again Inv-loop μ-loop
+loop-again c =
+    let w = c .before .before .before in
+    let l = w .before .before .before .before in
+    let t = now (l .before .before .before .before .args .text) in
+    rw (c .advanced .ensures) (
+      search needs,
+      passed-on (l .loop .s) (getD t (l .loop .i) 0) (l .loop .i) (l .loop .inv .1),
+      w .put-byte .kept .1 .1 .0 ∙ l .loop .inv .2,
+      rw (w .put-byte .ensures) (write-at (l .loop .s) t (l .loop .i) (l .loop .out) (search needs)) ∙ l .loop .inv .3,
+    )
+
+same-length : tie.Need-same-length Inv-loop μ-loop
+same-length c = c .before .loop .inv .2
+
+returns : tie.Need-returns Inv-loop μ-loop
+returns c =
+    let l = c .before in
+    let t = now (l .before .before .before .before .args .text) in
+    write-behind (l .loop .s) t (l .loop .i) (l .loop .out) (search needs) ∙ l .loop .inv .3
+
+pub fill-spec : {M : Type 1} → statement M
+fill-spec =
+    tie.close
+    (tie.spec
+    Inv-loop
+    μ-loop
+    opening-requires
+    loop-holds
+    shared-slice-read-b
+    put-byte-requires
+    advanced-requires
+    add-i
+    loop-less
+    loop-again
+    same-length
+    returns)

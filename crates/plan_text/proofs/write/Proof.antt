@@ -1,0 +1,72 @@
+use mathlib.Core.Path.{sym, ap, _∙_}
+use native.Mathlib.Omega.{arith}
+use denote.Ref.{now}
+use lib.ListN.{length}
+use Rattle.plan_text.specs.PlanText.{textOf}
+use Rattle.plan_text.specs.Outcome.{written, writeOutcome}
+use Rattle.plan_text.specs.Answers.{answer}
+use Rattle.plan_text.proofs.Answering.{turned-down, put-whole, too-many, too-small, roomy}
+use borrow.Author.Needs.{needs}
+use Rattle.plan_text.proofs.write.Statement.{statement}
+use Rattle.plan_text.proofs.write.Tie as tie
+
+refuse-requires : tie.Need-refuse-requires
+refuse-requires c κs = search needs
+
+returns : tie.Need-returns
+unfolding writeOutcome
+returns c =
+    let a = c .before .before .before .before .args in
+    let p = now (a .plan) in
+    turned-down (textOf p) (now (a .out)) (writeOutcome p (length (now (a .out)))) (answer (c .refuse .result)) 10 0
+    (c .refuse .ensures) (too-many (length p) (length (textOf p)) (length (now (a .out))) (search needs))
+
+slice-aggregate-put-plan : tie.Need-slice-aggregate-put-plan
+slice-aggregate-put-plan c = search needs
+
+put-plan-requires : tie.Need-put-plan-requires
+put-plan-requires c κs = search needs
+
+refuse-requires-2 : tie.Need-refuse-requires-2
+refuse-requires-2 c κs = search needs
+
+returns-2 : tie.Need-returns-2
+unfolding writeOutcome
+returns-2 c =
+    let w = c .before .before .before in
+    let a = w .before .before .before .before .before .args in
+    let p = now (a .plan) in
+    turned-down (textOf p) (now (a .out)) (writeOutcome p (length (now (a .out)))) (answer (c .refuse2 .result)) 9 0
+    (c .refuse2 .ensures) (too-small (length p) (length (textOf p)) (length (now (a .out))) (search needs) (omega (arith, c .before .if2 .taken, w .put-plan .ensures .size)))
+
+put-plan-requires-2 : tie.Need-put-plan-requires-2
+put-plan-requires-2 c κs = search needs
+
+same-length : tie.Need-same-length
+same-length c = search needs
+
+returns-3 : tie.Need-returns-3
+unfolding writeOutcome
+returns-3 c =
+    let w = c .before .before .before .before .before .before in
+    let a = w .before .before .before .before .before .args in
+    let p = now (a .plan) in
+    let n = w .put-plan .result in
+    let size = sym (w .put-plan .ensures .size) in
+    put-whole (textOf p) (now (a .out)) (c .before .before .put-plan2 .last .1 .0) n (writeOutcome p (length (now (a .out)))) size (search needs)
+    (c .before .before .put-plan2 .ensures .area)
+    (roomy (length p) (length (textOf p)) (length (now (a .out))) (search needs) (omega (arith, c .before .before .before .before .if2 .left, size)) ∙ ap written size)
+
+pub write-spec : {M : Type 1} → statement M
+write-spec =
+    tie.close
+    (tie.spec
+    refuse-requires
+    returns
+    slice-aggregate-put-plan
+    put-plan-requires
+    refuse-requires-2
+    returns-2
+    put-plan-requires-2
+    same-length
+    returns-3)

@@ -1,0 +1,4 @@
+pub mod PlanText
+pub mod Outcome
+pub mod Answers
+pub mod Scan
