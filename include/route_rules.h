@@ -1,4 +1,5 @@
-/* Route rules: check a task file, translate a task with soft rules into a classical task, judge a plan.
+/* Route rules: check a task file, translate a task with soft rules into a classical task, judge a plan, given as bytes or as
+ * planners print it.
  *
  * Link target/staticlib/libroute_rules.a, which `rt staticlib route_rules` writes. Every function is proved: it answers every
  * input as the definitions say (crates/route_rules/specs/Numbers.antt has the words of the answers), always returns, and
@@ -7,7 +8,7 @@
  * An area is a pointer and its length in bytes. The pointer is never NULL, also where the length is 0. The areas of one
  * call do not overlap, unless both are only read.
  *
- * check, translate and judge return 0, or the number of a refusal. They write every word of the answer: where a call is
+ * All functions but report return 0, or the number of a refusal. They write every word of the answer: where a call is
  * refused `place` says where and all else is 0, where it is not `place` is 0. A refusal leaves every other area as it was.
  * `spare` is 0. A later release may give a spare word a meaning, and adds functions and refusals, but moves nothing. */
 #ifndef ROUTE_RULES_H
@@ -27,7 +28,7 @@ extern "C" {
 #define ROUTE_RULES_MAX_ROWS 12000
 #define ROUTE_RULES_MAX_AMOUNT 1000000 /* a cost or a weight */
 #define ROUTE_RULES_MAX_STEPS 2048
-#define ROUTE_RULES_MAX_TEXT 65536 /* bytes */
+#define ROUTE_RULES_MAX_TEXT 65536 /* bytes of a plan's text; an area of this length is never too short for one */
 
 /* The length of the longest task file: an output area of this length is never too short. */
 #define ROUTE_RULES_MAX_FILE (8 + 5 * ROUTE_RULES_MAX_ROWS)

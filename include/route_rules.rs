@@ -3,7 +3,7 @@
 //! Take it into a crate as a module, and link `libroute_rules.a`: `rustc -L target/staticlib -l static=route_rules`.
 #![allow(dead_code)]
 
-/// Why a call was refused, and where: a row, a step, or 0. The numbers are those of `refused`.
+/// Why a call was refused, and where: a row, a step, a line, or 0. The numbers are those of `refused`.
 #[derive(Clone, Copy, PartialEq, Eq, Debug)]
 pub struct Refusal {
     pub number: u32,
@@ -28,6 +28,9 @@ pub mod refused {
 
 /// The length of the longest task file: an output area of this length is never too short.
 pub const MAX_FILE: usize = 8 + 5 * 12_000;
+
+/// The length of the longest plan's text that is read: an area of this length is never too short for a plan's text.
+pub const MAX_TEXT: usize = 65_536;
 
 /// The four sizes of an accepted file.
 #[derive(Clone, Copy, PartialEq, Eq, Debug)]
@@ -103,6 +106,12 @@ extern "C" {
     ) -> usize;
 }
 
+/// A function that fills one area from another.
+type Filling = unsafe extern "C" fn(*const u8, usize, *mut u8, usize, *mut Answer) -> u32;
+
+/// A function that judges a plan, or a plan's text, on the task in a file.
+type Judging = unsafe extern "C" fn(*const u8, usize, *const u8, usize, *mut Answer) -> u32;
+
 /// The answer of a call that lends an answer area, or its refusal.
 fn answered(call: impl FnOnce(*mut Answer) -> u32) -> Result<Answer, Refusal> {
     let mut answer = Answer::default();
@@ -127,13 +136,12 @@ pub fn check(file: &[u8]) -> Result<Sizes, Refusal> {
     })
 }
 
-/// Translates the task in a file into the start of the output, and answers the length written; or it is refused by 1 to 9,
-/// and the output is as it was.
-pub fn translate(file: &[u8], out: &mut [u8]) -> Result<usize, Refusal> {
+/// The length that was written to the start of the output.
+fn filled(fill: Filling, input: &[u8], out: &mut [u8]) -> Result<usize, Refusal> {
     let words = answered(|answer| unsafe {
-        route_rules_translate(
-            file.as_ptr(),
-            file.len(),
+        fill(
+            input.as_ptr(),
+            input.len(),
             out.as_mut_ptr(),
             out.len(),
             answer,
@@ -142,24 +150,18 @@ pub fn translate(file: &[u8], out: &mut [u8]) -> Result<usize, Refusal> {
     Ok(words[1] as usize)
 }
 
-/// Judges a plan, one byte a step, on the task in a file: a verdict, or refused by 1 to 6, 10 or 11.
-pub fn judge(file: &[u8], plan: &[u8]) -> Result<Verdict, Refusal> {
-    let words = answered(|answer| unsafe {
-        route_rules_judge(file.as_ptr(), file.len(), plan.as_ptr(), plan.len(), answer)
-    })?;
-    Ok(verdict(words))
+/// Translates the task in a file into the start of the output, and answers the length written; or it is refused by 1 to 9,
+/// and the output is as it was.
+pub fn translate(file: &[u8], out: &mut [u8]) -> Result<usize, Refusal> {
+    filled(route_rules_translate, file, out)
 }
 
-/// Judges the plan in a text on the task in a file: a verdict, or refused by 1 to 6, 12, 10 or 11.
-pub fn judge_text(file: &[u8], text: &[u8]) -> Result<Verdict, Refusal> {
+/// The verdict on a plan, or on the plan in a text.
+fn judged(judge: Judging, file: &[u8], plan: &[u8]) -> Result<Verdict, Refusal> {
     let words = answered(|answer| unsafe {
-        route_rules_judge_text(file.as_ptr(), file.len(), text.as_ptr(), text.len(), answer)
+        judge(file.as_ptr(), file.len(), plan.as_ptr(), plan.len(), answer)
     })?;
-    Ok(verdict(words))
-}
-
-fn verdict(words: Answer) -> Verdict {
-    match words[1] {
+    Ok(match words[1] {
         1 => Verdict::Solved {
             cost: words[3],
             metric: words[4],
@@ -169,37 +171,29 @@ fn verdict(words: Answer) -> Verdict {
         2 => Verdict::Stopped(words[2]),
         3 => Verdict::GoalMissed,
         verdict => unreachable!("verdict {verdict}"),
-    }
+    })
+}
+
+/// Judges a plan, one byte a step, on the task in a file: a verdict, or refused by 1 to 6, 10 or 11.
+pub fn judge(file: &[u8], plan: &[u8]) -> Result<Verdict, Refusal> {
+    judged(route_rules_judge, file, plan)
+}
+
+/// Judges the plan in a text on the task in a file: a verdict, or refused by 1 to 6, 12, 10 or 11.
+pub fn judge_text(file: &[u8], text: &[u8]) -> Result<Verdict, Refusal> {
+    judged(route_rules_judge_text, file, text)
 }
 
 /// Reads a plan's text into the start of the output, one byte a step, and answers the number of steps; or it is refused by 12,
 /// 10 or 9, and the output is as it was.
 pub fn read_plan(text: &[u8], out: &mut [u8]) -> Result<usize, Refusal> {
-    let words = answered(|answer| unsafe {
-        route_rules_read_plan(
-            text.as_ptr(),
-            text.len(),
-            out.as_mut_ptr(),
-            out.len(),
-            answer,
-        )
-    })?;
-    Ok(words[1] as usize)
+    filled(route_rules_read_plan, text, out)
 }
 
 /// Writes a plan as text into the start of the output, and answers its length; or it is refused by 10 or 9, and the output is as
 /// it was.
 pub fn write_plan(plan: &[u8], out: &mut [u8]) -> Result<usize, Refusal> {
-    let words = answered(|answer| unsafe {
-        route_rules_write_plan(
-            plan.as_ptr(),
-            plan.len(),
-            out.as_mut_ptr(),
-            out.len(),
-            answer,
-        )
-    })?;
-    Ok(words[1] as usize)
+    filled(route_rules_write_plan, plan, out)
 }
 
 /// Writes the lines of program judge about a plan on the task in a file, as far as the output has room, and answers the

@@ -1,9 +1,10 @@
-/* Checks the belt's task, translates it, judges a plan on it, and prints the answers: belt TASK PLAN. */
+/* Checks the belt's task, translates it, judges a plan on it, as bytes and as text, and prints the answers: belt TASK PLAN. */
 #include "route_rules.h"
 
 #include <inttypes.h>
 #include <stdio.h>
 #include <stdlib.h>
+#include <string.h>
 
 static size_t read_file(const char *name, uint8_t *area, size_t room)
 {
@@ -46,25 +47,51 @@ static void translate(const uint8_t *file, size_t length)
     check(out, answer.length);
 }
 
+static void judged(const char *operation, uint32_t number, const route_rules_judged *answer)
+{
+    if (number != 0) {
+        refused(operation, number, answer->place);
+        return;
+    }
+    printf("%s: ", operation);
+    switch (answer->verdict) {
+    case ROUTE_RULES_SOLVED:
+        printf("solved cost %" PRIu64 " metric %" PRIu64 " utility %" PRId64 " met", answer->cost, answer->metric,
+               answer->utility);
+        for (int k = 0; k < ROUTE_RULES_MAX_PREFERENCES; k++)
+            if (answer->met >> k & 1) printf(" %d", k);
+        break;
+    case ROUTE_RULES_STOPPED: printf("stopped %" PRIu64, answer->step); break;
+    case ROUTE_RULES_GOAL_MISSED: printf("goal missed"); break;
+    }
+    printf("\n");
+}
+
 static void judge(const uint8_t *file, size_t length, const uint8_t *plan, size_t steps)
 {
     route_rules_judged answer;
     uint32_t number = route_rules_judge(file, length, plan, steps, &answer);
+    judged("judge", number, &answer);
+}
+
+static void write_plan(const uint8_t *plan, size_t steps)
+{
+    static uint8_t text[ROUTE_RULES_MAX_TEXT];
+    route_rules_listed answer;
+    uint32_t number = route_rules_write_plan(plan, steps, text, sizeof text, &answer);
     if (number != 0) {
-        refused("judge", number, answer.place);
+        refused("write_plan", number, answer.place);
         return;
     }
-    switch (answer.verdict) {
-    case ROUTE_RULES_SOLVED:
-        printf("judge: solved cost %" PRIu64 " metric %" PRIu64 " utility %" PRId64 " met", answer.cost, answer.metric,
-               answer.utility);
-        for (int k = 0; k < ROUTE_RULES_MAX_PREFERENCES; k++)
-            if (answer.met >> k & 1) printf(" %d", k);
-        printf("\n");
-        break;
-    case ROUTE_RULES_STOPPED: printf("judge: stopped %" PRIu64 "\n", answer.step); break;
-    case ROUTE_RULES_GOAL_MISSED: printf("judge: goal missed\n"); break;
-    }
+    printf("write_plan: ");
+    fwrite(text, 1, answer.length, stdout);
+}
+
+static void judge_text(const uint8_t *file, size_t length, const char *text)
+{
+    route_rules_judged answer;
+    uint32_t number = route_rules_judge_text(file, length, (const uint8_t *)text, strlen(text), &answer);
+    judged("judge_text", number, &answer);
 }
 
 int main(int count, char **words)
@@ -82,6 +109,10 @@ int main(int count, char **words)
     judge(file, length, (const uint8_t *)"\0\1\1\0", 4); /* utility below 0 */
     judge(file, length, (const uint8_t *)"\2", 1);    /* no action 2 */
     check(file, length - 1);                          /* a byte is missing */
+
+    write_plan(plan, steps);
+    judge_text(file, length, "; from a planner\n(a0)\n");
+    judge_text(file, length, "; from a planner\n(a00)\n"); /* line 1 has a leading zero */
 
     size_t written = route_rules_report(file, length, plan, steps, text, sizeof text);
     fwrite(text, 1, written, stdout);

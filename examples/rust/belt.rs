@@ -1,9 +1,9 @@
-//! Checks the belt's task, translates it, judges a plan on it, and prints the answers: `belt TASK PLAN`.
+//! Checks the belt's task, translates it, judges a plan on it, as bytes and as text, and prints the answers: `belt TASK PLAN`.
 
 #[path = "../../include/route_rules.rs"]
 mod route_rules;
 
-use route_rules::{Refusal, Verdict, MAX_FILE};
+use route_rules::{Refusal, Verdict, MAX_FILE, MAX_TEXT};
 use std::fs;
 
 fn refused(refusal: Refusal) -> String {
@@ -55,6 +55,19 @@ fn judge(file: &[u8], plan: &[u8]) {
     println!("judge: {line}");
 }
 
+fn write_plan(plan: &[u8]) {
+    let mut text = vec![0; MAX_TEXT];
+    match route_rules::write_plan(plan, &mut text) {
+        Ok(length) => print!("write_plan: {}", String::from_utf8_lossy(&text[..length])),
+        Err(refusal) => println!("write_plan: {}", refused(refusal)),
+    }
+}
+
+fn judge_text(file: &[u8], text: &[u8]) {
+    let line = route_rules::judge_text(file, text).map_or_else(refused, verdict);
+    println!("judge_text: {line}");
+}
+
 fn main() {
     let mut names = std::env::args().skip(1);
     let mut read = || fs::read(names.next().expect("a file's name")).expect("a file");
@@ -67,6 +80,10 @@ fn main() {
     judge(&file, &[0, 1, 1, 0]); // utility below 0
     judge(&file, &[2]); // no action 2
     check(&file[..file.len() - 1]); // a byte is missing
+
+    write_plan(&plan);
+    judge_text(&file, b"; from a planner\n(a0)\n");
+    judge_text(&file, b"; from a planner\n(a00)\n"); // line 1 has a leading zero
 
     let mut text = [0; 2048];
     let length = route_rules::report(&file, &plan, &mut text);

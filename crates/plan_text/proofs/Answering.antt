@@ -21,7 +21,9 @@ use Rattle.task.specs.declared.Checked.the-variants.{Accepted, Refused}
 use Rattle.plan.specs.Judged
 use Rattle.plan.specs.Judged.{Judged, judgedBy, judged}
 use Rattle.plan_text.specs.PlanText.{linesOf, Read, plan, faulty, readLines, readPlan}
-use Rattle.plan_text.specs.Outcome.{Outcome, written, refused, fitted, areaAfter, readBy, readOutcome, steps, stepsIn, refusedAfter, textJudgedBy, textJudged}
+use Rattle.outcome.specs.Outcome.{Outcome, written, refused, areaAfter}
+use Rattle.outcome.proofs.Outcomes.{not-written, same-written}
+use Rattle.plan_text.specs.Outcomes.{planFitted, readBy, readOutcome, steps, stepsIn, refusedAfter, textJudgedBy, textJudged}
 use Rattle.plan_text.specs.Scan.{isOpening, Count, all, faultyAt, count, counted, begun, start, stepsFrom}
 use Rattle.plan_text.specs.declared.scan.Scan.{Scan}
 use Rattle.plan_text.proofs.Scanning.{steps-read}
@@ -39,13 +41,13 @@ put-whole bytes area out n o e h w y =
 -- Room
 
 module _ (k bytes room : ℕ) where
-  pub too-many : 2048 < k → fitted k bytes room ≡ refused 10 0
+  pub too-many : 2048 < k → planFitted k bytes room ≡ refused 10 0
   too-many h = rw (lt-leb k 2048 h)
 
-  pub too-small : k ≤ 2048 → room < bytes → fitted k bytes room ≡ refused 9 0
+  pub too-small : k ≤ 2048 → room < bytes → planFitted k bytes room ≡ refused 9 0
   too-small h l = rw (le-leb k 2048 h, lt-leb bytes room l)
 
-  pub roomy : k ≤ 2048 → bytes ≤ room → fitted k bytes room ≡ written bytes
+  pub roomy : k ≤ 2048 → bytes ≤ room → planFitted k bytes room ≡ written bytes
   roomy h l = rw (le-leb k 2048 h, le-leb bytes room l)
 
 -- Reading
@@ -97,9 +99,9 @@ module _ (t : List ℕ) (room : ℕ) where
         found : Counted (readLines 0 (linesOf t)) (s .steps)
         found = let c : all (s .steps) ≡ count 0 (readLines 0 (linesOf t)) = (rw h at e) in all-counted (readLines 0 (linesOf t)) (s .steps) c
 
-        pub by-size : readOutcome t room ≡ fitted (s .steps) (s .steps) room
+        pub by-size : readOutcome t room ≡ planFitted (s .steps) (s .steps) room
         unfolding readOutcome
-        by-size = ap (readBy room) (read-short ∙ found .is) ∙ ap (λ (k : ℕ). fitted k k room) (found .size)
+        by-size = ap (readBy room) (read-short ∙ found .is) ∙ ap (λ (k : ℕ). planFitted k k room) (found .size)
 
         pub steps-found : (stepsFrom start t ≡ stepsIn t) × (length (stepsIn t) ≡ s .steps)
         unfolding stepsIn
@@ -117,22 +119,14 @@ abbrev asJudged : Outcome → Judged
 asJudged (written n) = Judged.refused 0 0
 asJudged (refused n i) = Judged.refused n i
 
-abbrev isWritten : Outcome → Bool
-isWritten (written n) = true
-isWritten (refused n i) = false
-
-abbrev lengthOf : Outcome → ℕ
-lengthOf (written n) = n
-lengthOf (refused n i) = 0
-
 size-read : (r : Read) (room n : ℕ) → readBy room r ≡ written n → length (steps r) ≡ n
 size-read (plan p) room n e = go (leb (length p) 2048) (leb (length p) room) e
   where
     go : (x y : Bool) → cond x (cond y (written (length p)) (refused 9 0)) (refused 10 0) ≡ written n → length p ≡ n
-    go true true e = ap lengthOf e
-    go true false e = absurd (true≢false (sym (ap isWritten e)))
-    go false y e = absurd (true≢false (sym (ap isWritten e)))
-size-read (faulty i) room n e = absurd (true≢false (sym (ap isWritten e)))
+    go true true e = same-written (length p) n e
+    go true false e = absurd (not-written 9 0 n e)
+    go false y e = absurd (not-written 10 0 n e)
+size-read (faulty i) room n e = absurd (not-written 12 i n e)
 
 -- an area that was read into begins with the plan
 pub at-front : (t area out : List ℕ) (room n : ℕ) → readOutcome t room ≡ written n
@@ -157,14 +151,14 @@ module _ (b : List ℕ) where
     where
       go : (x : Bool) → leb (length p) 2048 ≡ x → cond x (cond x (written (length p)) (refused 9 0)) (refused 10 0) ≡ refused m j
           → Judged.refused m j ≡ judged b p
-      go true l e = absurd (true≢false (ap isWritten e))
+      go true l e = absurd (not-written m j (length p) (sym e))
       go false l e = sym (ap asJudged e) ∙ rw (q, l)
 
   on-plan : (a : Answer) → check b ≡ a → (r : Read) (n : ℕ) → readBy 2048 r ≡ written n → judgedBy b (steps r) a ≡ textJudgedBy b a r
   unfolding judged
   on-plan (Check.refused n i) q r k e = refl
   on-plan (Check.accepted z) q (plan p) k e = ap (judgedBy b p) (sym q)
-  on-plan (Check.accepted z) q (faulty i) k e = absurd (true≢false (sym (ap isWritten e)))
+  on-plan (Check.accepted z) q (faulty i) k e = absurd (not-written 12 i k e)
 
   pub text-refused : (t : List ℕ) (m j : ℕ) → readOutcome t 2048 ≡ refused m j → refusedAfter (check b) m j ≡ textJudged b t
   unfolding readOutcome textJudged

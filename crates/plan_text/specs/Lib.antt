@@ -1,4 +1,3 @@
 pub mod PlanText
-pub mod Outcome
-pub mod Answers
+pub mod Outcomes
 pub mod Scan

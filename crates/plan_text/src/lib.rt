@@ -3,66 +3,55 @@ mod print;
 mod scan;
 
 ghost use mathlib.Core.Path.{_≡_};
-ghost use Prim.Native.Nat.{ℕ};
 ghost use lib.ListN.{length};
 ghost use Rattle.plan_text.specs.PlanText.{textOf};
-ghost use Rattle.plan_text.specs.Outcome.{refused, areaAfter, readOutcome, stepsIn, writeOutcome, refusedAfter, textJudged};
-ghost use Rattle.plan_text.specs.Answers.{answer};
+ghost use Rattle.plan_text.specs.Outcomes.{readOutcome, stepsIn, writeOutcome, refusedAfter, textJudged};
+ghost use Rattle.outcome.specs.Outcome.{areaAfter};
+ghost use Rattle.outcome.specs.Answers.{answer};
 ghost use Rattle.task.specs.Check.{check};
 ghost use Rattle.plan.specs.Answers.{answer as judgedAs};
+use outcome::Outcome;
 use plan::Judged;
 use task::Checked;
 use task::Refusal;
 
-// The length written, or a refusal of the text, the plan or the area.
-pub enum Listed {
-    Written(usize),
-    Refused(Refusal),
-}
-
-fn refuse(number: u8, place: u16) -> Listed
-    ensures { λ r. ⌜ answer r ≡ refused number place ⌝ }
-{
-    Listed::Refused(Refusal { number, place })
-}
-
 // Reads a text into a plan, one byte a step, at the start of the area.
-pub fn read(text: &[u8], out: &mut [u8]) -> Listed
+pub fn read(text: &[u8], out: &mut [u8]) -> Outcome
     ensures { λ r. ⌜ answer r ≡ readOutcome (now (text .entry)) (length (now (out .entry))) ⌝ }
     ensures { λ r. ⌜ now (out .exit) ≡ areaAfter (stepsIn (now (text .entry))) (now (out .entry)) (readOutcome (now (text .entry)) (length (now (out .entry)))) ⌝ }
 {
     if 65536 < text.len() {
-        return refuse(12, 0);
+        return outcome::refuse(12, 0);
     }
     let s = scan::count(text);
     if !scan::between_lines(s) {
-        return refuse(12, s.line as u16);
+        return outcome::refuse(12, s.line as u16);
     }
     if 2048 < s.steps {
-        return refuse(10, 0);
+        return outcome::refuse(10, 0);
     }
     if out.len() < s.steps {
-        return refuse(9, 0);
+        return outcome::refuse(9, 0);
     }
     scan::fill(text, &mut *out);
-    Listed::Written(s.steps)
+    Outcome::Written(s.steps)
 }
 
 // Writes a plan as text at the start of the area.
-pub fn write(plan: &[u8], out: &mut [u8]) -> Listed
+pub fn write(plan: &[u8], out: &mut [u8]) -> Outcome
     ensures { λ r. ⌜ answer r ≡ writeOutcome (now (plan .entry)) (length (now (out .entry))) ⌝ }
     ensures { λ r. ⌜ now (out .exit) ≡ areaAfter (textOf (now (plan .entry))) (now (out .entry)) (writeOutcome (now (plan .entry)) (length (now (out .entry)))) ⌝ }
 {
     if 2048 < plan.len() {
-        return refuse(10, 0);
+        return outcome::refuse(10, 0);
     }
     let mut nothing: [u8; 1] = [0; 1];
     let n = print::put_plan(plan, &mut nothing);
     if out.len() < n {
-        return refuse(9, 0);
+        return outcome::refuse(9, 0);
     }
     print::put_plan(plan, &mut *out);
-    Listed::Written(n)
+    Outcome::Written(n)
 }
 
 // The refusal that check gives, or else that of the text.
@@ -83,7 +72,7 @@ pub fn judge_text(file: &[u8], text: &[u8]) -> Judged
     let mut steps: [u8; 2048] = [0; 2048];
     let l = read(text, &mut steps);
     match l {
-        Listed::Written(n) => plan::judge(file, text::front(&steps, n)),
-        Listed::Refused(f) => refused_text(file, f),
+        Outcome::Written(n) => plan::judge(file, text::front(&steps, n)),
+        Outcome::Refused(f) => refused_text(file, f),
     }
 }

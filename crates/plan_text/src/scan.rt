@@ -1,6 +1,6 @@
 // A plan's text, read byte by byte.
 ghost use mathlib.Core.Path.{_≡_};
-ghost use Prim.Native.Nat.{ℕ, _+_, _*_, _-_, _^_, _<_, _≤_};
+ghost use Prim.Native.Nat.{_+_, _*_, _-_, _^_, _<_, _≤_};
 ghost use lib.ListN.{length};
 ghost use Rattle.text.specs.Area.{written};
 ghost use Rattle.plan_text.specs.PlanText.{isDigit, asByte, linesOf, readLines};

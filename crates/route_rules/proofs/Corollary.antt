@@ -4,7 +4,6 @@ use mathlib.Core.Bool.{Bool, true, false, cond}
 use mathlib.Core.List.{List}
 use Prim.Native.Nat.{ℕ, _≤_}
 use lib.Dec.{T, leb, ltb}
-use lib.IntN.{ℤ}
 use lib.ListN.{length, take}
 use borrow.Author.Tests.{le-leb}
 use Rattle.task.specs.Lists.{all}
@@ -16,12 +15,13 @@ use Rattle.task.specs.Verdict.{Verdict, solved, metSet, verdict}
 use Rattle.task.proofs.Tests.{as-true, all-keep}
 use Rattle.task.proofs.Verdict.{solved-iff, solved-only}
 use Rattle.task.proofs.Spelled.{accepted-spelling}
-use Rattle.classical.specs.Claim.{Faithful, sourcePart}
+use Rattle.classical.specs.Claim.{sourcePart}
 use Rattle.plan.specs.Judged
 use Rattle.plan.specs.Judged.{Judged, given, stepsKnown, judged}
-use Rattle.translation.specs.Translated
-use Rattle.translation.specs.Translated.{Translated, written, outcomeBy, outcome, Delivered}
-use Rattle.route_rules.specs.Corollary.{JudgedAt, PaidAsJudged}
+use Rattle.outcome.specs.Outcome.{written}
+use Rattle.outcome.proofs.Outcomes.{not-written}
+use Rattle.translation.specs.Translated.{outcomeBy, outcome, Delivered}
+use Rattle.route_rules.specs.Corollary.{PaidAsJudged}
 
 -- What judge answers on an accepted file
 
@@ -95,14 +95,10 @@ module _ (b area : List ℕ) (n : ℕ) (z : Sizes) (h : check b ≡ accepted z) 
           priced-at (x, solving-x, part) = (x, solving-x, part, d .faithfully .priced x solving-x ∙ ap (metric source) part ∙ same)
 
 -- what translate has written is a translation of an accepted file
-isWritten : Translated → Bool
-isWritten (written n) = true
-isWritten (Translated.refused k i) = false
-
 pub written-paid : (b area : List ℕ) (room n : ℕ) → outcome b room ≡ written n → Delivered b area n → PaidAsJudged b area n
-unfolding outcome isWritten
+unfolding outcome
 written-paid b area room n e d = go (check b) refl e
   where
     go : (a : Answer) → check b ≡ a → outcomeBy b room a ≡ written n → PaidAsJudged b area n
     go (accepted z) h w = paid-as-judged b area n z h d
-    go (refused k i) h w = absurd (subst (λ (t : Translated). T (isWritten t)) (sym w) tt)
+    go (refused k i) h w = absurd (not-written k i n w)

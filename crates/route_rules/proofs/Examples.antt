@@ -8,7 +8,7 @@ use Rattle.task.proofs.Lettered.{belt}
 use Rattle.plan.specs.Judged.{given, judged}
 use Rattle.classical.specs.Translation.{translated}
 use Rattle.translation.specs.Translated.{outcome}
-use Rattle.route_rules.specs.Numbers.{Call, call, bits, ofCheck, ofTranslate, ofJudge}
+use Rattle.route_rules.specs.Numbers.{Call, call, bits, ofCheck, ofOutcome, ofJudge}
 
 pub record Example : Type 0 where
   pub given : Call
@@ -22,8 +22,8 @@ abbrev examples : List Example
 examples =
     example (ofCheck (check belt)) 0 (0 ∷ 2 ∷ 2 ∷ 2 ∷ 18 ∷ 0 ∷ 0 ∷ 0 ∷ [])
     ∷ example (ofCheck (check [])) 1 (0 ∷ 0 ∷ 0 ∷ 0 ∷ 0 ∷ 0 ∷ 0 ∷ 0 ∷ [])
-    ∷ example (ofTranslate (outcome belt 473)) 0 (0 ∷ 473 ∷ 0 ∷ 0 ∷ 0 ∷ 0 ∷ 0 ∷ 0 ∷ [])
-    ∷ example (ofTranslate (outcome belt 472)) 9 (0 ∷ 0 ∷ 0 ∷ 0 ∷ 0 ∷ 0 ∷ 0 ∷ 0 ∷ [])
+    ∷ example (ofOutcome (outcome belt 473)) 0 (0 ∷ 473 ∷ 0 ∷ 0 ∷ 0 ∷ 0 ∷ 0 ∷ 0 ∷ [])
+    ∷ example (ofOutcome (outcome belt 472)) 9 (0 ∷ 0 ∷ 0 ∷ 0 ∷ 0 ∷ 0 ∷ 0 ∷ 0 ∷ [])
     -- preference 1 is met, so bit 1 is set
     ∷ example (ofJudge (judged belt (0 ∷ []))) 0 (0 ∷ 1 ∷ 0 ∷ 3 ∷ 8 ∷ 4 ∷ 2 ∷ 0 ∷ [])
     -- a utility of -2

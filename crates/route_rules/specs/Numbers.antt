@@ -9,10 +9,8 @@ use Rattle.task.specs.Check.{Answer}
 use Rattle.task.specs.Verdict.{Verdict, solved, stopped, goal-missed}
 use Rattle.plan.specs.Judged
 use Rattle.plan.specs.Judged.{Judged, given}
-use Rattle.plan_text.specs.Outcome
-use Rattle.plan_text.specs.Outcome.{Outcome}
-use Rattle.translation.specs.Translated
-use Rattle.translation.specs.Translated.{Translated, written}
+use Rattle.outcome.specs.Outcome
+use Rattle.outcome.specs.Outcome.{Outcome, written}
 
 pub data Call : Type 0 where
   call : ℕ → List ℕ → Call
@@ -31,14 +29,9 @@ ofCheck (Check.accepted z) = answered (z .facts) (z .actions) (z .preferences) (
 ofCheck (Check.refused n i) = refusal n i
 
 -- word 1 is the length written
-abbrev pub ofTranslate : Translated → Call
-ofTranslate (written n) = answered n 0 0 0 0 0 0
-ofTranslate (Translated.refused n i) = refusal n i
-
--- word 1 is the length of the plan or of the text written
-abbrev pub ofListing : Outcome → Call
-ofListing (Outcome.written n) = answered n 0 0 0 0 0 0
-ofListing (Outcome.refused n i) = refusal n i
+abbrev pub ofOutcome : Outcome → Call
+ofOutcome (written n) = answered n 0 0 0 0 0 0
+ofOutcome (Outcome.refused n i) = refusal n i
 
 -- a signed number in 64 bits, by two's complement
 abbrev pub signed : ℤ → ℕ

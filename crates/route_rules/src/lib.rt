@@ -9,22 +9,20 @@ ghost use Rattle.task.specs.Answers.{answer as ofChecked};
 ghost use Rattle.plan.specs.Judged.{judged};
 ghost use Rattle.plan.specs.Answers.{answer as ofJudged, asVerdict};
 ghost use Rattle.plan.specs.declared.Verdict.the-variants.{Solved};
-ghost use Rattle.translation.specs.Answers.{answer as ofTranslated};
 ghost use Rattle.classical.specs.Translation.{compiled};
-ghost use Rattle.translation.specs.Translated.{written, outcome, areaAfter, Delivered};
+ghost use Rattle.outcome.specs.Outcome.{written, areaAfter};
+ghost use Rattle.outcome.specs.Answers.{answer as asOutcome};
+ghost use Rattle.translation.specs.Translated.{outcome, Delivered};
 ghost use Rattle.route_rules.specs.Corollary.{PaidAsJudged};
 ghost use Rattle.plan_text.specs.PlanText.{textOf};
-ghost use Rattle.plan_text.specs.Outcome.{readOutcome, stepsIn, writeOutcome, textJudged};
-ghost use Rattle.plan_text.specs.Outcome.{areaAfter as listedAfter};
-ghost use Rattle.plan_text.specs.Answers.{answer as ofListed};
-ghost use Rattle.route_rules.specs.Numbers.{call, refusal, answered, ofCheck, ofTranslate, ofListing, ofVerdict, ofJudge, signed};
+ghost use Rattle.plan_text.specs.Outcomes.{readOutcome, stepsIn, writeOutcome, textJudged};
+ghost use Rattle.route_rules.specs.Numbers.{call, refusal, answered, ofCheck, ofOutcome, ofVerdict, ofJudge, signed};
+use outcome::Outcome;
 use plan::Judged;
 use plan::Verdict;
 use plan::Worth;
-use plan_text::Listed;
 use task::Checked;
 use task::Refusal;
-use translation::Translated;
 
 // Word 1 of a verdict.
 const SOLVED: u64 = 1;
@@ -66,21 +64,12 @@ fn put_checked(c: Checked, answer: &mut [u64; 8]) -> u32
     }
 }
 
-fn put_translated(t: Translated, answer: &mut [u64; 8]) -> u32
-    ensures { λ r. ⌜ call r (now (answer .exit)) ≡ ofTranslate (ofTranslated t) ⌝ }
+fn put_outcome(o: Outcome, answer: &mut [u64; 8]) -> u32
+    ensures { λ r. ⌜ call r (now (answer .exit)) ≡ ofOutcome (asOutcome o) ⌝ }
 {
-    match t {
-        Translated::Written(n) => put_values(answer, n as u64, 0, 0, 0, 0, 0),
-        Translated::Refused(f) => put_refusal(f, answer),
-    }
-}
-
-fn put_listed(l: Listed, answer: &mut [u64; 8]) -> u32
-    ensures { λ r. ⌜ call r (now (answer .exit)) ≡ ofListing (ofListed l) ⌝ }
-{
-    match l {
-        Listed::Written(n) => put_values(answer, n as u64, 0, 0, 0, 0, 0),
-        Listed::Refused(f) => put_refusal(f, answer),
+    match o {
+        Outcome::Written(n) => put_values(answer, n as u64, 0, 0, 0, 0, 0),
+        Outcome::Refused(f) => put_refusal(f, answer),
     }
 }
 
@@ -135,12 +124,12 @@ pub extern "C" fn route_rules_check(file: &[u8], answer: &mut [u64; 8]) -> u32
 // Translates the task in a file into the area `out`. A refusal leaves that area as it was.
 #[no_mangle]
 pub extern "C" fn route_rules_translate(file: &[u8], out: &mut [u8], answer: &mut [u64; 8]) -> u32
-    ensures { λ r. ⌜ call r (now (answer .exit)) ≡ ofTranslate (outcome (now (file .entry)) (length (now (out .entry)))) ⌝ }
+    ensures { λ r. ⌜ call r (now (answer .exit)) ≡ ofOutcome (outcome (now (file .entry)) (length (now (out .entry)))) ⌝ }
     ensures { λ r. ⌜ now (out .exit) ≡ areaAfter (compiled (now (file .entry))) (now (out .entry)) (outcome (now (file .entry)) (length (now (out .entry)))) ⌝ }
     ensures { λ r. ⌜ ((n : ℕ) → outcome (now (file .entry)) (length (now (out .entry))) ≡ written n → Delivered (now (file .entry)) (now (out .exit)) n) ⌝ }
     ensures { λ r. ⌜ ((n : ℕ) → outcome (now (file .entry)) (length (now (out .entry))) ≡ written n → PaidAsJudged (now (file .entry)) (now (out .exit)) n) ⌝ }
 {
-    put_translated(translation::translate(file, out), answer)
+    put_outcome(translation::translate(file, out), answer)
 }
 
 // Judges a plan on the task in a file.
@@ -154,19 +143,19 @@ pub extern "C" fn route_rules_judge(file: &[u8], plan: &[u8], answer: &mut [u64;
 // Reads a plan's text into the area `out`, one byte a step. A refusal leaves that area as it was.
 #[no_mangle]
 pub extern "C" fn route_rules_read_plan(text: &[u8], out: &mut [u8], answer: &mut [u64; 8]) -> u32
-    ensures { λ r. ⌜ call r (now (answer .exit)) ≡ ofListing (readOutcome (now (text .entry)) (length (now (out .entry)))) ⌝ }
-    ensures { λ r. ⌜ now (out .exit) ≡ listedAfter (stepsIn (now (text .entry))) (now (out .entry)) (readOutcome (now (text .entry)) (length (now (out .entry)))) ⌝ }
+    ensures { λ r. ⌜ call r (now (answer .exit)) ≡ ofOutcome (readOutcome (now (text .entry)) (length (now (out .entry)))) ⌝ }
+    ensures { λ r. ⌜ now (out .exit) ≡ areaAfter (stepsIn (now (text .entry))) (now (out .entry)) (readOutcome (now (text .entry)) (length (now (out .entry)))) ⌝ }
 {
-    put_listed(plan_text::read(text, out), answer)
+    put_outcome(plan_text::read(text, out), answer)
 }
 
 // Writes a plan as text into the area `out`. A refusal leaves that area as it was.
 #[no_mangle]
 pub extern "C" fn route_rules_write_plan(plan: &[u8], out: &mut [u8], answer: &mut [u64; 8]) -> u32
-    ensures { λ r. ⌜ call r (now (answer .exit)) ≡ ofListing (writeOutcome (now (plan .entry)) (length (now (out .entry)))) ⌝ }
-    ensures { λ r. ⌜ now (out .exit) ≡ listedAfter (textOf (now (plan .entry))) (now (out .entry)) (writeOutcome (now (plan .entry)) (length (now (out .entry)))) ⌝ }
+    ensures { λ r. ⌜ call r (now (answer .exit)) ≡ ofOutcome (writeOutcome (now (plan .entry)) (length (now (out .entry)))) ⌝ }
+    ensures { λ r. ⌜ now (out .exit) ≡ areaAfter (textOf (now (plan .entry))) (now (out .entry)) (writeOutcome (now (plan .entry)) (length (now (out .entry)))) ⌝ }
 {
-    put_listed(plan_text::write(plan, out), answer)
+    put_outcome(plan_text::write(plan, out), answer)
 }
 
 // Judges the plan in a text on the task in a file.

@@ -1,7 +1,7 @@
 // Program translate: translates the task in the file `task`, and writes the translation to the file `compiled`.
 use files::Content;
 use libc::STDOUT_FILENO;
-use translation::Translated;
+use outcome::Outcome;
 
 // Writes `compiled`, which then holds the translation alone.
 fn write_compiled(translation: &[u8]) {
@@ -26,8 +26,8 @@ fn main() {
     let mut out = io::large_buffer();
     let answer = translation::translate(text::front(&task, n), &mut out);
     match answer {
-        Translated::Written(m) => write_compiled(text::front(&out, m)),
-        Translated::Refused(f) => {
+        Outcome::Written(m) => write_compiled(text::front(&out, m)),
+        Outcome::Refused(f) => {
             let mut line = [0u8; 64];
             let k = text::put_refused(&mut line, 0, f.number as u64, f.place as u64);
             io::write_all(STDOUT_FILENO, text::front(&line, k));

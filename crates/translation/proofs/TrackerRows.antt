@@ -2,7 +2,7 @@
 use mathlib.Core.Path.{_≡_, refl, sym, ap, _∙_}
 use mathlib.Core.Bool.{Bool, true, false, not, cond, _&&_, _||_, true≢false}
 use mathlib.Core.List.{List, [], _∷_, _++_, map, append-assoc, append-nil}
-use Prim.Native.Nat.{ℕ, _+_, _*_, _≤_, _<_}
+use Prim.Native.Nat.{ℕ, _+_, _≤_, _<_}
 use native.Mathlib.Omega.{arith}
 use lib.Dec.{eqb}
 use lib.ListN.{length, drop, getD}
@@ -14,7 +14,7 @@ use Rattle.task.specs.Task.{Row, row, kindMark, two-sided, literalRow, clauseRo
 use Rattle.task.specs.File.{paired}
 use Rattle.task.specs.Rows.{valueAt}
 use Rattle.classical.specs.Translation.{holdsFact, lacksFact, deny, alone, effect, factS, factB, eachFalse, trackersOf}
-use Rattle.translation.specs.Writer.{Wrote, part}
+use Rattle.translation.specs.Writer.{part}
 use Rattle.translation.specs.Places.{Located}
 use Rattle.translation.specs.declared.places.Sides.{Sides}
 use Rattle.task.proofs.Reading.{mark-at}

@@ -26,11 +26,12 @@ use Rattle.task.proofs.Answered.{parts-spell}
 use Rattle.classical.specs.Translation.{translated, compiled, compiledRows, translatedSizes}
 use Rattle.translation.specs.Writer.{rowBehind, putRows, Wrote}
 use Rattle.translation.specs.Whole.{header, Fitted, Fits}
-use Rattle.translation.specs.Translated.{written, refused, fitted, smallEnough, outcomeBy, outcome, areaAfter, Delivered}
-use Rattle.translation.specs.Translated
-use Rattle.translation.specs.Answers.{answer}
+use Rattle.outcome.specs.Outcome.{written, refused, areaAfter}
+use Rattle.outcome.specs.Answers.{answer}
+use Rattle.outcome.specs.declared.Outcome.{Outcome}
+use Rattle.outcome.proofs.Outcomes.{not-written, same-written}
+use Rattle.translation.specs.Translated.{rowsFitted, smallEnough, outcomeBy, outcome, Delivered}
 use Rattle.classical.specs.Claim.{Faithful}
-use Rattle.translation.specs.declared.Translated.{Translated}
 use Rattle.translation.proofs.Putting.{whole-file}
 use Rattle.classical.proofs.Spellable.{translated-sizes}
 use Rattle.classical.proofs.Written.{Written, written as written-file}
@@ -50,16 +51,16 @@ headed b h e l =
 -- The area
 
 module _ (m n room : ℕ) (e : n ≡ rowBehind 0 m) where
-  pub too-many : 12000 < n → refused 8 0 ≡ fitted m room
+  pub too-many : 12000 < n → refused 8 0 ≡ rowsFitted m room
   too-many h = let l : 12000 < m = omega arith in rw (lt-leb m 12000 l)
 
-  pub no-room : n ≤ 12000 → room < 8 + 5 * n → refused 9 0 ≡ fitted m room
+  pub no-room : n ≤ 12000 → room < 8 + 5 * n → refused 9 0 ≡ rowsFitted m room
   no-room f h =
       let l : m ≤ 12000 = omega arith in
       let g : room < 8 + 5 * m = omega arith in
       rw (le-leb m 12000 l, lt-leb (8 + 5 * m) room g)
 
-  pub room-enough : n ≤ 12000 → 8 + 5 * n ≤ room → written (8 + 5 * n) ≡ fitted m room
+  pub room-enough : n ≤ 12000 → 8 + 5 * n ≤ room → written (8 + 5 * n) ≡ rowsFitted m room
   room-enough f h =
       let l : m ≤ 12000 = omega arith in
       let g : 8 + 5 * m ≤ room = omega arith in
@@ -67,7 +68,7 @@ module _ (m n room : ℕ) (e : n ≡ rowBehind 0 m) where
       rw (le-leb m 12000 l, le-leb (8 + 5 * m) room g) (ap (λ (k : ℕ). written (8 + 5 * k)) same)
 
 -- refused: the area is as it was
-pub stays : (t : Task) (b : List ℕ) (r : Translated) (k : ℕ) → answer r ≡ refused k 0 → refused k 0 ≡ fitted (length (taskRows (translated t))) (length b) → Fitted t b r b
+pub stays : (t : Task) (b : List ℕ) (r : Outcome) (k : ℕ) → answer r ≡ refused k 0 → refused k 0 ≡ rowsFitted (length (taskRows (translated t))) (length b) → Fitted t b r b
 stays t b r k e f = record { answering = e ∙ f; area = sym (ap (areaAfter (fileOf (translated t)) b) e) }
 
 -- written: the file, and then what stood behind it
@@ -120,20 +121,7 @@ module _ (t : Task) (F A P : ℕ) (facts : F ≡ t .facts) (acts : A ≡ length 
       (ap (take 8) mid-is ∙ take-at top (drop 8 b) 8 refl)
       ∙ ap (λ (l : List ℕ). fileOf (translated t) ++ l) behind
 
--- What check answered
 -- Demand 3
-
--- a number for each outcome: the length, or 0
-abbrev lengthOf : Translated.Translated → ℕ
-lengthOf (Translated.written n) = n
-lengthOf (Translated.refused n i) = 0
-
-abbrev isWritten : Translated.Translated → Bool
-isWritten (Translated.written n) = true
-isWritten (Translated.refused n i) = false
-
-not-written : (k i n : ℕ) → refused k i ≡ written n → ⊥
-not-written k i n e = subst⁻¹ T (ap isWritten e) tt
 
 module _ (b area : List ℕ) (n : ℕ) where
   first-bytes : n ≡ 8 + 5 * compiledRows b → take n (compiled b ++ drop n area) ≡ compiled b
@@ -158,7 +146,7 @@ module _ (b area : List ℕ) (n : ℕ) where
       go true p true q true r true h =
           let d : Written b z = written-file b z e (leb-true (z .facts + 3 * z .preferences + 2) 128 p) (leb-true (z .actions + 2 * z .preferences + 1) 128 q)
           (leb-true (compiledRows b) 12000 r) in
-          let front : take n (compiled b ++ drop n area) ≡ compiled b = first-bytes (sym (ap lengthOf h)) in
+          let front : take n (compiled b ++ drop n area) ≡ compiled b = first-bytes (sym (same-written (8 + 5 * compiledRows b) n h)) in
           record {
             accepting = ap check front ∙ d .accepting ∙ ap (λ (y : File.Sizes). Check.accepted (translatedSizes y (compiledRows b))) (accepted-spelling b z e .same);
             faithfully = subst⁻¹ (λ (l : List ℕ). Faithful (taskOf b) (taskOf l)) front (d .faithfully);
@@ -171,13 +159,13 @@ module _ (b area : List ℕ) (n : ℕ) where
 -- The whole
 
 -- what translate promises of its answer and of the area
-abbrev Promised : List ℕ → List ℕ → Translated → List ℕ → Type 0
+abbrev Promised : List ℕ → List ℕ → Outcome → List ℕ → Type 0
 Promised b area r out =
     (answer r ≡ outcome b (length area))
     × ((out ≡ areaAfter (compiled b) area (outcome b (length area)))
     × ((n : ℕ) → answer r ≡ written n → Delivered b out n))
 
-promised : (b area : List ℕ) (r : Translated) (out : List ℕ) → answer r ≡ outcome b (length area) → out ≡ areaAfter (compiled b) area (answer r) → Promised b area r out
+promised : (b area : List ℕ) (r : Outcome) (out : List ℕ) → answer r ≡ outcome b (length area) → out ≡ areaAfter (compiled b) area (answer r) → Promised b area r out
 promised b area r out e f = (
   e,
   (
@@ -188,10 +176,10 @@ promised b area r out e f = (
 
 module _ (b area : List ℕ) (x : Checked) (e : checked x ≡ check b) where
   -- a refusal leaves the area as it was
-  refuses : (r : Translated) (k i : ℕ) → answer r ≡ refused k i → refused k i ≡ outcome b (length area) → Promised b area r area
+  refuses : (r : Outcome) (k i : ℕ) → answer r ≡ refused k i → refused k i ≡ outcome b (length area) → Promised b area r area
   refuses r k i p q = promised b area r area (p ∙ q) (sym (ap (areaAfter (compiled b) area) p))
 
-  pub turned-down : (f : Refusal) → x ≡ Refused f → (r : Translated) → ((n i : ℕ) → checked x ≡ Check.refused n i → answer r ≡ refused n i)
+  pub turned-down : (f : Refusal) → x ≡ Refused f → (r : Outcome) → ((n i : ℕ) → checked x ≡ Check.refused n i → answer r ≡ refused n i)
       → Promised b area r area
   unfolding outcome
   turned-down f q r says =
@@ -214,7 +202,7 @@ module _ (b area : List ℕ) (x : Checked) (e : checked x ≡ check b) where
     pub within : (z .rows ≤ 12000) × (1 ≤ z .facts) × (z .facts ≤ 128) × (z .actions ≤ 128) × (z .preferences ≤ 16)
     within = limits (asSizes z) (spelling .allowed)
 
-    pub too-large : smallEnough (asSizes z) ≡ false → (r : Translated) → answer r ≡ refused 7 0 → Promised b area r area
+    pub too-large : smallEnough (asSizes z) ≡ false → (r : Outcome) → answer r ≡ refused 7 0 → Promised b area r area
     too-large h r p = refuses r 7 0 p (rw h at on-task)
 
     pub small : smallEnough (asSizes z) ≡ true → (z .facts + 3 * z .preferences + 2 ≤ 128) × (z .actions + 2 * z .preferences + 1 ≤ 128)
@@ -224,7 +212,7 @@ module _ (b area : List ℕ) (x : Checked) (e : checked x ≡ check b) where
           leb→le (z .actions + 2 * z .preferences + 1) 128 (search tests),
         )
 
-    pub put : smallEnough (asSizes z) ≡ true → (r : Translated) (out : List ℕ)
+    pub put : smallEnough (asSizes z) ≡ true → (r : Outcome) (out : List ℕ)
         → Fits (take (8 + z .rows - 8) (drop 8 b)) (take (length b - (8 + z .rows)) (drop (8 + z .rows) b)) (z .facts) (z .actions) (z .preferences) area r out
         → Promised b area r out
     put h r out fits =

@@ -5,10 +5,10 @@ ghost use lib.ListN.{length};
 ghost use Rattle.translation.specs.Parts.{openingRows, AllActsFor, WroteTask};
 ghost use Rattle.translation.specs.Writer.{Wrote, part};
 ghost use Rattle.translation.specs.Whole.{Counts, Fits};
-use super::Translated;
 use super::parts;
 use super::places;
 use super::writer;
+use outcome::Outcome;
 use task::marks;
 
 // The opening and the goal: GOAL stands at row `goal`, and the goal's clauses before row `from`.
@@ -117,21 +117,21 @@ pub fn put_file(
     facts: u32,
     actions: u32,
     preferences: u32,
-) -> Translated
+) -> Outcome
     requires { ⌜ (4 * length (now marks) ≤ length (now values)) × (length (now marks) ≤ 12000) × (1 ≤ facts) × (facts + 3 * preferences + 2 ≤ 128) × (preferences ≤ 16) × (actions + 2 * preferences + 1 ≤ 128) ⌝ }
     ensures { λ r. ⌜ Fits (now (marks .entry)) (now (values .entry)) facts actions preferences (now (out .entry)) r (now (out .exit)) ⌝ }
 {
     let n = count_rows(marks, values, facts, preferences);
     if 12000 < n {
-        return super::refuse(8, 0);
+        return outcome::refuse(8, 0);
     }
     let length = 8 + 5 * n;
     if out.len() < length {
-        return super::refuse(9, 0);
+        return outcome::refuse(9, 0);
     }
     let all_facts = facts + 3 * preferences + 2;
     let all_actions = actions + 2 * preferences + 1;
     writer::put_sizes(&mut *out, all_facts, all_actions, n as u32);
     let _ = put_task(&mut *out, n, marks, values, facts, preferences);
-    Translated::Written(length)
+    Outcome::Written(length)
 }

@@ -1,7 +1,7 @@
 use borrow.Author.Needs.{needs}
 use mathlib.Core.Path.{sym, ap, _∙_}
 use denote.Ref.{now}
-use Rattle.plan_text.specs.Answers.{answer}
+use Rattle.outcome.specs.Answers.{answer}
 use Rattle.plan.specs.Judged.{judged}
 use Rattle.plan_text.proofs.Answering.{at-front, text-refused, text-judged}
 use Rattle.plan_text.proofs.judge_text.Statement.{statement}

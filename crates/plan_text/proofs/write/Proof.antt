@@ -3,8 +3,9 @@ use native.Mathlib.Omega.{arith}
 use denote.Ref.{now}
 use lib.ListN.{length}
 use Rattle.plan_text.specs.PlanText.{textOf}
-use Rattle.plan_text.specs.Outcome.{written, writeOutcome}
-use Rattle.plan_text.specs.Answers.{answer}
+use Rattle.outcome.specs.Outcome.{written}
+use Rattle.plan_text.specs.Outcomes.{writeOutcome}
+use Rattle.outcome.specs.Answers.{answer}
 use Rattle.plan_text.proofs.Answering.{turned-down, put-whole, too-many, too-small, roomy}
 use borrow.Author.Needs.{needs}
 use Rattle.plan_text.proofs.write.Statement.{statement}

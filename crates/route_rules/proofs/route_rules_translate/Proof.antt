@@ -1,7 +1,7 @@
 use mathlib.Core.Path.{ap, _∙_}
 use denote.Ref.{now}
 use lib.ListN.{length}
-use Rattle.route_rules.specs.Numbers.{ofTranslate}
+use Rattle.route_rules.specs.Numbers.{ofOutcome}
 use Rattle.route_rules.proofs.Corollary.{written-paid}
 use borrow.Author.Needs.{needs}
 use Rattle.route_rules.proofs.route_rules_translate.Statement.{statement}
@@ -10,8 +10,8 @@ use Rattle.route_rules.proofs.route_rules_translate.Tie as tie
 translate-requires : tie.Need-translate-requires
 translate-requires c κs = search needs
 
-put-translated-requires : tie.Need-put-translated-requires
-put-translated-requires c κs = search needs
+put-outcome-requires : tie.Need-put-outcome-requires
+put-outcome-requires c κs = search needs
 
 same-length : tie.Need-same-length
 same-length c = search needs
@@ -20,7 +20,7 @@ returns : tie.Need-returns
 returns c =
     let t = c .before .before .before .before .translate in
     let a = c .before .before .before .before .before .before .before .before .args in (
-      c .put-translated .ensures ∙ ap ofTranslate (t .ensures .0),
+      c .put-outcome .ensures ∙ ap ofOutcome (t .ensures .0),
       (
         t .ensures .1 .0,
         (
@@ -32,4 +32,4 @@ returns c =
 
 pub route-rules-translate-spec : {M : Type 1} → statement M
 route-rules-translate-spec =
-    tie.close (tie.spec translate-requires put-translated-requires same-length returns)
+    tie.close (tie.spec translate-requires put-outcome-requires same-length returns)

@@ -1,7 +1,7 @@
 use mathlib.Core.Path.{sym, ap, _∙_}
 use Rattle.task.specs.Answers.{answer as checked, asSizes}
 use Rattle.task.proofs.Answered.{same-refusal, not-refused}
-use Rattle.translation.specs.Translated.{refused}
+use Rattle.outcome.specs.Outcome.{refused}
 use borrow.Author.Needs.{needs}
 use Rattle.translation.proofs.refusal_of.Statement.{statement}
 use Rattle.translation.proofs.refusal_of.Tie as tie

@@ -1,5 +1,4 @@
 use denote.Ref.{now}
-use mathlib.Core.Path.{sym}
 use Rattle.translation.proofs.Putting.{as-rows, wrote-none}
 use Rattle.translation.proofs.Noting.{no-preference}
 use Rattle.translation.proofs.TrackerRows.{not-yet, as-located}

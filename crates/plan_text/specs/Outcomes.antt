@@ -1,33 +1,24 @@
--- What reading, writing and judging a plan's text answer, and what a lent area then holds: document 02, request 1.
+-- What reading, writing and judging a plan's text answer: document 02, request 1.
 use mathlib.Core.Bool.{cond}
-use mathlib.Core.List.{List, [], _++_}
+use mathlib.Core.List.{List, []}
 use Prim.Native.Nat.{ℕ}
 use lib.Dec.{leb}
-use lib.ListN.{length, drop}
+use lib.ListN.{length}
 use Rattle.task.specs.Check
 use Rattle.task.specs.Check.{Answer, check}
+use Rattle.outcome.specs.Outcome.{Outcome, refused, fitted}
 use Rattle.plan.specs.Judged
 use Rattle.plan.specs.Judged.{Judged, judged}
 use Rattle.plan_text.specs.PlanText.{textOf, Read, plan, faulty, readPlan}
 
--- the length written, or a refusal with a number and a place
-pub data Outcome : Type 0 where
-  written : ℕ → Outcome
-  refused : ℕ → ℕ → Outcome
-
--- a plan of so many steps, written in so many bytes, into an area of so many
-abbrev pub fitted : ℕ → ℕ → ℕ → Outcome
-fitted steps bytes room = cond (leb steps 2048) (cond (leb bytes room) (written bytes) (refused 9 0)) (refused 10 0)
-
--- an area after bytes were written to its start, or after a refusal
-abbrev pub areaAfter : List ℕ → List ℕ → Outcome → List ℕ
-areaAfter bytes area (written n) = bytes ++ drop n area
-areaAfter bytes area (refused n i) = area
+-- a plan of so many steps, written in so many bytes, for an area of so many
+abbrev pub planFitted : ℕ → ℕ → ℕ → Outcome
+planFitted steps bytes room = cond (leb steps 2048) (fitted bytes room) (refused 10 0)
 
 -- Reading a text
 
 abbrev pub readBy : ℕ → Read → Outcome
-readBy room (plan p) = fitted (length p) (length p) room
+readBy room (plan p) = planFitted (length p) (length p) room
 readBy room (faulty i) = refused 12 i
 
 unfoldable pub readOutcome : List ℕ → ℕ → Outcome
@@ -44,7 +35,7 @@ stepsIn t = steps (readPlan t)
 -- Writing a plan
 
 unfoldable pub writeOutcome : List ℕ → ℕ → Outcome
-writeOutcome p room = fitted (length p) (length (textOf p)) room
+writeOutcome p room = planFitted (length p) (length (textOf p)) room
 
 -- Judging a text: 12 after check's refusals, and before judge's
 
