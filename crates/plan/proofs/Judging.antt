@@ -1,5 +1,5 @@
 -- A plan judged on the task in a file, from what check answers.
-use mathlib.Core.Path.{_≡_, refl, sym, ap, _∙_, subst⁻¹}
+use mathlib.Core.Path.{_≡_, refl, sym, ap, ap₂, _∙_, subst⁻¹}
 use mathlib.Core.Bool.{Bool, true, false, cond, _&&_}
 use mathlib.Core.List.{List, [], _∷_}
 use Prim.Native.Nat.{ℕ, suc, _+_, _-_, _≤_, _<_}
@@ -23,7 +23,7 @@ use Rattle.task.proofs.Tests.{as-true}
 use Rattle.task.proofs.Spelled.{Spelling, accepted-spelling}
 use Rattle.task.proofs.Checking.{within}
 use Rattle.task.proofs.Answered.{parts-spell}
-use Rattle.plan.specs.Judged.{Judged, given, refused, stepsKnown, judgedBy, judged}
+use Rattle.plan.specs.Judged.{given, refused, stepsKnown, judgedBy, judged}
 use Rattle.plan.specs.Reads.{Reads}
 
 -- all steps are known exactly where as many as there are stand before the first that is not
@@ -64,9 +64,12 @@ reads b z h =
 
 module _ (b p : List ℕ) (x : Checked) (e : checked x ≡ check b) where
   -- a file that is not accepted: its refusal
-  pub turned-down : (f : Refusal) → x ≡ Refused f → (r : Judged) → ((n i : ℕ) → checked x ≡ Check.refused n i → r ≡ refused n i) → r ≡ judged b p
+  pub turned-down : (f : Refusal) → x ≡ Refused f → (r : Refusal) → ((n i : ℕ) → checked x ≡ Check.refused n i → (r .number ≡ n) × (r .place ≡ i))
+      → refused (r .number) (r .place) ≡ judged b p
   unfolding judged
-  turned-down f q r says = says (f .number) (f .place) (ap checked q) ∙ ap (judgedBy b p) (sym (ap checked q) ∙ e)
+  turned-down f q r says =
+      let same = says (f .number) (f .place) (ap checked q) in
+      ap₂ refused (same .0) (same .1) ∙ ap (judgedBy b p) (sym (ap checked q) ∙ e)
 
   module _ (z : Sizes) (q : x ≡ Accepted z) where
     accepted : check b ≡ Check.accepted (asSizes z)

@@ -5,9 +5,6 @@ mod places;
 mod steps;
 
 ghost use mathlib.Core.Path.{_≡_};
-ghost use Prim.Native.Nat.{ℕ};
-ghost use Rattle.task.specs.Check;
-ghost use Rattle.task.specs.Answers.{answer as checked};
 ghost use Rattle.plan.specs.Answers.{answer};
 ghost use Rattle.plan.specs.Judged.{refused, stepsKnown, judged};
 use task::Checked;
@@ -40,16 +37,6 @@ fn refuse(number: u8, place: u16) -> Judged
     Judged::Refused(Refusal { number, place })
 }
 
-// The refusal that check gave; number 0 where it gave none.
-fn refusal_of(c: Checked) -> Judged
-    ensures { λ r. ⌜ ((n i : ℕ) → checked c ≡ Check.refused n i → answer r ≡ refused n i) ⌝ }
-{
-    match c {
-        Checked::Refused(r) => Judged::Refused(r),
-        Checked::Accepted(_) => refuse(0, 0),
-    }
-}
-
 // How many steps stand before the first that is not below the number of actions.
 fn steps_known(actions: usize, plan: &[u8]) -> usize
     ensures { λ r. ⌜ r ≡ stepsKnown actions (now (plan .entry)) ⌝ }
@@ -70,7 +57,7 @@ pub fn judge(file: &[u8], plan: &[u8]) -> Judged
 {
     let c = task::check(file);
     let Checked::Accepted(z) = c else {
-        return refusal_of(c);
+        return Judged::Refused(task::refusal_of(c));
     };
     let known = steps_known(z.actions, plan);
     if 2048 < plan.len() {

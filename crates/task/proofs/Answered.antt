@@ -11,15 +11,18 @@ use Rattle.task.proofs.Checking.{within, partsOf, parts-rows}
 use Rattle.task.proofs.Walk.{refused≢accepted}
 use Rattle.task.proofs.Spelled.{Spelling, accepted-spelling}
 
--- Refused: the caller's own refusal has the same number and place
+-- Refused: which number, and which place
 
-module _ {R : Type 0} (refusal : ℕ → ℕ → R) where
-  abbrev passedOn : Answer → R
-  passedOn (accepted z) = refusal 0 0
-  passedOn (refused n i) = refusal n i
+abbrev numberOf : Answer → ℕ
+numberOf (accepted z) = 0
+numberOf (refused n i) = n
 
-  pub same-refusal : (r : Refusal) (n i : ℕ) → refused (r .number) (r .place) ≡ refused n i → refusal (r .number) (r .place) ≡ refusal n i
-  same-refusal r n i e = ap passedOn e
+abbrev placeOf : Answer → ℕ
+placeOf (accepted z) = 0
+placeOf (refused n i) = i
+
+pub same-refusal : (r : Refusal) (n i : ℕ) → refused (r .number) (r .place) ≡ refused n i → (r .number ≡ n) × (r .place ≡ i)
+same-refusal r n i e = (ap numberOf e, ap placeOf e)
 
 pub not-refused : (z : Sizes) (n i : ℕ) → accepted z ≡ refused n i → ⊥
 not-refused z n i e = refused≢accepted n i z (sym e)

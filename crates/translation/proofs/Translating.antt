@@ -179,11 +179,12 @@ module _ (b area : List ℕ) (x : Checked) (e : checked x ≡ check b) where
   refuses : (r : Outcome) (k i : ℕ) → answer r ≡ refused k i → refused k i ≡ outcome b (length area) → Promised b area r area
   refuses r k i p q = promised b area r area (p ∙ q) (sym (ap (areaAfter (compiled b) area) p))
 
-  pub turned-down : (f : Refusal) → x ≡ Refused f → (r : Outcome) → ((n i : ℕ) → checked x ≡ Check.refused n i → answer r ≡ refused n i)
-      → Promised b area r area
+  pub turned-down : (f : Refusal) → x ≡ Refused f → (r : Refusal) → ((n i : ℕ) → checked x ≡ Check.refused n i → (r .number ≡ n) × (r .place ≡ i))
+      → Promised b area (Outcome.Refused r) area
   unfolding outcome
   turned-down f q r says =
-      refuses r (f .number) (f .place) (says (f .number) (f .place) (ap checked q)) (ap (outcomeBy b (length area)) (sym (ap checked q) ∙ e))
+      let same = says (f .number) (f .place) (ap checked q) in
+      refuses (Outcome.Refused r) (f .number) (f .place) (ap₂ refused (same .0) (same .1)) (ap (outcomeBy b (length area)) (sym (ap checked q) ∙ e))
 
   module _ (z : Sizes) (q : x ≡ Accepted z) where
     accepted : check b ≡ Check.accepted (asSizes z)

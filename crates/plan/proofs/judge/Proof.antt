@@ -6,7 +6,7 @@ use denote.Ref.{now}
 use lib.ListN.{length, length-take, length-drop}
 use Rattle.task.specs.Answers.{answer as checked, asSizes}
 use Rattle.task.proofs.Answered.{lengths}
-use Rattle.plan.specs.Answers.{answer, asVerdict}
+use Rattle.plan.specs.Answers.{asVerdict}
 use Rattle.plan.specs.Judged.{refused}
 use Rattle.plan.proofs.Judging.{turned-down, too-long, unknown, run-on}
 use Rattle.plan.proofs.judge.Statement.{statement}
@@ -36,7 +36,7 @@ returns c =
     let k = c .before .before .before in
     let a = k .before .before .before .args in
     turned-down (now (a .file)) (now (a .plan)) (k .check .result) (k .check .ensures) (c .before .enum-told .given .0 .0) (c .before .enum-told .given .1)
-    (answer (c .refusal-of .result)) (c .refusal-of .ensures)
+    (c .refusal-of .result) (c .refusal-of .ensures)
 
 steps-known-requires : tie.Need-steps-known-requires
 steps-known-requires c κs = search needs
