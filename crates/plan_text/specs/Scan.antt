@@ -20,15 +20,19 @@ follow (Digits n) b = cond (eqb b 41) (Closed n) (cond (isDigit b) (Digits (asBy
 follow (Closed n) b = Other
 follow Other b = Other
 
+-- at the start of line i, behind k steps
+abbrev pub atLine : ℕ → ℕ → Scan
+atLine i k = record { mode = Opening; line = i; steps = k }
+
 -- behind a newline: the next line, or the same where it has another form
 abbrev pub nextLine : Mode → ℕ → ℕ → Scan
 nextLine Opening i k = record { mode = Other; line = i; steps = k }
-nextLine Comment i k = record { mode = Opening; line = suc i; steps = k }
+nextLine Comment i k = atLine (suc i) k
 nextLine Bracket i k = record { mode = Other; line = i; steps = k }
 nextLine Letter i k = record { mode = Other; line = i; steps = k }
 nextLine Zero i k = record { mode = Other; line = i; steps = k }
 nextLine (Digits n) i k = record { mode = Other; line = i; steps = k }
-nextLine (Closed n) i k = record { mode = Opening; line = suc i; steps = suc k }
+nextLine (Closed n) i k = atLine (suc i) (suc k)
 nextLine Other i k = record { mode = Other; line = i; steps = k }
 
 abbrev pub advance : Scan → ℕ → Scan
@@ -77,7 +81,7 @@ abbrev pub stepAt : Mode → ℕ → List ℕ
 stepAt m b = cond (eqb b NEWLINE) (stepOf m) []
 
 abbrev pub start : Scan
-start = record { mode = Opening; line = 0; steps = 0 }
+start = atLine 0 0
 
 -- the steps that come from here on
 unfoldable pub stepsFrom : Scan → List ℕ → List ℕ

@@ -5,7 +5,7 @@ ghost use lib.ListN.{length};
 ghost use Rattle.text.specs.Area.{written};
 ghost use Rattle.plan_text.specs.PlanText.{isDigit, asByte, linesOf, readLines};
 ghost use Rattle.plan_text.specs.declared.scan.Mode.the-variants.{Opening, Letter, Digits};
-ghost use Rattle.plan_text.specs.Scan.{follow, nextLine, advance, isOpening, count as countOf, counted, begun, stepOf, stepAt, start, stepsFrom};
+ghost use Rattle.plan_text.specs.Scan.{follow, nextLine, advance, isOpening, count as countOf, counted, begun, stepOf, stepAt, atLine, start, stepsFrom};
 
 // What stands of a line: nothing, `;`, `(`, `(a`, `(a0`, `(aN` and `(aN)` with its number, or another form.
 pub enum Mode {
@@ -97,22 +97,25 @@ fn after_byte(m: Mode, b: u8) -> Mode
     }
 }
 
+// At the start of a line, behind so many steps.
+fn at_line(line: usize, steps: usize) -> Scan
+    ensures { λ r. ⌜ r ≡ atLine line steps ⌝ }
+{
+    Scan {
+        mode: Mode::Opening,
+        line,
+        steps,
+    }
+}
+
 // Behind a newline.
 fn after_newline(m: Mode, line: usize, steps: usize) -> Scan
     requires { ⌜ (line + 1 < 2 ^ 64) × (steps + 1 < 2 ^ 64) ⌝ }
     ensures { λ r. ⌜ r ≡ nextLine m line steps ⌝ }
 {
     match m {
-        Mode::Comment => Scan {
-            mode: Mode::Opening,
-            line: line + 1,
-            steps,
-        },
-        Mode::Closed(_) => Scan {
-            mode: Mode::Opening,
-            line: line + 1,
-            steps: steps + 1,
-        },
+        Mode::Comment => at_line(line + 1, steps),
+        Mode::Closed(_) => at_line(line + 1, steps + 1),
         _ => Scan {
             mode: Mode::Other,
             line,
@@ -137,17 +140,6 @@ fn advanced(s: Scan, b: u8) -> Scan
     }
 }
 
-// At the start of a text.
-fn opening() -> Scan
-    ensures { λ r. ⌜ r ≡ start ⌝ }
-{
-    Scan {
-        mode: Mode::Opening,
-        line: 0,
-        steps: 0,
-    }
-}
-
 // Whether no line is begun.
 pub fn between_lines(s: Scan) -> bool
     ensures { λ r. ⌜ r ≡ isOpening (s .mode) ⌝ }
@@ -164,7 +156,7 @@ pub fn count(text: &[u8]) -> Scan
     ensures { λ r. ⌜ counted r ≡ countOf 0 (readLines 0 (linesOf (now (text .entry)))) ⌝ }
     ensures { λ r. ⌜ r .line + begun (r .mode) ≤ length (now (text .entry)) ⌝ }
 {
-    let mut s = opening();
+    let mut s = at_line(0, 0);
     let mut i = 0;
     while i < text.len() {
         s = advanced(s, text[i]);
@@ -201,7 +193,7 @@ pub fn fill(text: &[u8], out: &mut [u8])
     requires { ⌜ length (now text) ≤ 65536 ⌝ }
     ensures { λ r. ⌜ now (out .exit) ≡ written (stepsFrom start (now (text .entry))) 0 (now (out .entry)) ⌝ }
 {
-    let mut s = opening();
+    let mut s = at_line(0, 0);
     let mut i = 0;
     while i < text.len() {
         let b = text[i];

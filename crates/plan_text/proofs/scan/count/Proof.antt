@@ -16,13 +16,13 @@ Inv-loop text s₀ i₀ s i = (i ≤ length text) × Passed s i × (countFrom s 
 abbrev μ-loop : tie.MeasureT-loop
 μ-loop text s₀ i₀ s i = length text - i
 
-opening-requires : tie.Need-opening-requires Inv-loop μ-loop
-opening-requires c κs = tt
+at-line-requires : tie.Need-at-line-requires Inv-loop μ-loop
+at-line-requires c κs = tt
 
 loop-holds : tie.Need-loop-holds Inv-loop μ-loop
 loop-holds c =
     let t = now (c .before .before .args .text) in
-    rw (c .opening .ensures) (search needs, passed-start, count-start t)
+    rw (c .at-line .ensures) (search needs, passed-start, count-start t)
 
 shared-slice-read-advanced : tie.Need-shared-slice-read-advanced Inv-loop μ-loop
 shared-slice-read-advanced c = search needs
@@ -54,7 +54,7 @@ count-spec =
     (tie.spec
     Inv-loop
     μ-loop
-    opening-requires
+    at-line-requires
     loop-holds
     shared-slice-read-advanced
     advanced-requires

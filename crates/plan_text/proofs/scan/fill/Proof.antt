@@ -15,11 +15,11 @@ Inv-loop text out₀ s₀ i₀ out s i = (i ≤ length text) × Passed s i × (l
 abbrev μ-loop : tie.MeasureT-loop
 μ-loop text out₀ s₀ i₀ out s i = length text - i
 
-opening-requires : tie.Need-opening-requires Inv-loop μ-loop
-opening-requires c κs = tt
+at-line-requires : tie.Need-at-line-requires Inv-loop μ-loop
+at-line-requires c κs = tt
 
 loop-holds : tie.Need-loop-holds Inv-loop μ-loop
-loop-holds c = rw (c .opening .ensures) (search needs, passed-start, refl, refl)
+loop-holds c = rw (c .at-line .ensures) (search needs, passed-start, refl, refl)
 
 shared-slice-read-b : tie.Need-shared-slice-read-b Inv-loop μ-loop
 shared-slice-read-b c = search needs
@@ -63,7 +63,7 @@ fill-spec =
     (tie.spec
     Inv-loop
     μ-loop
-    opening-requires
+    at-line-requires
     loop-holds
     shared-slice-read-b
     put-byte-requires
