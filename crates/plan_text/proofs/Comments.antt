@@ -1,32 +1,20 @@
 -- Reading ignores comments and nothing else.
 use mathlib.Core.Path.{_≡_, refl, sym, ap, _∙_}
-use mathlib.Core.Logic.{_⊎_, inl, inr}
-use mathlib.Core.Bool.{Bool, true, false, cond, true≢false}
+use mathlib.Core.Logic.{_↔_}
+use mathlib.Core.Bool.{Bool, true, false, cond, _&&_, true≢false}
 use mathlib.Core.List.{List, [], _∷_, _++_, map}
 use Prim.Native.Nat.{ℕ, suc, _≤_}
 use native.Mathlib.Omega.{arith}
-use lib.Dec.{eqb, ltb}
-use borrow.Author.Tests.{ltb-true, ltb-false, eqb-true}
-use Rattle.plan_text.specs.PlanText.{NEWLINE, SEMICOLON, stepLine, textOf, Lines, rest, ended, before, linesOf, same, numberFrom, asByte, Line, comment, step, other, lineOf, Read, plan, faulty, stepBefore, lineBefore, readLines}
+use lib.Dec.{T, eqb, leb}
+use lib.ListN.{length, length-append}
+use borrow.Author.Tests.{leb-true}
+use Rattle.task.proofs.Tests.{and-left, and-right, and-both}
+use Rattle.plan_text.specs.PlanText.{NEWLINE, SEMICOLON, stepLine, textOf, Lines, rest, ended, linesOf, same, numberFrom, asByte, Line, comment, step, other, lineOf, Read, plan, faulty, stepBefore, lineBefore, readLines, readPlan}
 use Rattle.plan_text.proofs.Numerals.{same-eq}
+use Rattle.plan_text.proofs.Splitting.{bytesOf, whole, oneLine, areSplit, all-split, split-again, by-lines}
+use Rattle.plan_text.proofs.Returned.{read-back}
 
--- the bytes of lines
-abbrev pub bytesOf : Lines → List ℕ
-bytesOf (rest l) = l
-bytesOf (ended l ls) = l ++ NEWLINE ∷ bytesOf ls
-
-bytes-before : (b : ℕ) (ls : Lines) → bytesOf (before b ls) ≡ b ∷ bytesOf ls
-bytes-before b (rest l) = refl
-bytes-before b (ended l ls) = refl
-
--- no byte is lost in lines
-pub whole : (t : List ℕ) → bytesOf (linesOf t) ≡ t
-whole [] = refl
-whole (b ∷ t) = go (eqb b NEWLINE) refl (whole t)
-  where
-    go : (e : Bool) → eqb b NEWLINE ≡ e → bytesOf (linesOf t) ≡ t → bytesOf (cond e (ended [] (linesOf t)) (before b (linesOf t))) ≡ b ∷ t
-    go true e h = λ z. sym (eqb-true b NEWLINE e) z ∷ h z
-    go false e h = bytes-before b (linesOf t) ∙ ap (λ (l : List ℕ). b ∷ l) h
+-- The text without its comments
 
 abbrev pub isComment : List ℕ → Bool
 isComment [] = false
@@ -36,7 +24,35 @@ abbrev pub withoutComments : Lines → Lines
 withoutComments (rest l) = rest l
 withoutComments (ended l ls) = cond (isComment l) (withoutComments ls) (ended l (withoutComments ls))
 
--- The plan is that of the lines without comments
+abbrev pub stripped : List ℕ → List ℕ
+stripped t = bytesOf (withoutComments (linesOf t))
+
+still-split : (ls : Lines) → T (areSplit ls) → T (areSplit (withoutComments ls))
+still-split (rest l) h = h
+still-split (ended l ls) h =
+    let t : T (oneLine l && areSplit ls) = h in
+    go (isComment l) (and-left (oneLine l) (areSplit ls) t) (still-split ls (and-right (oneLine l) (areSplit ls) t))
+  where
+    go : (e : Bool) → T (oneLine l) → T (areSplit (withoutComments ls)) → T (areSplit (cond e (withoutComments ls) (ended l (withoutComments ls))))
+    go true a b = b
+    go false a b = and-both (oneLine l) (areSplit (withoutComments ls)) a b
+
+lines-stripped : (t : List ℕ) → linesOf (stripped t) ≡ withoutComments (linesOf t)
+lines-stripped t = split-again (withoutComments (linesOf t)) (still-split (linesOf t) (all-split t))
+
+no-more-bytes : (ls : Lines) → length (bytesOf (withoutComments ls)) ≤ length (bytesOf ls)
+no-more-bytes (rest l) = omega arith
+no-more-bytes (ended l ls) = go (isComment l) (no-more-bytes ls)
+  where
+    go : (e : Bool) → length (bytesOf (withoutComments ls)) ≤ length (bytesOf ls)
+        → length (bytesOf (cond e (withoutComments ls) (ended l (withoutComments ls)))) ≤ length (l ++ NEWLINE ∷ bytesOf ls)
+    go true h = rw (length-append l (NEWLINE ∷ bytesOf ls)) (omega arith)
+    go false h = rw (length-append l (NEWLINE ∷ bytesOf ls), length-append l (NEWLINE ∷ bytesOf (withoutComments ls))) (omega arith)
+
+no-longer : (t : List ℕ) → length (stripped t) ≤ length t
+no-longer t = rw (whole t) at (no-more-bytes (linesOf t))
+
+-- The plan is that of the text without comments
 
 -- a text that is refused, whatever its line
 abbrev pub unplaced : Read → Read
@@ -56,16 +72,23 @@ comment-line : (l : List ℕ) → isComment l ≡ true → lineOf l ≡ comment
 comment-line [] e = absurd (true≢false (sym e))
 comment-line (b ∷ l) e = rw e
 
-pub ignored : (i j : ℕ) (ls : Lines) → unplaced (readLines i ls) ≡ unplaced (readLines j (withoutComments ls))
-ignored i j (rest []) = refl
-ignored i j (rest (b ∷ l)) = refl
-ignored i j (ended l ls) = go (isComment l) refl (ignored (suc i) j ls) (ignored (suc i) (suc j) ls)
+ignored-lines : (i j : ℕ) (ls : Lines) → unplaced (readLines i ls) ≡ unplaced (readLines j (withoutComments ls))
+ignored-lines i j (rest []) = refl
+ignored-lines i j (rest (b ∷ l)) = refl
+ignored-lines i j (ended l ls) = go (isComment l) refl (ignored-lines (suc i) j ls) (ignored-lines (suc i) (suc j) ls)
   where
     go : (e : Bool) → isComment l ≡ e → unplaced (readLines (suc i) ls) ≡ unplaced (readLines j (withoutComments ls))
         → unplaced (readLines (suc i) ls) ≡ unplaced (readLines (suc j) (withoutComments ls))
         → unplaced (lineBefore i (lineOf l) (readLines (suc i) ls)) ≡ unplaced (readLines j (cond e (withoutComments ls) (ended l (withoutComments ls))))
     go true e h k = ap (λ (x : Line). unplaced (lineBefore i x (readLines (suc i) ls))) (comment-line l e) ∙ h
     go false e h k = unplaced-line i j (lineOf l) (readLines (suc i) ls) (readLines (suc j) (withoutComments ls)) k
+
+-- the same plan, or both refused
+pub ignored : (t : List ℕ) → length t ≤ 65536 → unplaced (readPlan t) ≡ unplaced (readPlan (stripped t))
+ignored t h =
+    let short : length (stripped t) ≤ 65536 = omega (arith, no-longer t) in
+    ap unplaced (by-lines t h) ∙ ignored-lines 0 0 (linesOf t)
+    ∙ sym (ap unplaced (by-lines (stripped t) short ∙ ap (readLines 0) (lines-stripped t)))
 
 -- What is left spells the plan
 
@@ -101,14 +124,13 @@ one-step n l bs p (plan q) e h more = build (more q refl)
           as-read = ap (λ (x : List ℕ). asByte n ∷ x) (s .as-read) ∙ ap planIn h;
         }
 
--- the lines of a text that is read as p: without its comments they spell p, byte by byte
-pub nothing-else : (i : ℕ) (ls : Lines) (p : List ℕ) → readLines i ls ≡ plan p → Spells (bytesOf (withoutComments ls)) p
+spelled-lines : (i : ℕ) (ls : Lines) (p : List ℕ) → readLines i ls ≡ plan p → Spells (bytesOf (withoutComments ls)) p
 unfolding textOf
-nothing-else i (rest []) p h = record { numbers = []; spelled = refl; as-read = ap planIn h }
-nothing-else i (rest (b ∷ l)) p h = no-line (b ∷ l) p i h
-nothing-else i (ended [] ls) p h = no-line (NEWLINE ∷ bytesOf (withoutComments ls)) p i h
-nothing-else i (ended (b ∷ l) ls) p h =
-    go (eqb b SEMICOLON) (same (b ∷ l) (stepLine (numberFrom 0 (b ∷ l)))) refl h (nothing-else (suc i) ls)
+spelled-lines i (rest []) p h = record { numbers = []; spelled = refl; as-read = ap planIn h }
+spelled-lines i (rest (b ∷ l)) p h = no-line (b ∷ l) p i h
+spelled-lines i (ended [] ls) p h = no-line (NEWLINE ∷ bytesOf (withoutComments ls)) p i h
+spelled-lines i (ended (b ∷ l) ls) p h =
+    go (eqb b SEMICOLON) (same (b ∷ l) (stepLine (numberFrom 0 (b ∷ l)))) refl h (spelled-lines (suc i) ls)
   where
     go : (e f : Bool) → same (b ∷ l) (stepLine (numberFrom 0 (b ∷ l))) ≡ f
         → lineBefore i (cond e comment (cond f (step (asByte (numberFrom 0 (b ∷ l)))) other)) (readLines (suc i) ls) ≡ plan p
@@ -119,60 +141,29 @@ nothing-else i (ended (b ∷ l) ls) p h =
         one-step (numberFrom 0 (b ∷ l)) (b ∷ l) (bytesOf (withoutComments ls)) p (readLines (suc i) ls) (same-eq (b ∷ l) (stepLine (numberFrom 0 (b ∷ l))) s) h more
     go false false s h more = no-line ((b ∷ l) ++ NEWLINE ∷ bytesOf (withoutComments ls)) p i h
 
--- Two texts of one plan
-
--- equal numbers, or numbers from 255 on
-abbrev pub Alike : List ℕ → List ℕ → Type 0
-Alike [] [] = Unit
-Alike [] (m ∷ ms) = ⊥
-Alike (n ∷ ns) [] = ⊥
-Alike (n ∷ ns) (m ∷ ms) = ((n ≡ m) ⊎ ((255 ≤ n) × (255 ≤ m))) × Alike ns ms
-
-byte-alike : (n m : ℕ) → asByte n ≡ asByte m → (n ≡ m) ⊎ ((255 ≤ n) × (255 ≤ m))
-byte-alike n m h = go (ltb n 255) (ltb m 255) refl refl h
+short-enough : (t p : List ℕ) → readPlan t ≡ plan p → length t ≤ 65536
+unfolding readPlan
+short-enough t p h = go (leb (length t) 65536) refl h
   where
-    go : (x y : Bool) → ltb n 255 ≡ x → ltb m 255 ≡ y → cond x n 255 ≡ cond y m 255 → (n ≡ m) ⊎ ((255 ≤ n) × (255 ≤ m))
-    go true true p q h = inl h
-    go true false p q h = absurd (omega (arith, ltb-true n 255 p, h))
-    go false true p q h = absurd (omega (arith, ltb-true m 255 q, h))
-    go false false p q h = inr (ltb-false n 255 p, ltb-false m 255 q)
+    go : (e : Bool) → leb (length t) 65536 ≡ e → cond e (readLines 0 (linesOf t)) (faulty 0) ≡ plan p → length t ≤ 65536
+    go true e h = leb-true (length t) 65536 e
+    go false e h = absurd (true≢false (sym (ap isPlan h)))
 
-abbrev first : List ℕ → ℕ
-first [] = 0
-first (n ∷ ns) = n
+-- without its comments a text that is read as p spells p, byte by byte
+pub nothing-else : (t p : List ℕ) → readPlan t ≡ plan p → Spells (stripped t) p
+nothing-else t p h = spelled-lines 0 (linesOf t) p (sym (by-lines t (short-enough t p h)) ∙ h)
 
-abbrev others : List ℕ → List ℕ
-others [] = []
-others (n ∷ ns) = ns
+-- Exactly the texts that spell a plan are read as it
 
-abbrev isNil : List ℕ → Bool
-isNil [] = true
-isNil (n ∷ ns) = false
+placed : (r : Read) (p : List ℕ) → unplaced r ≡ plan p → r ≡ plan p
+placed (plan q) p h = h
+placed (faulty i) p h = absurd (true≢false (sym (ap isPlan h)))
 
-numbers-alike : (ns ms : List ℕ) → map asByte ns ≡ map asByte ms → Alike ns ms
-numbers-alike [] [] h = tt
-numbers-alike [] (m ∷ ms) h = true≢false (ap isNil h)
-numbers-alike (n ∷ ns) [] h = true≢false (sym (ap isNil h))
-numbers-alike (n ∷ ns) (m ∷ ms) h = (byte-alike n m (ap first h), numbers-alike ns ms (ap others h))
+spelled-read : (t p : List ℕ) → length t ≤ 65536 → Spells (stripped t) p → readPlan t ≡ plan p
+spelled-read t p h s =
+    let short : length (textOf (s .numbers)) ≤ 65536 = omega (arith, no-longer t, ap length (s .spelled)) in
+    let back : readPlan (stripped t) ≡ plan p = ap readPlan (s .spelled) ∙ read-back (s .numbers) short ∙ ap plan (s .as-read) in
+    placed (readPlan t) p (ignored t h ∙ ap unplaced back)
 
--- two texts without comments that are read as p: the texts of numbers that are alike
-pub record SamePlan (t u : List ℕ) : Type 0 where
-  pub ns : List ℕ
-  pub ms : List ℕ
-  pub one : t ≡ textOf ns
-  pub another : u ≡ textOf ms
-  pub alike : Alike ns ms
-
-pub two-texts : (t u p : List ℕ) → withoutComments (linesOf t) ≡ linesOf t → withoutComments (linesOf u) ≡ linesOf u
-    → readLines 0 (linesOf t) ≡ plan p → readLines 0 (linesOf u) ≡ plan p → SamePlan t u
-two-texts t u p c d h k = build (nothing-else 0 (linesOf t) p h) (nothing-else 0 (linesOf u) p k)
-  where
-    build : Spells (bytesOf (withoutComments (linesOf t))) p → Spells (bytesOf (withoutComments (linesOf u))) p → SamePlan t u
-    build x y =
-        record {
-          ns = x .numbers;
-          ms = y .numbers;
-          one = sym (ap bytesOf c ∙ whole t) ∙ x .spelled;
-          another = sym (ap bytesOf d ∙ whole u) ∙ y .spelled;
-          alike = numbers-alike (x .numbers) (y .numbers) (x .as-read ∙ sym (y .as-read));
-        }
+pub exactly : (t p : List ℕ) → (readPlan t ≡ plan p) ↔ ((length t ≤ 65536) × Spells (stripped t) p)
+exactly t p = (λ h. (short-enough t p h, nothing-else t p h), λ q. spelled-read t p (q .0) (q .1))

@@ -5,5 +5,7 @@ pub mod Lines
 pub mod Scanning
 pub mod Printing
 pub mod Answering
+pub mod Splitting
 pub mod Returned
 pub mod Comments
+pub mod TwoTexts
