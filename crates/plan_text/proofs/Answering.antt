@@ -27,6 +27,7 @@ use Rattle.plan_text.specs.Outcomes.{planFitted, readBy, readOutcome, st
 use Rattle.plan_text.specs.Scan.{isOpening, Count, all, faultyAt, count, counted, begun, start, stepsFrom}
 use Rattle.plan_text.specs.declared.scan.Scan.{Scan}
 use Rattle.plan_text.proofs.Scanning.{steps-read}
+use Rattle.plan_text.proofs.Splitting.{by-lines}
 
 -- An outcome and its area
 
@@ -84,16 +85,12 @@ module _ (t : List ℕ) (room : ℕ) where
   too-long h = rw (lt-leb (length t) 65536 h)
 
   module _ (short : length t ≤ 65536) where
-    read-short : readPlan t ≡ readLines 0 (linesOf t)
-    unfolding readPlan
-    read-short = rw (le-leb (length t) 65536 short)
-
     module _ (s : Scan) (e : counted s ≡ count 0 (readLines 0 (linesOf t))) where
       pub bad-line : isOpening (s .mode) ≡ false → readOutcome t room ≡ refused 12 (s .line)
       unfolding readOutcome
       bad-line h =
           let c : faultyAt (s .line) ≡ count 0 (readLines 0 (linesOf t)) = (rw h at e) in
-          ap (readBy room) (read-short ∙ stopped-at (readLines 0 (linesOf t)) (s .line) c)
+          ap (readBy room) (by-lines t short ∙ stopped-at (readLines 0 (linesOf t)) (s .line) c)
 
       module _ (h : isOpening (s .mode) ≡ true) where
         found : Counted (readLines 0 (linesOf t)) (s .steps)
@@ -101,12 +98,12 @@ module _ (t : List ℕ) (room : ℕ) where
 
         pub by-size : readOutcome t room ≡ planFitted (s .steps) (s .steps) room
         unfolding readOutcome
-        by-size = ap (readBy room) (read-short ∙ found .is) ∙ ap (λ (k : ℕ). planFitted k k room) (found .size)
+        by-size = ap (readBy room) (by-lines t short ∙ found .is) ∙ ap (λ (k : ℕ). planFitted k k room) (found .size)
 
         pub steps-found : (stepsFrom start t ≡ stepsIn t) × (length (stepsIn t) ≡ s .steps)
         unfolding stepsIn
         steps-found =
-            let p : steps (readPlan t) ≡ found .its-plan = ap steps (read-short ∙ found .is) in
+            let p : steps (readPlan t) ≡ found .its-plan = ap steps (by-lines t short ∙ found .is) in
             (steps-read t (found .its-plan) (found .is) ∙ sym p, ap length p ∙ found .size)
 
 -- the place of a faulty line

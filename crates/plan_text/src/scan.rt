@@ -57,8 +57,9 @@ fn after_letter(b: u8) -> Mode
     ensures { λ r. ⌜ r ≡ follow Letter b ⌝ }
 {
     if b == b'0' {
-        Mode::Zero
-    } else if is_digit(b) {
+        return Mode::Zero;
+    }
+    if is_digit(b) {
         Mode::Digits(b - b'0')
     } else {
         Mode::Other
