@@ -1,5 +1,5 @@
 -- A plan judged on the task in a file, from what check answers.
-use mathlib.Core.Path.{_≡_, refl, sym, ap, ap₂, _∙_, subst⁻¹}
+use mathlib.Core.Path.{_≡_, refl, sym, ap, _∙_, subst⁻¹}
 use mathlib.Core.Bool.{Bool, true, false, cond, _&&_}
 use mathlib.Core.List.{List, [], _∷_}
 use Prim.Native.Nat.{ℕ, suc, _+_, _-_, _≤_, _<_}
@@ -14,7 +14,7 @@ use Rattle.task.specs.File.{taskOf}
 use Rattle.task.specs.Check
 use Rattle.task.specs.Check.{check}
 use Rattle.task.specs.Verdict.{Verdict, verdict}
-use Rattle.task.specs.Answers.{answer as checked, asSizes}
+use Rattle.task.specs.Answers.{answer as checked, asSizes, refusalIn}
 use Rattle.task.specs.declared.Sizes.{Sizes}
 use Rattle.task.specs.declared.Refusal.{Refusal}
 use Rattle.task.specs.declared.Checked.{Checked}
@@ -64,12 +64,10 @@ reads b z h =
 
 module _ (b p : List ℕ) (x : Checked) (e : checked x ≡ check b) where
   -- a file that is not accepted: its refusal
-  pub turned-down : (f : Refusal) → x ≡ Refused f → (r : Refusal) → ((n i : ℕ) → checked x ≡ Check.refused n i → (r .number ≡ n) × (r .place ≡ i))
-      → refused (r .number) (r .place) ≡ judged b p
+  pub turned-down : (f : Refusal) → x ≡ Refused f → (r : Refusal) → r ≡ refusalIn x → refused (r .number) (r .place) ≡ judged b p
   unfolding judged
   turned-down f q r says =
-      let same = says (f .number) (f .place) (ap checked q) in
-      ap₂ refused (same .0) (same .1) ∙ ap (judgedBy b p) (sym (ap checked q) ∙ e)
+      ap (λ (g : Refusal). refused (g .number) (g .place)) (says ∙ ap refusalIn q) ∙ ap (judgedBy b p) (sym (ap checked q) ∙ e)
 
   module _ (z : Sizes) (q : x ≡ Accepted z) where
     accepted : check b ≡ Check.accepted (asSizes z)

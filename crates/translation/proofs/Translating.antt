@@ -13,7 +13,7 @@ use Rattle.task.specs.File
 use Rattle.task.specs.File.{sizesOf, taskOf, bytes16, fileOf}
 use Rattle.task.specs.Check
 use Rattle.task.specs.Check.{check}
-use Rattle.task.specs.Answers.{answer as checked, asSizes}
+use Rattle.task.specs.Answers.{answer as checked, asSizes, refusalIn}
 use Rattle.task.specs.declared.Sizes.{Sizes}
 use Rattle.task.specs.declared.Refusal.{Refusal}
 use Rattle.task.specs.declared.Checked.{Checked}
@@ -179,12 +179,10 @@ module _ (b area : List ℕ) (x : Checked) (e : checked x ≡ check b) where
   refuses : (r : Outcome) (k i : ℕ) → answer r ≡ refused k i → refused k i ≡ outcome b (length area) → Promised b area r area
   refuses r k i p q = promised b area r area (p ∙ q) (sym (ap (areaAfter (compiled b) area) p))
 
-  pub turned-down : (f : Refusal) → x ≡ Refused f → (r : Refusal) → ((n i : ℕ) → checked x ≡ Check.refused n i → (r .number ≡ n) × (r .place ≡ i))
-      → Promised b area (Outcome.Refused r) area
+  pub turned-down : (f : Refusal) → x ≡ Refused f → (r : Refusal) → r ≡ refusalIn x → Promised b area (Outcome.Refused r) area
   unfolding outcome
   turned-down f q r says =
-      let same = says (f .number) (f .place) (ap checked q) in
-      refuses (Outcome.Refused r) (f .number) (f .place) (ap₂ refused (same .0) (same .1)) (ap (outcomeBy b (length area)) (sym (ap checked q) ∙ e))
+      refuses (Outcome.Refused r) (f .number) (f .place) (ap (λ (g : Refusal). refused (g .number) (g .place)) (says ∙ ap refusalIn q)) (ap (outcomeBy b (length area)) (sym (ap checked q) ∙ e))
 
   module _ (z : Sizes) (q : x ≡ Accepted z) where
     accepted : check b ≡ Check.accepted (asSizes z)
