@@ -112,10 +112,6 @@ line-below t s short h e = let l : s .line + 1 ≤ length t = (rw e at h) in ome
 
 -- Judging
 
-abbrev asJudged : Outcome → Judged
-asJudged (written n) = Judged.refused 0 0
-asJudged (refused n i) = Judged.refused n i
-
 size-read : (r : Read) (room n : ℕ) → readBy room r ≡ written n → length (steps r) ≡ n
 size-read (plan p) room n e = go (leb (length p) 2048) (leb (length p) room) e
   where
@@ -140,27 +136,34 @@ module _ (b : List ℕ) (x : Checked) (e : checked x ≡ check b) (m j : ℕ) wh
   file-accepted z q = ap (λ (a : Answer). refusedAfter a m j) (sym (ap checked q) ∙ e)
 
 module _ (b : List ℕ) where
-  on-refusal : (a : Answer) → check b ≡ a → (r : Read) (m j : ℕ) → readBy 2048 r ≡ refused m j → refusedAfter a m j ≡ textJudgedBy b a r
+  -- a refusal of reading, after check's
+  abbrev passedOn : Outcome → Judged
+  passedOn (written n) = refusedAfter (check b) 0 0
+  passedOn (refused n i) = refusedAfter (check b) n i
+
+  -- judge refuses a plan that is too long by the same number
+  over-long : (p : List ℕ) → leb (length p) 2048 ≡ false → (a : Answer) → refusedAfter a 10 0 ≡ judgedBy b p a
+  over-long p l (Check.refused n i) = refl
+  over-long p l (Check.accepted z) = rw l
+
+  on-refusal : (r : Read) (m j : ℕ) → readBy 2048 r ≡ refused m j → refusedAfter (check b) m j ≡ textJudgedBy b r
   unfolding judged
-  on-refusal (Check.refused n i) q r m j e = refl
-  on-refusal (Check.accepted z) q (faulty i) m j e = sym (ap asJudged e)
-  on-refusal (Check.accepted z) q (plan p) m j e = go (leb (length p) 2048) refl e
+  on-refusal (faulty i) m j e = sym (ap passedOn e)
+  on-refusal (plan p) m j e = go (leb (length p) 2048) refl e
     where
       go : (x : Bool) → leb (length p) 2048 ≡ x → cond x (cond x (written (length p)) (refused 9 0)) (refused 10 0) ≡ refused m j
-          → Judged.refused m j ≡ judged b p
+          → refusedAfter (check b) m j ≡ judged b p
       go true l e = absurd (not-written m j (length p) (sym e))
-      go false l e = sym (ap asJudged e) ∙ rw (q, l)
+      go false l e = sym (ap passedOn e) ∙ over-long p l (check b)
 
-  on-plan : (a : Answer) → check b ≡ a → (r : Read) (n : ℕ) → readBy 2048 r ≡ written n → judgedBy b (steps r) a ≡ textJudgedBy b a r
-  unfolding judged
-  on-plan (Check.refused n i) q r k e = refl
-  on-plan (Check.accepted z) q (plan p) k e = ap (judgedBy b p) (sym q)
-  on-plan (Check.accepted z) q (faulty i) k e = absurd (not-written 12 i k e)
+  on-plan : (r : Read) (n : ℕ) → readBy 2048 r ≡ written n → judged b (steps r) ≡ textJudgedBy b r
+  on-plan (plan p) n e = refl
+  on-plan (faulty i) n e = absurd (not-written 12 i n e)
 
   pub text-refused : (t : List ℕ) (m j : ℕ) → readOutcome t 2048 ≡ refused m j → refusedAfter (check b) m j ≡ textJudged b t
   unfolding readOutcome textJudged
-  text-refused t m j e = on-refusal (check b) refl (readPlan t) m j e
+  text-refused t m j e = on-refusal (readPlan t) m j e
 
   pub text-judged : (t : List ℕ) (n : ℕ) → readOutcome t 2048 ≡ written n → judged b (stepsIn t) ≡ textJudged b t
-  unfolding readOutcome textJudged stepsIn judged
-  text-judged t n e = on-plan (check b) refl (readPlan t) n e
+  unfolding readOutcome textJudged stepsIn
+  text-judged t n e = on-plan (readPlan t) n e

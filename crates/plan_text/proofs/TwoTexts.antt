@@ -1,8 +1,8 @@
 -- Two texts that are read as one plan differ in comments, and in numbers from 255 on.
-use mathlib.Core.Path.{_≡_, refl, sym, ap, _∙_}
+use mathlib.Core.Path.{_≡_, refl, sym, _∙_}
 use mathlib.Core.Logic.{_⊎_, inl, inr}
-use mathlib.Core.Bool.{Bool, true, false, cond, true≢false}
-use mathlib.Core.List.{List, [], _∷_, map}
+use mathlib.Core.Bool.{Bool, true, false, cond}
+use mathlib.Core.List.{List, [], _∷_, map, cons-ne-nil, head-eq-of-cons-eq, tail-eq-of-cons-eq}
 use Prim.Native.Nat.{ℕ, _≤_}
 use native.Mathlib.Omega.{arith}
 use lib.Dec.{ltb}
@@ -26,23 +26,11 @@ byte-alike n m h = go (ltb n 255) (ltb m 255) refl refl h
     go false true p q h = absurd (omega (arith, ltb-true m 255 q, h))
     go false false p q h = inr (ltb-false n 255 p, ltb-false m 255 q)
 
-abbrev first : List ℕ → ℕ
-first [] = 0
-first (n ∷ ns) = n
-
-abbrev others : List ℕ → List ℕ
-others [] = []
-others (n ∷ ns) = ns
-
-abbrev isNil : List ℕ → Bool
-isNil [] = true
-isNil (n ∷ ns) = false
-
 numbers-alike : (ns ms : List ℕ) → map asByte ns ≡ map asByte ms → Alike ns ms
 numbers-alike [] [] h = tt
-numbers-alike [] (m ∷ ms) h = true≢false (ap isNil h)
-numbers-alike (n ∷ ns) [] h = true≢false (sym (ap isNil h))
-numbers-alike (n ∷ ns) (m ∷ ms) h = (byte-alike n m (ap first h), numbers-alike ns ms (ap others h))
+numbers-alike [] (m ∷ ms) h = cons-ne-nil (asByte m) (map asByte ms) (sym h)
+numbers-alike (n ∷ ns) [] h = cons-ne-nil (asByte n) (map asByte ns) h
+numbers-alike (n ∷ ns) (m ∷ ms) h = (byte-alike n m (head-eq-of-cons-eq h), numbers-alike ns ms (tail-eq-of-cons-eq h))
 
 -- the texts of numbers that are alike
 pub record SamePlan (t u : List ℕ) : Type 0 where

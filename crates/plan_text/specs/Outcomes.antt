@@ -37,17 +37,16 @@ stepsIn t = steps (readPlan t)
 unfoldable pub writeOutcome : List ℕ → ℕ → Outcome
 writeOutcome p room = planFitted (length p) (length (textOf p)) room
 
--- Judging a text: 12 after check's refusals, and before judge's
+-- Judging a text
 
--- a text's refusal, after check's
+-- check's refusal, or else one of the text
 abbrev pub refusedAfter : Answer → ℕ → ℕ → Judged
 refusedAfter (Check.refused n i) m j = Judged.refused n i
 refusedAfter (Check.accepted z) m j = Judged.refused m j
 
-abbrev pub textJudgedBy : List ℕ → Answer → Read → Judged
-textJudgedBy b (Check.refused n i) r = Judged.refused n i
-textJudgedBy b (Check.accepted z) (plan p) = judged b p
-textJudgedBy b (Check.accepted z) (faulty i) = Judged.refused 12 i
+abbrev pub textJudgedBy : List ℕ → Read → Judged
+textJudgedBy b (plan p) = judged b p
+textJudgedBy b (faulty i) = refusedAfter (check b) 12 i
 
 unfoldable pub textJudged : List ℕ → List ℕ → Judged
-textJudged b t = textJudgedBy b (check b) (readPlan t)
+textJudged b t = textJudgedBy b (readPlan t)

@@ -1,36 +1,44 @@
-// A file of test vectors: records one after the other, each a little-endian length of 32 bits and then that many bytes.
-ghost use Rattle.vectors.specs.Records.{Filled};
+// Programs that run test vectors: the one loop over a file of them, and what is done with each.
+mod checks;
+mod lines;
+mod plans;
+mod records;
+mod texts;
 
-// What stands next in a file: a record of so many bytes, or none.
-pub enum Next {
-    Record(usize),
-    Nothing,
+use libc::STDOUT_FILENO;
+
+// What the vectors of a file are: task files to check; tasks and plans to judge; tasks and plans' texts to read and judge.
+pub enum Family {
+    Checks,
+    Plans,
+    Texts,
 }
 
-// Reads the n bytes of a record, where the buffer has room for them.
-fn read_body(fd: i32, buf: &mut [u8], n: usize) -> Next
-    ensures { λ r. ⌜ Filled r (now (buf .entry)) (now (buf .exit)) ⌝ }
-{
-    if buf.len() < n {
-        return Next::Nothing;
-    }
-    let got = io::read_full(fd, &mut buf[..n]);
-    if got == n {
-        Next::Record(n)
-    } else {
-        Next::Nothing
+// Runs the next vector, and answers whether there was one.
+fn run_next(fd: i32, family: Family) -> bool {
+    match family {
+        Family::Checks => checks::check_next(fd),
+        Family::Plans => plans::judge_next(fd),
+        Family::Texts => texts::judge_next(fd),
     }
 }
 
-// Reads the next record into the start of the buffer. There is none at the end of the file, where the file ends inside
-// the record, and where the record is longer than the buffer.
-pub fn next_record(fd: i32, buf: &mut [u8]) -> Next
-    ensures { λ r. ⌜ Filled r (now (buf .entry)) (now (buf .exit)) ⌝ }
-{
-    let mut length = [0u8; 4];
-    if io::read_full(fd, &mut length) < 4 {
-        return Next::Nothing;
+// A proved loop has to end, and nothing says that a file does: so the loop counts its turns down, from a number that
+// no run uses up.
+fn run_all(fd: i32, family: Family) {
+    let mut turns = u64::MAX;
+    while turns > 0 && run_next(fd, family) {
+        turns -= 1;
     }
-    let n = task::rows::word(length[0], length[1], length[2], length[3]);
-    read_body(fd, buf, n as usize)
+}
+
+// Runs the vectors of the file `vectors`.
+pub fn run(family: Family) {
+    let fd = os::open_read(b"vectors");
+    if fd < 0 {
+        io::write_all(STDOUT_FILENO, b"no file\n");
+        return;
+    }
+    run_all(fd, family);
+    libc::close(fd);
 }

@@ -1,12 +1,12 @@
--- `vectors::read_body` meets its contract: the part of the buffer that was lent comes back as long as it was, and the rest
+-- `read_body` meets its contract: the part of the buffer that was lent comes back as long as it was, and the rest
 -- stands behind it.
 use borrow.Author.Needs.{needs}
 use mathlib.Core.Path.{sym, _∙_}
 use lib.ListN.{drop}
 use lib.Seq.{drop-at}
 use Rattle.io.proofs.Counting.{front}
-use Rattle.vectors.proofs.read_body.Statement.{statement}
-use Rattle.vectors.proofs.read_body.Tie as tie
+use Rattle.vectors.proofs.records.read_body.Statement.{statement}
+use Rattle.vectors.proofs.records.read_body.Tie as tie
 
 returns : tie.Need-returns
 returns c = search needs

@@ -1,0 +1,75 @@
+// Reads and judges texts, where a task's record comes before its text's. Of each it writes `read` and the number of steps,
+// and then the plan as text again, or `refused`, number and place; then a line with what the text is worth on the task.
+use super::lines;
+use super::records;
+use super::records::Next;
+use libc::STDOUT_FILENO;
+use outcome::Outcome;
+use plan::Judged;
+use plan::Verdict;
+
+fn write_verdict(v: Verdict) {
+    match v {
+        Verdict::Solved(w) => {
+            lines::write_amount(b"solved cost ", w.cost);
+            lines::write_amount(b" metric ", w.metric);
+        }
+        Verdict::Stopped(i) => {
+            lines::write_amount(b"stopped ", i as u64);
+        }
+        Verdict::GoalMissed => {
+            io::write_all(STDOUT_FILENO, b"goal missed");
+        }
+    }
+    io::write_all(STDOUT_FILENO, b"\n");
+}
+
+fn write_judged(judged: Judged) {
+    match judged {
+        Judged::Given(v) => write_verdict(v),
+        Judged::Refused(f) => lines::write_refused(f),
+    }
+}
+
+// Writes a plan as text.
+fn write_plan(plan: &[u8]) {
+    let mut out = io::large_buffer();
+    let written = plan_text::write(plan, &mut out);
+    match written {
+        Outcome::Written(n) => {
+            io::write_all(STDOUT_FILENO, text::front(&out, n));
+        }
+        Outcome::Refused(f) => lines::write_refused(f),
+    }
+}
+
+// Reads a text, and writes what that answers and the plan.
+fn write_read(text: &[u8]) {
+    let mut steps = [0u8; 2048];
+    let read = plan_text::read(text, &mut steps);
+    match read {
+        Outcome::Written(k) => {
+            lines::write_amount(b"read ", k as u64);
+            io::write_all(STDOUT_FILENO, b"\n");
+            write_plan(text::front(&steps, k));
+        }
+        Outcome::Refused(f) => lines::write_refused(f),
+    }
+}
+
+// Reads and judges the next text, and answers whether there was one.
+pub fn judge_next(fd: i32) -> bool {
+    let mut task = io::large_buffer();
+    let mut text = [0u8; 65537]; // one byte more than is read
+    let of_task = records::next_record(fd, &mut task);
+    let Next::Record(n) = of_task else {
+        return false;
+    };
+    let of_text = records::next_record(fd, &mut text);
+    let Next::Record(m) = of_text else {
+        return false;
+    };
+    write_read(text::front(&text, m));
+    write_judged(plan_text::judge_text(text::front(&task, n), text::front(&text, m)));
+    true
+}
