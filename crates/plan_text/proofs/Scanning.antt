@@ -43,6 +43,10 @@ one-byte : (m : Mode) (i b : ℕ) (ls : Lines) → readFrom m i (before b ls) �
 one-byte m i b (rest l) = refl
 one-byte m i b (ended l ls) = refl
 
+-- after byte b, by whether it is a newline
+abbrev nextBy : Scan → ℕ → Bool → Scan
+nextBy s b e = cond e (nextLine (s .mode) (s .line) (s .steps)) (record { mode = follow (s .mode) b; line = s .line; steps = s .steps })
+
 -- Counting
 
 one-step : (k n : ℕ) (r : Read) → count k (stepBefore n r) ≡ count (suc k) r
@@ -67,7 +71,7 @@ pub count-on : (s : Scan) (b : ℕ) (t : List ℕ) → countFrom s (linesOf (b �
 count-on s b t = go (eqb b NEWLINE)
   where
     go : (e : Bool) → countFrom s (cond e (ended [] (linesOf t)) (before b (linesOf t)))
-        ≡ countFrom (cond e (nextLine (s .mode) (s .line) (s .steps)) (record { mode = follow (s .mode) b; line = s .line; steps = s .steps })) (linesOf t)
+        ≡ countFrom (nextBy s b e) (linesOf t)
     go true = line-end (s .mode) (s .line) (s .steps) (linesOf t)
     go false = ap (count (s .steps)) (one-byte (s .mode) (s .line) b (linesOf t))
 
@@ -103,8 +107,7 @@ line-places Other i k = (omega arith, omega arith)
 pub places-on : (s : Scan) (b : ℕ) → (advance s b .line + begun (advance s b .mode) ≤ suc (s .line)) × (advance s b .steps ≤ suc (s .steps))
 places-on s b = go (eqb b NEWLINE)
   where
-    go : (e : Bool) → let r = cond e (nextLine (s .mode) (s .line) (s .steps)) (record { mode = follow (s .mode) b; line = s .line; steps = s .steps }) in
-        (r .line + begun (r .mode) ≤ suc (s .line)) × (r .steps ≤ suc (s .steps))
+    go : (e : Bool) → (nextBy s b e .line + begun (nextBy s b e .mode) ≤ suc (s .line)) × (nextBy s b e .steps ≤ suc (s .steps))
     go true = line-places (s .mode) (s .line) (s .steps)
     go false = (omega (arith, begun-one (follow (s .mode) b)), omega arith)
 
@@ -123,7 +126,7 @@ steps-on s b = go (eqb b NEWLINE)
     by-mode (Closed n) i k = omega arith
     by-mode Other i k = omega arith
 
-    go : (e : Bool) → cond e (nextLine (s .mode) (s .line) (s .steps)) (record { mode = follow (s .mode) b; line = s .line; steps = s .steps }) .steps
+    go : (e : Bool) → nextBy s b e .steps
         ≡ s .steps + length (cond e (stepOf (s .mode)) [])
     go true = by-mode (s .mode) (s .line) (s .steps)
     go false = omega arith
@@ -147,9 +150,6 @@ line-steps Zero i k ls q h = tt
 line-steps (Digits n) i k ls q h = tt
 line-steps (Closed n) i k ls q h = step-before n (readFrom Opening (suc i) ls) q h
 line-steps Other i k ls q h = tt
-
-abbrev nextBy : Scan → ℕ → Bool → Scan
-nextBy s b e = cond e (nextLine (s .mode) (s .line) (s .steps)) (record { mode = follow (s .mode) b; line = s .line; steps = s .steps })
 
 steps-from : (s : Scan) (t : List ℕ) → stepsRead (readFrom (s .mode) (s .line) (linesOf t)) (stepsFrom s t)
 unfolding stepsFrom

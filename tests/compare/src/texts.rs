@@ -6,7 +6,7 @@ use crate::tally::Tally;
 use peer::text;
 
 /// What comes up in reading.
-const ANSWERS: [&str; 4] = ["read", "refused 12 ", "refused 10 ", "refused 9 "];
+const ANSWERS: [&str; 4] = ["read", "refused 12", "refused 10", "refused 9"];
 
 fn equal(operation: &str, library: Left, peer: Left) -> Result<(), String> {
     if library == peer {
@@ -54,9 +54,9 @@ pub fn compare(first: u64, count: u64) -> Result<(), String> {
         tally.count(match text::read(&bytes, room) {
             Ok(_) => "read",
             Err(refusal) => match refusal.number {
-                12 => "refused 12 ",
-                10 => "refused 10 ",
-                _ => "refused 9 ",
+                12 => "refused 12",
+                10 => "refused 10",
+                _ => "refused 9",
             },
         });
     }

@@ -21,12 +21,7 @@ const ANSWERS: [&str; 10] = [
 /// place and nothing written, or the same bytes and nothing written behind them.
 fn same(file: &[u8], room: usize) -> Result<&'static str, String> {
     let (out, answer) = library::translate(file, room);
-    let mut expected = library::area(room);
-    let wanted = peer::translate(file, room);
-    if let Ok(bytes) = &wanted {
-        expected[..bytes.len()].copy_from_slice(bytes);
-    }
-    let wanted = wanted.map(|bytes| bytes.len()).map_err(library::refusal);
+    let (expected, wanted) = library::expected(room, peer::translate(file, room));
     if answer != wanted || out != expected {
         return Err(format!(
             "the library answers {answer:?}, and not {wanted:?}, or writes other bytes"
