@@ -221,7 +221,7 @@ static inline void watch(Monitor *m, uint8_t kind, int last, int phi, int psi)
         m->b |= phi & !m->s;
         m->s |= psi;
         break;
-    default: m->b = phi | (m->b & !psi);
+    default: m->b = (phi | m->b) & !psi;
     }
 }
 
@@ -461,12 +461,16 @@ static inline void copy(Writer *w, uint32_t from, uint32_t to)
     w->at += to - from;
 }
 
-/* An effect for each false clause of the condition from row `at` up to row `to`, which adds b; behind holds s if guarded. */
-static void put_false(Writer *w, uint32_t at, uint32_t to, int guarded, uint32_t s, uint32_t b)
+/* What stands before the denied literals of a clause: holds s if `held`, and the rows from `from` up to `to`. */
+typedef struct { int held; uint32_t s, from, to; } Guard;
+
+/* An effect for each false clause of the condition from row `at` up to row `to`, behind a guard, which adds b. */
+static void put_false(Writer *w, uint32_t at, uint32_t to, Guard g, uint32_t b)
 {
     while (at < to) {
         put(w, EFFECT, 0);
-        if (guarded) put_single(w, HOLDS, s);
+        if (g.held) put_single(w, HOLDS, g.s);
+        copy(w, g.from, g.to);
         for (at++; at < to && w->source->marks[at] != CLAUSE; at++)
             put_single(w, w->source->marks[at] == HOLDS ? LACKS : HOLDS, value_at(w->source, at));
         put(w, ADD, b);
@@ -479,7 +483,7 @@ static void put_tracker(Writer *w, uint32_t k, int last)
     uint32_t open = t->side[k].open + 1, second = t->side[k].second, next = t->side[k].next;
     uint32_t s = t->facts + 3 * k, b = s + 1;
     switch (t->marks[open - 1]) {
-    case ALWAYS: put_false(w, open, second, 0, s, b); break;
+    case ALWAYS: put_false(w, open, second, (Guard){0, s, 0, 0}, b); break;
     case AT_END:
         if (!last) break;
         /* fall through */
@@ -494,7 +498,7 @@ static void put_tracker(Writer *w, uint32_t k, int last)
         put_single(w, LACKS, b);
         copy(w, open, second);
         put(w, ADD, s);
-        put_false(w, open, second, 1, s, b);
+        put_false(w, open, second, (Guard){1, s, 0, 0}, b);
         put(w, EFFECT, 0);
         put_single(w, HOLDS, s);
         put_single(w, HOLDS, b);
@@ -511,9 +515,7 @@ static void put_tracker(Writer *w, uint32_t k, int last)
         put(w, ADD, b);
         break;
     default:
-        put(w, EFFECT, 0);
-        copy(w, open, second);
-        put(w, ADD, b);
+        put_false(w, second + 1, next, (Guard){0, s, open, second}, b);
         put(w, EFFECT, 0);
         copy(w, second + 1, next);
         put(w, DELETE, b);
@@ -525,20 +527,26 @@ static void put_trackers(Writer *w, int last)
     for (uint32_t k = 0; k < w->source->preferences; k++) put_tracker(w, k, last);
 }
 
+static uint64_t clauses(const Task *t, uint32_t at, uint32_t to)
+{
+    uint64_t count = 0;
+    for (; at < to; at++) count += t->marks[at] == CLAUSE;
+    return count;
+}
+
 /* How many rows the tracker of preference k has. */
 static uint64_t tracker_rows(const Task *t, uint32_t k, int last)
 {
     uint32_t open = t->side[k].open + 1, second = t->side[k].second, next = t->side[k].next;
-    uint64_t clauses = 0, phi = second - open, psi = next > second ? next - second - 1 : 0;
-    for (uint32_t i = open; i < second; i++) clauses += t->marks[i] == CLAUSE;
-    uint64_t denied = 2 * clauses + 2 * (phi - clauses); /* EFFECT and ADD of each clause; two rows for a literal */
+    uint64_t phi = second - open, psi = next > second ? next - second - 1 : 0;
     switch (t->marks[open - 1]) {
-    case ALWAYS: return denied;
+    /* of a denied condition, EFFECT and ADD of each clause, and two rows for a literal */
+    case ALWAYS: return 2 * phi;
     case AT_END: return last ? phi + 2 : 0;
     case SOMETIME: return phi + 2;
-    case AT_MOST_ONCE: return denied + 2 * clauses + 2 * (phi + 6);
+    case AT_MOST_ONCE: return 2 * phi + 2 * clauses(t, open, second) + 2 * (phi + 6);
     case SOMETIME_BEFORE: return psi + 2 + phi + 4;
-    default: return phi + 2 + psi + 2;
+    default: return 2 * psi + phi * clauses(t, second + 1, next) + psi + 2;
     }
 }
 

@@ -11,9 +11,7 @@ The vectors stand in data/vectors one after the other, each as two records: the 
 Where a text comes from:
 - refused 1 to 6: the account in tests/check/vectors.py. Refused 10 and 11: the function `refusal` below.
 - A verdict: the outside engine, which is the logic program meaning.lp run by gringo and clasp (Debian packages of these names).
-- A verdict on a task with a sometime-after preference: written by hand, in the function `sometime_after`, by document 01's house
-  reading (j > i). PDDL3 has another meaning (j >= i), so meaning.lp leaves this kind out and is never given such a task.
-Where an answer stands beside any other vector, it was written by hand too, and has to agree with the text.
+Where an answer stands beside a vector, it was written by hand, and has to agree with the text.
 """
 import itertools
 import json
@@ -28,7 +26,7 @@ import sys
 HERE = os.path.dirname(os.path.abspath(__file__))
 ACCOUNT = runpy.run_path(os.path.join(HERE, '../check/vectors.py'))
 check, file, record, store = ACCOUNT['check'], ACCOUNT['file'], ACCOUNT['record'], ACCOUNT['store']
-NAME, PREFERENCES, BELT = ACCOUNT['NAME'], ACCOUNT['PREFERENCES'], ACCOUNT['BELT']
+NAME, PREFERENCES, WITH_SECOND, BELT = (ACCOUNT[name] for name in ['NAME', 'PREFERENCES', 'WITH_SECOND', 'BELT'])
 
 
 # ---- the texts
@@ -123,18 +121,20 @@ def belt():
 
 
 def kinds():
-    """PDDL3's five kinds on traces picked by hand, document 01's (a) to (h) among them, and then on all short traces."""
+    """The kinds on traces picked by hand, document 01's (a) to (j) among them, and then on all short traces."""
     for kind, met, missed in [
             ('always', 'f ff fff fffffff', '- -- --- -ff f-f ff- f-- --f fffff-'),
             ('sometime', 'f f-- -f- --f ff- fff -----f', '- -- ---'),
             ('at-end', 'f -f ff --f fff f-f', '- f- ff- f-- -f- ---'),
             ('at-most-once', '- f -- f- -f ff ff- -ff -f- fff --f f-- -fff- ---ff', 'f-f f--f ff-f f-ff -f-f f-f- f-f-f ff--ff -f-f-f'),
-            ('sometime-before', '- p -p --- pf p-f pb -pf -pb p-b pff pfpf pp--f', 'f b f- b- -f -b fp bf ff -fp -bf fpf bpf fpb -f-p')]:
+            ('sometime-before', '- p -p --- pf p-f pb -pf -pb p-b pff pfpf pp--f', 'f b f- b- -f -b fp bf ff -fp -bf fpf bpf fpb -f-p'),
+            ('sometime-after', '- p b -- -b b- fp bp fb pb --p b-- f-p ffp bbp fpb fb- fpfp fp-- pbb-', 'f f- -f ff pf bf fpf fbf f-- pf- ppf fpfpf b-f-')]:
         for trace in met.split() + missed.split():
-            task_and_plan = traced(trace, f'{kind} 5 ' + (PHI_PSI if kind == 'sometime-before' else PHI))
+            task_and_plan = traced(trace, f'{kind} 5 ' + (PHI_PSI if kind in WITH_SECOND else PHI))
             yield f'{kind} {trace}', *task_and_plan, 'met' if trace in met.split() else 'missed'
     four = f'always 1 {PHI} sometime 2 {PHI} at-end 4 {PHI} at-most-once 8 {PHI}'
-    for what, letters, most, preferences in [('four kinds', '-f', 5, four), ('sometime-before', '-fpb', 3, f'sometime-before 1 {PHI_PSI}')]:
+    two = f'sometime-before 1 {PHI_PSI} sometime-after 2 {PHI_PSI}'
+    for what, letters, most, preferences in [('four kinds', '-f', 5, four), ('two kinds', '-fpb', 4, two)]:
         for trace in itertools.chain(*(itertools.product(letters, repeat=states) for states in range(1, most + 1))):
             yield f'{what} on all traces, ' + ''.join(trace), *traced(trace, preferences), ''
 
@@ -169,11 +169,15 @@ def facts_of_both_words():
 
 
 def empty_conditions():
-    six = 'always 1 sometime 2 at-end 4 at-most-once 8 sometime-before 16 SECOND sometime-before 32 SECOND CLAUSE HOLDS 0'
+    seven = ('always 1 sometime 2 at-end 4 at-most-once 8 sometime-before 16 SECOND sometime-before 32 SECOND CLAUSE HOLDS 0 '
+             'sometime-after 64 SECOND')
     for n, action in itertools.product(range(3), ['ACTION 1', 'ACTION 1 EFFECT ADD 0']):
-        yield f'all conditions empty, {n} steps of {action}', file(f'GOAL {action} {six}'), [0] * n, 'met met met met missed missed'
+        yield f'all conditions empty, {n} steps of {action}', file(f'GOAL {action} {seven}'), [0] * n, 'met met met met missed missed met'
     for trace, answer in [('f', 'missed'), ('-', 'met'), ('-f', 'met'), ('f-', 'missed'), ('ff', 'missed'), ('--f', 'met')]:
         yield f'empty ψ, {trace}', *traced(trace, 'sometime-before 9 CLAUSE HOLDS 0 SECOND'), answer
+        yield f'sometime-after with empty ψ, {trace}', *traced(trace, 'sometime-after 9 CLAUSE HOLDS 0 SECOND'), 'met'
+    for trace, answer in [('-', 'missed'), ('p', 'met'), ('-p', 'met'), ('p-', 'missed'), ('f-b', 'met'), ('b-f', 'missed')]:
+        yield f'sometime-after with empty φ, {trace}', *traced(trace, 'sometime-after 9 SECOND CLAUSE HOLDS 1'), answer
 
 
 def conditions():
@@ -189,7 +193,8 @@ def conditions():
                     ('precondition', f'GOAL ACTION {condition}', [0], ('stopped 0', 'solved')),
                     ('effect condition', f'GOAL ACTION EFFECT {condition} ADD 2 at-end 1 CLAUSE HOLDS 2', [0], ('missed', 'met')),
                     ('φ', f'GOAL always 1 {condition}', [], ('missed', 'met')),
-                    ('ψ', f'GOAL ACTION EFFECT ADD 2 sometime-before 1 CLAUSE HOLDS 2 SECOND {condition}', [0], ('missed', 'met'))]:
+                    ('ψ', f'GOAL ACTION EFFECT ADD 2 sometime-before 1 CLAUSE HOLDS 2 SECOND {condition}', [0], ('missed', 'met')),
+                    ('ψ in the state of φ', f'GOAL sometime-after 1 SECOND {condition}', [], ('missed', 'met'))]:
                 yield f'{condition} as {part}, {opening or "no START"}', file(f'{opening} {task}'), plan, answers[true]
 
 
@@ -243,17 +248,19 @@ def long_plans():
     yield '2,048 steps, stopped at the last', task, [0] * 2046 + [1, 2], 'stopped 2047'
     yield '2,048 steps, 16 preferences missed', file('GOAL ACTION 1000000' + f' always 1000000 {PHI}' * 16, F=1), [0] * 2048, '|'.join([
         'solved steps 2048 cost 2048000000', *(f'{k} always 1000000 missed' for k in range(16)), 'metric 2064000000 utility -2048000000'])
-    five = f'always 1 CLAUSE LACKS 0 sometime 2 {PHI} at-end 4 {PHI} at-most-once 8 {PHI} sometime-before 16 {PHI_PSI}'
+    six = (f'always 1 CLAUSE LACKS 0 sometime 2 {PHI} at-end 4 {PHI} at-most-once 8 {PHI} sometime-before 16 {PHI_PSI} '
+           f'sometime-after 32 {PHI_PSI}')
     for what, trace, answer in [
-            ('2,049 states, φ in the last alone', '-' * 2048 + 'f', 'missed met met met missed'),
-            ('2,049 states, φ in none', '-' * 2049, 'met missed missed met met'),
-            ('2,049 states, φ in 2,047 alone, ψ in 0', 'p' + '-' * 2046 + 'f-', 'missed met missed met met'),
-            ('2,049 states, φ in 2,046 and 2,048, ψ in 0', 'p' + '-' * 2045 + 'f-f', 'missed met met missed met'),
-            ('266 states, φ in 0 and 256', 'f' + '-' * 255 + 'f' + '-' * 9, 'missed met missed missed missed'),
-            ('259 states, φ in 256, ψ in 255', '-' * 255 + 'pf--', 'missed met missed met met'),
-            ('258 states, φ and ψ in 256', '-' * 256 + 'b-', 'missed met missed met missed'),
-            ('262 states, φ in 250 to 260', '-' * 250 + 'f' * 11 + '-', 'missed met missed met missed')]:
-        yield what, *traced(trace, five), answer
+            ('2,049 states, φ in the last alone', '-' * 2048 + 'f', 'missed met met met missed missed'),
+            ('2,049 states, φ in none', '-' * 2049, 'met missed missed met met met'),
+            ('2,049 states, φ in 2,047 alone, ψ in 0', 'p' + '-' * 2046 + 'f-', 'missed met missed met met missed'),
+            ('2,049 states, φ in 0 alone, ψ in the last', 'f' + '-' * 2047 + 'p', 'missed met missed met missed met'),
+            ('2,049 states, φ in 2,046 and 2,048, ψ in 0', 'p' + '-' * 2045 + 'f-f', 'missed met met missed met missed'),
+            ('266 states, φ in 0 and 256', 'f' + '-' * 255 + 'f' + '-' * 9, 'missed met missed missed missed missed'),
+            ('259 states, φ in 256, ψ in 255', '-' * 255 + 'pf--', 'missed met missed met met missed'),
+            ('258 states, φ and ψ in 256', '-' * 256 + 'b-', 'missed met missed met missed met'),
+            ('262 states, φ in 250 to 260', '-' * 250 + 'f' * 11 + '-', 'missed met missed met missed missed')]:
+        yield what, *traced(trace, six), answer
 
 
 def refused():
@@ -279,30 +286,8 @@ def refused():
             yield f'{what}, plan of {len(plan)}', data, plan, f'refused {answer}'
 
 
-def sometime_after():
-    """The house reading: for each state i with φ there is j > i with ψ. All texts are written by hand."""
-    for trace, steps, cost, outcome, metric, utility in [  # -b and fp are document 01's (i) and (j)
-            ('-', 0, 0, 'met', 0, 5), ('p', 0, 0, 'met', 0, 5), ('f', 0, 0, 'missed', 5, 0), ('b', 0, 0, 'missed', 5, 0),
-            ('fp', 1, 3, 'met', 3, 2), ('-b', 1, 4, 'missed', 9, -4), ('pf', 1, 2, 'missed', 7, -2), ('b-', 1, 1, 'missed', 6, -1),
-            ('bp', 1, 3, 'met', 3, 2), ('fb', 1, 4, 'missed', 9, -4), ('--p', 2, 4, 'met', 4, 1), ('f-p', 2, 4, 'met', 4, 1),
-            ('ffp', 2, 5, 'met', 5, 0), ('fpf', 2, 5, 'missed', 10, -5), ('bbp', 2, 7, 'met', 7, -2), ('fpfp', 3, 8, 'met', 8, -3),
-            ('fp--', 3, 5, 'met', 5, 0), ('pbb-', 3, 9, 'missed', 14, -9)]:
-        yield f'sometime-after {trace}', *traced(trace, f'sometime-after 5 {PHI_PSI}'), (
-            f'solved steps {steps} cost {cost}|0 sometime-after 5 {outcome}|metric {metric} utility {utility}')
-    for what, preferences, text in [
-            ('empty φ and ψ', 'sometime-after 5 SECOND', '0 sometime-after 5 missed|metric 8 utility -3'),
-            ('empty φ', 'sometime-after 5 SECOND CLAUSE HOLDS 1', '0 sometime-after 5 missed|metric 8 utility -3'),
-            ('empty ψ', 'sometime-after 5 CLAUSE HOLDS 0 SECOND', '0 sometime-after 5 met|metric 3 utility 2'),
-            ('among others', f'always 1 {PHI} sometime-after 2 {PHI_PSI} sometime-before 4 {PHI_PSI} '
-             'sometime-after 8 CLAUSE HOLDS 1 SECOND CLAUSE HOLDS 0',
-             '0 always 1 missed|1 sometime-after 2 met|2 sometime-before 4 missed|3 sometime-after 8 missed|metric 16 utility -1')]:
-        yield f'sometime-after fp, {what}', *traced('fp', preferences), 'solved steps 1 cost 3|' + text
-    for plan, text in [([0], 'stopped 0'), ([], 'goal missed'), ([1], 'refused 11 0')]:
-        yield f'sometime-after, {text}', file(f'GOAL {PHI} ACTION CLAUSE HOLDS 1 sometime-after 5 SECOND'), plan, text
-
-
 def random_tasks(count=200, seed=2009):
-    """Small tasks of PDDL3's five kinds. The conditions of goals and actions are mostly easy, so that most plans solve."""
+    """Small tasks of all kinds. The conditions of goals and actions are mostly easy, so that most plans solve."""
     r = random.Random(seed)
 
     def one_of(choices):  # by random() alone, which gives the same numbers in every version of Python
@@ -324,8 +309,8 @@ def random_tasks(count=200, seed=2009):
         return f' ACTION {one_of([0, 1, 2, 5, 9, MOST])}' + condition([0, 0, 0, 1], [3]) + some([1, 2, 3, 4], effect)
 
     def preference():
-        kind, phi, psi = one_of(PREFERENCES[:5]), condition([0, 1, 1, 1, 1, 2], [1, 1, 2]), condition([0, 1, 1, 1, 1, 2], [1, 1, 2])
-        return f' {kind} {one_of([0, 1, 4, 7, 30, MOST])}' + phi + (' SECOND' + psi if kind == 'sometime-before' else '')
+        kind, phi, psi = one_of(PREFERENCES), condition([0, 1, 1, 1, 1, 2], [1, 1, 2]), condition([0, 1, 1, 1, 1, 2], [1, 1, 2])
+        return f' {kind} {one_of([0, 1, 4, 7, 30, MOST])}' + phi + (' SECOND' + psi if kind in WITH_SECOND else '')
 
     for number in range(count):
         used = one_of([[0, 1], [0, 1, 2], [0, 1, 2, 3], [0, 63, 64, 127]])
@@ -338,12 +323,9 @@ def random_tasks(count=200, seed=2009):
 def vectors():
     """What each vector is for, the task file, the plan, and the text."""
     families = [belt, kinds, stopped_and_missed, facts_of_both_words, empty_conditions, conditions, effects, amounts, long_plans, refused,
-                sometime_after, random_tasks]
+                random_tasks]
     made = [(what, data, bytes(plan), answer) for family in families for what, data, plan, answer in family()]
     texts = {t: refusal(data, plan) for t, (_, data, plan, _) in enumerate(made)}
-    for t, (_, data, _, answer) in enumerate(made):
-        if not texts[t] and 'sometime-after' in dict(rows(data)):
-            texts[t] = answer.replace('|', '\n') + '\n'
     atoms = {t: {} for t in texts if not texts[t]}
     for predicate, t, *said in derived('\n'.join(fact for t in atoms for fact in facts(t, *made[t][1:3]))):
         atoms[t].setdefault(predicate, []).extend(said)

@@ -47,7 +47,7 @@ fn stepped(mark: u8, last: bool, m: Monitor, phi: bool, psi: bool) -> Monitor
         },
         _ => Monitor {
             s,
-            b: phi | b & !psi,
+            b: phi & !psi | b & !psi,
         },
     }
 }

@@ -62,7 +62,7 @@ examples =
     ∷ example "f" (outcome at-most-once (neither ∷ neither ∷ [])) met
     ∷ example "g" (outcome sometime-before (both ∷ neither ∷ [])) missed
     ∷ example "h" (outcome sometime-before (ψ ∷ φ ∷ [])) met
-    ∷ example "i" (outcome sometime-after (neither ∷ both ∷ [])) missed
+    ∷ example "i" (outcome sometime-after (neither ∷ both ∷ [])) met
     ∷ example "j" (outcome sometime-after (φ ∷ ψ ∷ [])) met
     ∷ example "k" (metric-of (metric (taskOf belt) (one 0))) (metric-of 8)
     ∷ example "l" (cond (after (λ n. false) addsAndDeletes 0) held lacking) held

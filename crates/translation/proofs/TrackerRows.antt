@@ -18,29 +18,41 @@ use Rattle.translation.specs.Writer.{part}
 use Rattle.translation.specs.Places.{Located}
 use Rattle.translation.specs.declared.places.Sides.{Sides}
 use Rattle.task.proofs.Reading.{mark-at}
-use Rattle.translation.specs.Rows.{changeRows, guardRows, closeRows, falseRow, falseRows, onceRows, beforeRows, afterRows, trackerRows}
+use Rattle.translation.specs.Rows.{singleRows, changeRows, closeRows, falseRow, falseRows, onceRows, beforeRows, afterRows, trackerRows}
 use Rattle.translation.specs.Parts.{preferenceTrackers, allTrackerRows}
 use Rattle.translation.proofs.Putting.{Onward, next-row, no-row}
 
--- The loop over the rows of φ
+-- The loop over the rows of a condition
 
 -- j is the next row to read and k the next to write
-pub record Falsified (b₀ : List ℕ) (n i : ℕ) (ms vs : List ℕ) (from to : ℕ) (guarded : Bool) (s b : ℕ) (out : List ℕ) (begun : Bool) (k j : ℕ) : Type 0 where
+pub record Falsified (b₀ : List ℕ) (n i : ℕ) (ms vs : List ℕ) (from to : ℕ) (gs : List Row) (b : ℕ) (out : List ℕ) (begun : Bool) (k j : ℕ) : Type 0 where
   pub size : length out ≡ length b₀
-  pub onward : Onward b₀ n i (falseRows guarded s b false (part ms vs from to)) out k (falseRows guarded s b begun (part ms vs j to))
+  pub onward : Onward b₀ n i (falseRows gs b false (part ms vs from to)) out k (falseRows gs b begun (part ms vs j to))
 
-module _ (ms vs : List ℕ) (j to : ℕ) (guarded : Bool) (s b : ℕ) (begun : Bool) where
+module _ (ms vs : List ℕ) (j to : ℕ) (gs : List Row) (b : ℕ) (begun : Bool) where
   pub next-false : j < to → j < length ms → (v : ℕ) → v ≡ valueAt vs j
-      → falseRow guarded s b begun (getD ms j 0) v ++ falseRows guarded s b (begun || eqb (getD ms j 0) CLAUSE) (part ms vs (j + 1) to)
-      ≡ falseRows guarded s b begun (part ms vs j to)
+      → falseRow gs b begun (getD ms j 0) v ++ falseRows gs b (begun || eqb (getD ms j 0) CLAUSE) (part ms vs (j + 1) to)
+      ≡ falseRows gs b begun (part ms vs j to)
   unfolding falseRows
   next-false h l v e =
-      ap (λ (u : ℕ). falseRow guarded s b begun (getD ms j 0) u ++ falseRows guarded s b (begun || eqb (getD ms j 0) CLAUSE) (part ms vs (j + 1) to)) e
-      ∙ ap (falseRows guarded s b begun) (sym (next-row ms vs j to h l))
+      ap (λ (u : ℕ). falseRow gs b begun (getD ms j 0) u ++ falseRows gs b (begun || eqb (getD ms j 0) CLAUSE) (part ms vs (j + 1) to)) e
+      ∙ ap (falseRows gs b begun) (sym (next-row ms vs j to h l))
 
-  pub last-false : to ≤ j → closeRows begun b ≡ falseRows guarded s b begun (part ms vs j to)
+  pub last-false : to ≤ j → closeRows begun b ≡ falseRows gs b begun (part ms vs j to)
   unfolding falseRows
-  last-false h = ap (falseRows guarded s b begun) (sym (no-row ms vs j to h))
+  last-false h = ap (falseRows gs b begun) (sym (no-row ms vs j to h))
+
+-- Guards
+
+-- the clause of a fact that holds, row by row
+pub clause-by-rows : (held : Bool) (n : ℕ) (xs : List Row)
+    → cond held (row CLAUSE 0 ∷ []) [] ++ (cond held (row HOLDS n ∷ []) [] ++ xs) ≡ cond held (singleRows HOLDS n) [] ++ xs
+clause-by-rows true n xs = refl
+clause-by-rows false n xs = refl
+
+-- no rows of the source
+pub no-rows : (ms vs : List ℕ) (gs : List Row) (b : ℕ) (xs : List Row) → falseRows (gs ++ part ms vs 0 0) b false xs ≡ falseRows gs b false xs
+no-rows ms vs gs b xs = ap (λ (hs : List Row). falseRows hs b false xs) (ap (λ (hs : List Row). gs ++ hs) (no-row ms vs 0 0 (omega arith)) ∙ append-nil gs)
 
 -- What they spell
 
@@ -78,59 +90,48 @@ delete-rows g φ n =
       append-nil (conditionRows (g ++ φ)),
     )
 
-abbrev guard : Bool → ℕ → Condition
-guard guarded s = cond guarded (alone (one (holdsFact s))) []
-
-module _ (guarded : Bool) (s b : ℕ) where
-  guard-rows : guardRows guarded s ≡ conditionRows (guard guarded s)
-  guard-rows = go guarded
-    where
-      go : (g : Bool) → guardRows g s ≡ conditionRows (guard g s)
-      go true = refl
-      go false = refl
+module _ (g : Condition) (b : ℕ) where
+  abbrev gs : List Row
+  gs = conditionRows g
 
   literal-false : (h : Bool) (n : ℕ) (xs : List Row)
-      → falseRows guarded s b true (row (cond h HOLDS LACKS) n ∷ xs) ≡ row CLAUSE 0 ∷ row (cond (not h) HOLDS LACKS) n ∷ falseRows guarded s b true xs
+      → falseRows gs b true (row (cond h HOLDS LACKS) n ∷ xs) ≡ row CLAUSE 0 ∷ row (cond (not h) HOLDS LACKS) n ∷ falseRows gs b true xs
   unfolding falseRows
   literal-false true n xs = refl
   literal-false false n xs = refl
 
   literals-false : (ls : Clause) (xs : List Row)
-      → falseRows guarded s b true (map literalRow ls ++ xs) ≡ conditionRows (alone (map deny ls)) ++ falseRows guarded s b true xs
+      → falseRows gs b true (map literalRow ls ++ xs) ≡ conditionRows (alone (map deny ls)) ++ falseRows gs b true xs
   literals-false [] xs = refl
   literals-false (l ∷ ls) xs =
       literal-false (l .holds) (l .fact) (map literalRow ls ++ xs)
       ∙ ap (λ (zs : List Row). row CLAUSE 0 ∷ literalRow (deny l) ∷ zs) (literals-false ls xs)
 
-  -- one clause, with the rest of φ behind it
-  clause-false : (ls : Clause) (xs ys : List Row) → falseRows guarded s b true xs ≡ row ADD b ∷ ys
-      → row EFFECT 0 ∷ (guardRows guarded s ++ falseRows guarded s b true (map literalRow ls ++ xs))
-      ≡ effectRows (effect (guard guarded s ++ alone (map deny ls)) (one b) []) ++ ys
+  -- one clause, with the rest of the condition behind it
+  clause-false : (ls : Clause) (xs ys : List Row) → falseRows gs b true xs ≡ row ADD b ∷ ys
+      → row EFFECT 0 ∷ (gs ++ falseRows gs b true (map literalRow ls ++ xs)) ≡ effectRows (effect (g ++ alone (map deny ls)) (one b) []) ++ ys
   clause-false ls xs ys e =
-      let g : List Row = guardRows guarded s in
       let d : List Row = conditionRows (alone (map deny ls)) in
-      ap (λ (zs : List Row). row EFFECT 0 ∷ (g ++ zs)) (literals-false ls xs ∙ ap (λ (zs : List Row). d ++ zs) e ∙ sym (append-assoc d (row ADD b ∷ []) ys))
-      ∙ ap (λ (zs : List Row). row EFFECT 0 ∷ zs) (sym (append-assoc g (d ++ (row ADD b ∷ [])) ys))
-      ∙ ap (λ (zs : List Row). (row EFFECT 0 ∷ (zs ++ (d ++ (row ADD b ∷ [])))) ++ ys) guard-rows
-      ∙ ap (λ (zs : List Row). zs ++ ys) (sym (add-rows (guard guarded s) (alone (map deny ls)) b))
+      ap (λ (zs : List Row). row EFFECT 0 ∷ (gs ++ zs)) (literals-false ls xs ∙ ap (λ (zs : List Row). d ++ zs) e ∙ sym (append-assoc d (row ADD b ∷ []) ys))
+      ∙ ap (λ (zs : List Row). row EFFECT 0 ∷ zs) (sym (append-assoc gs (d ++ (row ADD b ∷ [])) ys))
+      ∙ ap (λ (zs : List Row). zs ++ ys) (sym (add-rows g (alone (map deny ls)) b))
 
-  clauses-false : (φ : Condition) → falseRows guarded s b true (conditionRows φ) ≡ row ADD b ∷ concatMap effectRows (eachFalse (guard guarded s) φ (one b))
+  clauses-false : (φ : Condition) → falseRows gs b true (conditionRows φ) ≡ row ADD b ∷ concatMap effectRows (eachFalse g φ (one b))
   unfolding falseRows
   clauses-false [] = refl
   clauses-false (c ∷ φ) =
-      ap (λ (zs : List Row). row ADD b ∷ zs)
-      (clause-false c (conditionRows φ) (concatMap effectRows (eachFalse (guard guarded s) φ (one b))) (clauses-false φ))
+      ap (λ (zs : List Row). row ADD b ∷ zs) (clause-false c (conditionRows φ) (concatMap effectRows (eachFalse g φ (one b))) (clauses-false φ))
 
-  pub false-is : (φ : Condition) → falseRows guarded s b false (conditionRows φ) ≡ concatMap effectRows (eachFalse (guard guarded s) φ (one b))
+  pub false-is : (φ : Condition) → falseRows gs b false (conditionRows φ) ≡ concatMap effectRows (eachFalse g φ (one b))
   unfolding falseRows
   false-is [] = refl
-  false-is (c ∷ φ) = clause-false c (conditionRows φ) (concatMap effectRows (eachFalse (guard guarded s) φ (one b))) (clauses-false φ)
+  false-is (c ∷ φ) = clause-false c (conditionRows φ) (concatMap effectRows (eachFalse g φ (one b))) (clauses-false φ)
 
 -- the trackers of a kind
 pub kind-rows : (k : Kind) (last : Bool) (s b : ℕ) (φ ψ : Condition)
     → trackerRows (kindMark k) last s b (conditionRows φ) (conditionRows ψ) ≡ concatMap effectRows (trackersOf k last s b φ ψ)
 unfolding trackerRows
-kind-rows always last s b φ ψ = false-is false s b φ
+kind-rows always last s b φ ψ = false-is [] b φ
 kind-rows sometime last s b φ ψ = sym (add-rows [] φ s) ∙ sym (append-nil (effectRows (effect φ (one s) [])))
 kind-rows at-end true s b φ ψ = sym (add-rows [] φ s) ∙ sym (append-nil (effectRows (effect φ (one s) [])))
 kind-rows at-end false s b φ ψ = refl
@@ -139,19 +140,21 @@ kind-rows at-most-once last s b φ ψ =
     let es : List Effect = eachFalse (alone (one (holdsFact s))) φ (one b) in
     let e₂ : Effect = effect (alone (holdsFact s ∷ holdsFact b ∷ []) ++ φ) [] (one s) in
     (λ i. sym (add-rows (alone (lacksFact s ∷ lacksFact b ∷ [])) φ s) i
-    ++ (false-is true s b φ i ++ sym (delete-rows (alone (holdsFact s ∷ holdsFact b ∷ [])) φ s) i))
+    ++ (false-is (alone (one (holdsFact s))) b φ i ++ sym (delete-rows (alone (holdsFact s ∷ holdsFact b ∷ [])) φ s) i))
     ∙ ap (λ (zs : List Row). effectRows e₁ ++ (concatMap effectRows es ++ zs)) (sym (append-nil (effectRows e₂)))
     ∙ ap (λ (zs : List Row). effectRows e₁ ++ zs) (sym (effects-append es (one e₂)))
 kind-rows sometime-before last s b φ ψ =
     let e₂ : Effect = effect (alone (one (lacksFact s)) ++ φ) (one b) [] in
     (λ i. sym (add-rows [] ψ s) i ++ (sym (add-rows (alone (one (lacksFact s))) φ b) ∙ sym (append-nil (effectRows e₂))) i)
 kind-rows sometime-after last s b φ ψ =
-    (λ i. sym (add-rows [] φ b) i ++ (sym (delete-rows [] ψ b) ∙ sym (append-nil (effectRows (effect ψ [] (one b))))) i)
+    let e₂ : Effect = effect ψ [] (one b) in
+    (λ i. false-is φ b ψ i ++ (sym (delete-rows [] ψ b) ∙ sym (append-nil (effectRows e₂))) i)
+    ∙ sym (effects-append (eachFalse φ ψ (one b)) (one e₂))
 
 -- The trackers by a mark
 
 module _ (m : ℕ) (last : Bool) (s b : ℕ) (xs ys : List Row) where
-  pub by-always : m ≡ 10 → falseRows false s b false xs ≡ trackerRows m last s b xs ys
+  pub by-always : m ≡ 10 → falseRows [] b false xs ≡ trackerRows m last s b xs ys
   unfolding trackerRows
   by-always e = rw e
 

@@ -15,6 +15,15 @@ use super::writer;
 use task::marks;
 use task::rows;
 
+// What an effect has before the denied literals of a clause: that a fact holds, where `held` says so, and the rows from
+// `from` up to `to`.
+pub struct Guard {
+    pub held: bool,
+    pub fact: u32,
+    pub from: usize,
+    pub to: usize,
+}
+
 // HOLDS for LACKS, LACKS for HOLDS.
 fn denied(mark: u8) -> u8
     ensures { λ r. ⌜ r ≡ deniedMark mark ⌝ }
@@ -37,41 +46,41 @@ fn put_where(out: &mut [u8], n: usize, i: usize, wanted: bool, mark: u8, value: 
     writer::put_row(&mut *out, n, i, mark, value)
 }
 
-// Opens an effect, with holds s as its first clause where it is guarded.
-fn open_effect(out: &mut [u8], n: usize, i: usize, guarded: bool, s: u32) -> usize
-    requires { ⌜ (n ≤ 12000) × (8 + 5 * n ≤ length (now out)) ⌝ }
-    ensures { λ r. ⌜ Wrote (now (out .entry)) n i (row EFFECT 0 ∷ guardRows guarded s) r (now (out .exit)) ⌝ }
+// Opens an effect, with its guard.
+fn open_effect(out: &mut [u8], n: usize, i: usize, marks: &[u8], values: &[u8], g: Guard) -> usize
+    requires { ⌜ (n ≤ 12000) × (8 + 5 * n ≤ length (now out)) × (4 * length (now marks) ≤ length (now values)) × (g .to ≤ length (now marks)) ⌝ }
+    ensures { λ r. ⌜ Wrote (now (out .entry)) n i (row EFFECT 0 ∷ guardRows (now (marks .entry)) (now (values .entry)) g) r (now (out .exit)) ⌝ }
 {
     let k = writer::put_row(&mut *out, n, i, marks::EFFECT, 0);
-    if !guarded {
-        return k;
-    }
-    writer::put_single(&mut *out, n, k, marks::HOLDS, s)
+    let k = put_where(&mut *out, n, k, g.held, marks::CLAUSE, 0);
+    let k = put_where(&mut *out, n, k, g.held, marks::HOLDS, g.fact);
+    writer::copy_rows(&mut *out, n, k, marks, values, g.from, g.to)
 }
 
-// One row of φ: a clause opens the next effect, a literal is denied. `begun` says that an effect is open.
+// One row of a condition: a clause opens the next effect, a literal is denied. `begun` says that an effect is open.
 fn false_row(
     out: &mut [u8],
     n: usize,
     i: usize,
+    marks: &[u8],
+    values: &[u8],
+    g: Guard,
     mark: u8,
     value: u32,
     begun: bool,
-    guarded: bool,
-    s: u32,
     b: u32,
 ) -> usize
-    requires { ⌜ (n ≤ 12000) × (8 + 5 * n ≤ length (now out)) ⌝ }
-    ensures { λ r. ⌜ Wrote (now (out .entry)) n i (falseRow guarded s b begun mark value) r (now (out .exit)) ⌝ }
+    requires { ⌜ (n ≤ 12000) × (8 + 5 * n ≤ length (now out)) × (4 * length (now marks) ≤ length (now values)) × (g .to ≤ length (now marks)) ⌝ }
+    ensures { λ r. ⌜ Wrote (now (out .entry)) n i (falseRow (guardRows (now (marks .entry)) (now (values .entry)) g) b begun mark value) r (now (out .exit)) ⌝ }
 {
     if mark != marks::CLAUSE {
         return writer::put_single(&mut *out, n, i, denied(mark), value);
     }
     let k = put_where(&mut *out, n, i, begun, marks::ADD, b);
-    open_effect(&mut *out, n, k, guarded, s)
+    open_effect(&mut *out, n, k, marks, values, g)
 }
 
-// One effect for each clause of φ, which adds b where the clause is false.
+// One effect for each clause of a condition, which adds b where the guard is true and the clause is false.
 fn each_false(
     out: &mut [u8],
     n: usize,
@@ -80,12 +89,11 @@ fn each_false(
     values: &[u8],
     from: usize,
     to: usize,
-    guarded: bool,
-    s: u32,
+    g: Guard,
     b: u32,
 ) -> usize
-    requires { ⌜ (n ≤ 12000) × (8 + 5 * n ≤ length (now out)) × (4 * length (now marks) ≤ length (now values)) × (to ≤ length (now marks)) ⌝ }
-    ensures { λ r. ⌜ Wrote (now (out .entry)) n i (falseRows guarded s b false (part (now (marks .entry)) (now (values .entry)) from to)) r (now (out .exit)) ⌝ }
+    requires { ⌜ (n ≤ 12000) × (8 + 5 * n ≤ length (now out)) × (4 * length (now marks) ≤ length (now values)) × (to ≤ length (now marks)) × (g .to ≤ length (now marks)) ⌝ }
+    ensures { λ r. ⌜ Wrote (now (out .entry)) n i (falseRows (guardRows (now (marks .entry)) (now (values .entry)) g) b false (part (now (marks .entry)) (now (values .entry)) from to)) r (now (out .exit)) ⌝ }
 {
     let mut begun = false;
     let mut k = i;
@@ -99,11 +107,12 @@ fn each_false(
             &mut *out,
             n,
             k,
+            marks,
+            values,
+            g,
             mark,
             rows::value_at(values, j),
             begun,
-            guarded,
-            s,
             b,
         );
         begun = begun | (mark == marks::CLAUSE);
@@ -173,6 +182,28 @@ fn put_guarded(
     put_change(&mut *out, n, k, marks, values, from, to, mark, s)
 }
 
+fn always(
+    out: &mut [u8],
+    n: usize,
+    i: usize,
+    marks: &[u8],
+    values: &[u8],
+    from: usize,
+    to: usize,
+    b: u32,
+) -> usize
+    requires { ⌜ (n ≤ 12000) × (8 + 5 * n ≤ length (now out)) × (4 * length (now marks) ≤ length (now values)) × (to ≤ length (now marks)) ⌝ }
+    ensures { λ r. ⌜ Wrote (now (out .entry)) n i (falseRows [] b false (part (now (marks .entry)) (now (values .entry)) from to)) r (now (out .exit)) ⌝ }
+{
+    let g = Guard {
+        held: false,
+        fact: b,
+        from: 0,
+        to: 0,
+    };
+    each_false(&mut *out, n, i, marks, values, from, to, g, b)
+}
+
 fn at_most_once(
     out: &mut [u8],
     n: usize,
@@ -200,7 +231,13 @@ fn at_most_once(
         b,
         marks::ADD,
     );
-    let k = each_false(&mut *out, n, k, marks, values, from, to, true, s, b);
+    let g = Guard {
+        held: true,
+        fact: s,
+        from: 0,
+        to: 0,
+    };
+    let k = each_false(&mut *out, n, k, marks, values, from, to, g, b);
     put_guarded(
         &mut *out,
         n,
@@ -233,7 +270,13 @@ fn two_sided(
     ensures { λ r. ⌜ Wrote (now (out .entry)) n i (cond before (beforeRows s b (part (now (marks .entry)) (now (values .entry)) from (p .mid)) (part (now (marks .entry)) (now (values .entry)) (p .second) (p .next))) (afterRows b (part (now (marks .entry)) (now (values .entry)) from (p .mid)) (part (now (marks .entry)) (now (values .entry)) (p .second) (p .next)))) r (now (out .exit)) ⌝ }
 {
     if !before {
-        let k = put_effect(&mut *out, n, i, marks, values, from, p.mid, marks::ADD, b);
+        let g = Guard {
+            held: false,
+            fact: b,
+            from,
+            to: p.mid,
+        };
+        let k = each_false(&mut *out, n, i, marks, values, p.second, p.next, g, b);
         return put_effect(
             &mut *out,
             n,
@@ -301,7 +344,7 @@ fn trackers_of(
 {
     let b = s + 1;
     match mark {
-        marks::ALWAYS => each_false(&mut *out, n, i, marks, values, from, p.mid, false, s, b),
+        marks::ALWAYS => always(&mut *out, n, i, marks, values, from, p.mid, b),
         marks::AT_MOST_ONCE => at_most_once(&mut *out, n, i, marks, values, from, p.mid, s, b),
         marks::SOMETIME..=marks::AT_END => {
             let wanted = (mark == marks::SOMETIME) | last;

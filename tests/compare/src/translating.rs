@@ -141,6 +141,19 @@ fn long(rows: usize) -> Task {
     }
 }
 
+/// A task with a sometime-after rule of several clauses on each side, whose translation has `rows` rows: the goal is one
+/// clause, as long as that takes.
+fn followed(rows: usize) -> Task {
+    let task = |literals| Task {
+        goal: vec![vec![literal(0); literals]],
+        ..ruled(2, vec![preference(Kind::SometimeAfter, 12)])
+    };
+    let least = peer::translate(&peer::encode(&task(1)), peer::random::MAX_FILE)
+        .expect("a translation")
+        .len();
+    task(1 + rows - (least - 8) / 5)
+}
+
 /// The library refuses by `number`, or writes the translation where that is 0, in an area that just fits and in one with room
 /// to spare; in one that is a byte short it refuses by 9.
 fn edge(what: &str, task: &Task, number: u32) -> Result<(), String> {
@@ -175,11 +188,19 @@ pub fn edges() -> Result<(), String> {
     edge("F 127 with P 0", &task(127, 2, 0), refused::TOO_MANY)?;
     edge("12,000 rows", &long(11_991), 0)?;
     edge("12,001 rows", &long(11_992), refused::TRANSLATION_ROWS)?;
+    edge("12,000 rows with sometime-after", &followed(12_000), 0)?;
+    edge(
+        "12,001 rows with sometime-after",
+        &followed(12_001),
+        refused::TRANSLATION_ROWS,
+    )?;
     edge("A 0", &task(3, 0, 2), 0)?;
     edge("P 0", &task(3, 2, 0), 0)?;
     edge("A 0 and P 0", &task(3, 0, 0), 0)?;
     for kind in Kind::ALL {
-        for clauses in [0, 1, 2, 5, 40] {
+        // sometime-after has φ once for each clause of ψ.
+        let many = if kind == Kind::SometimeAfter { 16 } else { 40 };
+        for clauses in [0, 1, 2, 5, many] {
             edge("a kind", &ruled(2, vec![preference(kind, clauses); 2]), 0)?;
         }
         // Each of 95 actions has the trackers of 16 preferences of 220 clauses, about a million rows in all; at-end's stand in

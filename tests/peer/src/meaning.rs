@@ -86,8 +86,8 @@ pub fn met(preference: &Preference, states: &[State]) -> bool {
         }
         // For each state i with φ there is j < i with ψ.
         Kind::SometimeBefore => (0..=n).all(|i| !phi[i] || (0..i).any(|j| psi[j])),
-        // For each state i with φ there is j > i with ψ.
-        Kind::SometimeAfter => (0..=n).all(|i| !phi[i] || (i + 1..=n).any(|j| psi[j])),
+        // For each state i with φ there is j >= i with ψ.
+        Kind::SometimeAfter => (0..=n).all(|i| !phi[i] || (i..=n).any(|j| psi[j])),
     }
 }
 

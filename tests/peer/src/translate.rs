@@ -185,7 +185,12 @@ fn trackers(layout: Layout, k: usize, preference: &Preference) -> Vec<Effect> {
             effects
         }
         Kind::SometimeBefore => vec![adding(psi(), s), adding(behind(&[lacks(s)], phi()), b)],
-        Kind::SometimeAfter => vec![adding(phi(), b), deleting(psi(), b)],
+        Kind::SometimeAfter => {
+            let unfollowed = |clause| adding([phi(), denied(clause)].concat(), b);
+            let mut effects: Vec<Effect> = preference.psi.iter().map(unfollowed).collect();
+            effects.push(deleting(psi(), b));
+            effects
+        }
     }
 }
 

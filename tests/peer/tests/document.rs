@@ -81,8 +81,8 @@ fn names_of_kinds() {
     assert_eq!(
         report(&task, &[]),
         "solved steps 0 cost 0\n0 always 0 met\n1 sometime 1 met\n2 at-end 2 met\n\
-         3 at-most-once 3 met\n4 sometime-before 4 missed\n5 sometime-after 1000000 missed\n\
-         metric 1000004 utility 6\n"
+         3 at-most-once 3 met\n4 sometime-before 4 missed\n5 sometime-after 1000000 met\n\
+         metric 4 utility 1000006\n"
     );
 }
 
@@ -125,6 +125,7 @@ fn trackers_by_kind() {
     let psi = "CLAUSE LACKS 2 HOLDS 1";
     let not_0 = "CLAUSE LACKS 0 CLAUSE HOLDS 1";
     let not_1 = "CLAUSE LACKS 2";
+    let not_psi = "CLAUSE HOLDS 2 CLAUSE LACKS 1";
     // Facts: S 3, B 4, C 5, normal 6, ended 7.
     let table = [
         (
@@ -162,8 +163,11 @@ fn trackers_by_kind() {
             "CLAUSE HOLDS 4",
         ),
         (
-            format!("sometime-after 9 {phi} SECOND {psi}"),
-            format!("EFFECT {phi} ADD 4 EFFECT {psi} DELETE 4"),
+            format!("sometime-after 9 {phi} SECOND {psi} CLAUSE HOLDS 0"),
+            format!(
+                "EFFECT {phi} {not_psi} ADD 4 EFFECT {phi} CLAUSE LACKS 0 ADD 4 \
+                 EFFECT {psi} CLAUSE HOLDS 0 DELETE 4"
+            ),
             "CLAUSE LACKS 4",
             "CLAUSE HOLDS 4",
         ),
@@ -215,7 +219,7 @@ fn lettered_examples() {
     assert!(outcome(Kind::AtMostOnce, "FF", "FF"), "f");
     assert!(!outcome(Kind::SometimeBefore, "TFF", "TFF"), "g");
     assert!(outcome(Kind::SometimeBefore, "FTF", "TFF"), "h");
-    assert!(!outcome(Kind::SometimeAfter, "FFT", "FFT"), "i");
+    assert!(outcome(Kind::SometimeAfter, "FFT", "FFT"), "i");
     assert!(outcome(Kind::SometimeAfter, "TFF", "FTF"), "j");
     let both = file(
         1,

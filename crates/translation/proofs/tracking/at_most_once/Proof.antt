@@ -1,4 +1,9 @@
-use Rattle.translation.proofs.Putting.{then}
+use denote.Ref.{now}
+use Rattle.task.specs.Marks.{HOLDS}
+use Rattle.translation.specs.Writer.{part}
+use Rattle.translation.specs.Rows.{singleRows}
+use Rattle.translation.proofs.Putting.{then, as-rows}
+use Rattle.translation.proofs.TrackerRows.{no-rows}
 use borrow.Author.Needs.{needs}
 use Rattle.translation.proofs.tracking.at_most_once.Statement.{statement}
 use Rattle.translation.proofs.tracking.at_most_once.Tie as tie
@@ -16,7 +21,15 @@ same-length : tie.Need-same-length
 same-length c = search needs
 
 returns : tie.Need-returns
-returns c = then (search needs) (c .before .before .before .before .before .before .before .before .before .before .put-guarded .ensures) (then (search needs) (c .before .before .before .before .before .before .each-false .ensures) (c .before .before .put-guarded2 .ensures))
+returns c =
+    let g₂ = c .before .before in
+    let e = g₂ .before .before .before .before in
+    let g₁ = e .before .before .before .before in
+    let a = g₁ .before .before .before .before .before .args in
+    then (search needs) (g₁ .put-guarded .ensures)
+    (then (search needs)
+    (as-rows (no-rows (now (a .marks)) (now (a .values)) (singleRows HOLDS (a .s)) (a .b) (part (now (a .marks)) (now (a .values)) (a .from) (a .to))) (e .each-false .ensures))
+    (g₂ .put-guarded2 .ensures))
 
 pub at-most-once-spec : {M : Type 1} → statement M
 at-most-once-spec =

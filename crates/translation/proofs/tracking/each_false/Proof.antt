@@ -4,16 +4,16 @@ use Prim.Native.Nat.{_-_}
 use denote.Ref.{now}
 use Rattle.translation.proofs.Putting.{then, as-rows, wrote-full}
 use Rattle.translation.specs.Writer.{part}
-use Rattle.translation.specs.Rows.{falseRows}
+use Rattle.translation.specs.Rows.{guardRows, falseRows}
 use Rattle.translation.proofs.TrackerRows.{Falsified, next-false, last-false}
 use Rattle.translation.proofs.tracking.each_false.Statement.{statement}
 use Rattle.translation.proofs.tracking.each_false.Tie as tie
 
 abbrev Inv-loop : tie.InvT-loop
-Inv-loop out₀ n i marks values from to guarded s b begun₀ k₀ j₀ out begun k j = Falsified out₀ n i marks values from to guarded s b out begun k j
+Inv-loop out₀ n i marks values from to g b begun₀ k₀ j₀ out begun k j = Falsified out₀ n i marks values from to (guardRows marks values g) b out begun k j
 
 abbrev μ-loop : tie.MeasureT-loop
-μ-loop out₀ n i marks values from to guarded s b begun₀ k₀ j₀ out begun k j = to - j
+μ-loop out₀ n i marks values from to g b begun₀ k₀ j₀ out begun k j = to - j
 
 loop-holds : tie.Need-loop-holds Inv-loop μ-loop
 loop-holds c = record { size = refl; onward = λ r o w. w }
@@ -26,7 +26,7 @@ returns c =
     let l = c .before .before in
     let a = l .before .before .before .before .args in
     l .loop .inv .onward (l .loop .k) (l .loop .out)
-    (wrote-full (l .loop .out) (a .n) (l .loop .k) (falseRows (a .guarded) (a .s) (a .b) (l .loop .begun) (part (now (a .marks)) (now (a .values)) (l .loop .j) (a .to))) (search needs) (search needs))
+    (wrote-full (l .loop .out) (a .n) (l .loop .k) (falseRows (guardRows (now (a .marks)) (now (a .values)) (a .g)) (a .b) (l .loop .begun) (part (now (a .marks)) (now (a .values)) (l .loop .j) (a .to))) (search needs) (search needs))
 
 shared-slice-read-mark : tie.Need-shared-slice-read-mark Inv-loop μ-loop
 shared-slice-read-mark c = search needs
@@ -52,7 +52,7 @@ loop-again c =
     record {
       size = p .false-row .kept .0 ∙ l .loop .inv .size;
       onward = λ r o w. l .loop .inv .onward r o
-          (as-rows (next-false (now (a .marks)) (now (a .values)) (l .loop .j) (a .to) (a .guarded) (a .s) (a .b) (l .loop .begun) (search needs) (search needs)
+          (as-rows (next-false (now (a .marks)) (now (a .values)) (l .loop .j) (a .to) (guardRows (now (a .marks)) (now (a .values)) (a .g)) (a .b) (l .loop .begun) (search needs) (search needs)
           (v .value-at .result) (v .value-at .ensures))
           (then (search needs) (p .false-row .ensures) w));
     }
@@ -69,7 +69,7 @@ returns-2 c =
     let l = p .before .before .before in
     let a = l .before .before .before .before .args in
     l .loop .inv .onward (p .put-where .result) _
-    (as-rows (last-false (now (a .marks)) (now (a .values)) (l .loop .j) (a .to) (a .guarded) (a .s) (a .b) (l .loop .begun) (search needs)) (p .put-where .ensures))
+    (as-rows (last-false (now (a .marks)) (now (a .values)) (l .loop .j) (a .to) (guardRows (now (a .marks)) (now (a .values)) (a .g)) (a .b) (l .loop .begun) (search needs)) (p .put-where .ensures))
 
 pub each-false-spec : {M : Type 1} → statement M
 each-false-spec =

@@ -15,7 +15,7 @@ same-length c = search needs
 
 returns : tie.Need-returns
 returns c =
-    let a = c .before .before .before .before .before .before .before .args in
+    let a = c .before .before .before .before .before .before .before .before .before .args in
     rw (ne-eqb (a .mark) 3 (c .before .before .before .before .before .if1 .taken), ← (c .before .before .before .denied .ensures)) (c .before .before .put-single .ensures)
 
 put-where-requires : tie.Need-put-where-requires

@@ -1,5 +1,11 @@
-use borrow.Author.Tests.{not-true, not-false}
-use Rattle.translation.proofs.Putting.{then}
+use mathlib.Core.Path.{ap}
+use mathlib.Core.List.{List, _∷_}
+use denote.Ref.{now}
+use Rattle.task.specs.Marks.{EFFECT}
+use Rattle.task.specs.Task.{Row, row}
+use Rattle.translation.specs.Writer.{part}
+use Rattle.translation.proofs.Putting.{then, as-rows}
+use Rattle.translation.proofs.TrackerRows.{clause-by-rows}
 use borrow.Author.Needs.{needs}
 use Rattle.translation.proofs.tracking.open_effect.Statement.{statement}
 use Rattle.translation.proofs.tracking.open_effect.Tie as tie
@@ -7,22 +13,29 @@ use Rattle.translation.proofs.tracking.open_effect.Tie as tie
 put-row-requires : tie.Need-put-row-requires
 put-row-requires c κs = search needs
 
+put-where-requires : tie.Need-put-where-requires
+put-where-requires c κs = search needs
+
+put-where-requires-2 : tie.Need-put-where-requires-2
+put-where-requires-2 c κs = search needs
+
+copy-rows-requires : tie.Need-copy-rows-requires
+copy-rows-requires c κs = search needs
+
 same-length : tie.Need-same-length
 same-length c = search needs
 
 returns : tie.Need-returns
-returns c = rw (not-true (c .before .before .before .before .before .before .args .guarded) (c .if1 .taken)) (c .before .before .before .put-row .ensures)
-
-put-single-requires : tie.Need-put-single-requires
-put-single-requires c κs = search needs
-
-same-length-2 : tie.Need-same-length-2
-same-length-2 c = search needs
-
-returns-2 : tie.Need-returns-2
-returns-2 c = rw (not-false (c .before .before .before .before .before .before .before .before .before .before .args .guarded) (c .before .before .before .before .if1 .left)) (then (search needs) (c .before .before .before .before .before .before .before .put-row .ensures) (c .before .before .put-single .ensures))
+returns c =
+    let y = c .before .before in
+    let w₂ = y .before .before .before .before in
+    let w₁ = w₂ .before .before .before .before in
+    let r = w₁ .before .before .before .before in
+    let a = r .before .before .before .before .before .args in
+    as-rows (ap (λ (xs : List Row). row EFFECT 0 ∷ xs) (clause-by-rows (a .g .held) (a .g .fact) (part (now (a .marks)) (now (a .values)) (a .g .from) (a .g .to))))
+    (then (search needs) (r .put-row .ensures) (then (search needs) (w₁ .put-where .ensures) (then (search needs) (w₂ .put-where2 .ensures) (y .copy-rows .ensures))))
 
 pub open-effect-spec : {M : Type 1} → statement M
 open-effect-spec =
     tie.close
-    (tie.spec put-row-requires same-length returns put-single-requires same-length-2 returns-2)
+    (tie.spec put-row-requires put-where-requires put-where-requires-2 copy-rows-requires same-length returns)

@@ -10,8 +10,8 @@ use Rattle.translation.proofs.tracking.trackers_of.Tie as tie
 add-b : tie.Need-add-b
 add-b c = search needs
 
-each-false-requires : tie.Need-each-false-requires
-each-false-requires c κs = search needs
+always-requires : tie.Need-always-requires
+always-requires c κs = search needs
 
 at-most-once-requires : tie.Need-at-most-once-requires
 at-most-once-requires c κs = search needs
@@ -29,7 +29,7 @@ returns : tie.Need-returns
 returns c =
     let a = c .before .before .before .before .before .before .before .before .args in
     as-rows (by-always (a .mark) (a .last) (a .s) (a .s + 1) (part (now (a .marks)) (now (a .values)) (a .from) (a .p .mid)) (part (now (a .marks)) (now (a .values)) (a .p .second) (a .p .next)) (c .before .before .before .before .match .keys1))
-    (c .before .before .each-false .ensures)
+    (c .before .before .always .ensures)
 
 same-length-2 : tie.Need-same-length-2
 same-length-2 c = search needs
@@ -75,7 +75,7 @@ trackers-of-spec =
     tie.close
     (tie.spec
     add-b
-    each-false-requires
+    always-requires
     at-most-once-requires
     reached-requires
     two-sided-requires
