@@ -194,6 +194,13 @@ pub fn in_action(rows: usize, steps: usize) -> Input {
     )
 }
 
+/// A task of 128 actions, 46 rows each, and a plan of 2,048 steps by the actions named, in turn.
+pub fn many_actions(name: &str, taken: &[u8]) -> Input {
+    let full = task((0..128).map(|_| action(42, 0)).collect(), preferences(64));
+    let plan = taken.iter().copied().cycle().take(2_048).collect();
+    input(&format!("128 actions, 2048 steps by {name}"), &full, plan)
+}
+
 /// A task whose translation has so many rows, most of them in the trackers of its actions.
 pub fn in_trackers(rows: usize, actions: usize) -> Input {
     let of = |clauses: usize, goal: usize| Task {

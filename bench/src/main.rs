@@ -81,6 +81,7 @@ fn comparison() {
         inputs::middle(),
         inputs::in_preferences(12_000, 2_048),
         inputs::in_action(12_000, 2_048),
+        inputs::many_actions("each in turn", &Vec::from_iter(0..128)),
     ];
     for input in &judged {
         line("judge", input, judge(input));
@@ -105,6 +106,10 @@ fn growth() {
     }
     for steps in [256, 512, 1_024, 2_048] {
         let input = inputs::in_preferences(12_000, steps);
+        println!("| judge | {} | {} |", input.name, shown(judge(&input)[0]));
+    }
+    for k in [0, 31, 63, 95, 127] {
+        let input = inputs::many_actions(&format!("action {k}"), &[k]);
         println!("| judge | {} | {} |", input.name, shown(judge(&input)[0]));
     }
     for rows in [1_500, 3_000, 6_000, 12_000] {

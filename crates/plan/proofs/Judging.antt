@@ -25,6 +25,8 @@ use Rattle.task.proofs.Checking.{within}
 use Rattle.task.proofs.Answered.{parts-spell}
 use Rattle.plan.specs.Judged.{given, refused, stepsKnown, judgedBy, judged}
 use Rattle.plan.specs.Reads.{Reads}
+use Rattle.plan.specs.Places.{actionsFrom, AllBelow}
+use Rattle.plan.proofs.ActionRows.{as-many}
 
 -- all steps are known exactly where as many as there are stand before the first that is not
 all-known : (A : ℕ) (p : List ℕ) → length p ≤ stepsKnown A p → T (all (λ (k : ℕ). ltb k A) p)
@@ -84,14 +86,24 @@ module _ (b p : List ℕ) (x : Checked) (e : checked x ≡ check b) where
       pub unknown : stepsKnown (z .actions) p < length p → refused 11 (stepsKnown (z .actions) p) ≡ judged b p
       unknown h = (rw (le-leb (length p) 2048 fits, not-all-known (z .actions) p h) at on-task)
 
-      pub run-on : length p ≤ stepsKnown (z .actions) p → (v : Verdict)
-          → ((t : Task) → Reads t (take (8 + z .rows - 8) (drop 8 b)) (take (length b - (8 + z .rows)) (drop (8 + z .rows) b))
-          → T (all (λ (k : ℕ). ltb k (length (t .actions))) p) → v ≡ verdict t p)
-          → given v ≡ judged b p
-      run-on h v says =
-          let known : T (all (λ (k : ℕ). ltb k (z .actions)) p) = all-known (z .actions) p h in
-          let same : length (taskOf b .actions) ≡ z .actions =
-          ap (λ (x : File.Sizes). x .actions) (accepted-spelling b (asSizes z) accepted .sized) in
-          ap given (says (taskOf b) (reads b (asSizes z) accepted)
-          (subst⁻¹ (λ (n : ℕ). T (all (λ (k : ℕ). ltb k n) p)) same known))
-          ∙ (rw (le-leb (length p) 2048 fits, as-true (all (λ (k : ℕ). ltb k (z .actions)) p) known) at on-task)
+      module _ (h : length p ≤ stepsKnown (z .actions) p) where
+        -- the marks and the values
+        abbrev ms : List ℕ
+        ms = take (8 + z .rows - 8) (drop 8 b)
+
+        abbrev vs : List ℕ
+        vs = take (length b - (8 + z .rows)) (drop (8 + z .rows) b)
+
+        -- as many actions as the file says, which are at most 128, and each step is one of them
+        pub actions-fit : (length (actionsFrom 0 ms) ≤ 128) × AllBelow (length (actionsFrom 0 ms)) p
+        actions-fit =
+            let s : Spelling b (asSizes z) = accepted-spelling b (asSizes z) accepted in
+            let limits = within (asSizes z) (s .allowed) in
+            let many : length (actionsFrom 0 ms) ≡ z .actions =
+            as-many (taskOf b) ms vs (reads b (asSizes z) accepted) ∙ ap (λ (x : File.Sizes). x .actions) (s .sized) in
+            (omega (arith, limits, many), subst⁻¹ (λ (n : ℕ). AllBelow n p) many (all-known (z .actions) p h))
+
+        pub run-on : (v : Verdict) → ((t : Task) → Reads t ms vs → v ≡ verdict t p) → given v ≡ judged b p
+        run-on v says =
+            ap given (says (taskOf b) (reads b (asSizes z) accepted))
+            ∙ (rw (le-leb (length p) 2048 fits, as-true (all (λ (k : ℕ). ltb k (z .actions)) p) (all-known (z .actions) p h)) at on-task)

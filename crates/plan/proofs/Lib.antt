@@ -8,6 +8,8 @@ pub mod Difference
 pub mod Tallying
 -- The parts of a task among its rows
 pub mod Seeking
+pub mod ActionRows
+pub mod Noting
 pub mod TaskRead
 -- Steps
 pub mod Stepping

@@ -6,11 +6,11 @@ use Prim.Native.Nat.{ℕ, suc, _+_, _*_, _≤_, _<_}
 use native.Mathlib.Nat.{add-zero, zero-add}
 use native.Mathlib.Numerals.{add-one}
 use native.Mathlib.Omega.{arith}
-use lib.Dec.{T, ltb, ltb→lt}
+use lib.Dec.{ltb, ltb→lt}
 use lib.IntN.{pos, _-ℤ_}
 use lib.ListN.{length, drop, getD, drop-of-length-le}
 use lib.Seq.{drop-cons}
-use Rattle.task.specs.Lists.{all, sum, lastOr}
+use Rattle.task.specs.Lists.{sum, lastOr}
 use Rattle.task.specs.Task.{Task, Preference}
 use Rattle.task.specs.Meaning.{State as Facts, isTrue, opening, after, actionAt, applies, runs, reached, final, cost, seen, preferenceAt}
 use Rattle.task.specs.Monitor.{Monitor, fresh, step}
@@ -19,7 +19,7 @@ use Rattle.task.proofs.Tests.{all-at}
 use Rattle.task.proofs.Watched.{stepAll, watchAll, good-watched}
 use Rattle.state.specs.Member.{member, empty}
 use Rattle.plan.specs.Monitors.{monitorAt}
-use Rattle.plan.specs.Reads.{Reads}
+use Rattle.plan.specs.Places.{AllBelow, Layout}
 use Rattle.plan.specs.Steps.{Leads, solvedBy, lastVerdict, MonitorsAre}
 use Rattle.plan.specs.declared.steps.Position.{Position}
 
@@ -71,14 +71,16 @@ pub record Stands (t : Task) (plan : List ℕ) (p : Position) (i : ℕ) : Type 0
   pub are : MonitorsAre t p monitors
   pub same : verdictFrom t (member (p .state)) monitors (p .cost) i (drop i plan) ≡ verdict t plan
 
-abbrev pub Known : Task → List ℕ → Type 0
-Known t plan = T (all (λ (k : ℕ). ltb k (length (t .actions))) plan)
-
 -- what holds before step i
-pub record Running (ms vs plan : List ℕ) (p : Position) (i : ℕ) : Type 0 where
+pub record Running (ms vs : List ℕ) (at goal : ℕ) (starts : List ℕ) (σ : Facts) (plan : List ℕ) (p : Position) (i : ℕ) : Type 0 where
   pub steps-left : i ≤ length plan
   pub little : p .cost ≤ i * 4294967296
-  pub stands : (t : Task) → Reads t ms vs → Known t plan → Stands t plan p i
+  pub stands : (t : Task) → Layout t ms vs at goal starts → σ ≡ opening t → Stands t plan p i
+
+-- each step of a plan of steps below n
+pub known : (n : ℕ) (plan : List ℕ) → AllBelow n plan → (i : ℕ) → i < length plan → (k : ℕ) → k ≡ getD plan i 0 → k < n
+known n plan all-known i h k read =
+    subst⁻¹ (λ (j : ℕ). j < n) read (ltb→lt (getD plan i 0) n (all-at (λ (j : ℕ). ltb j n) plan i 0 all-known h))
 
 module _ (t : Task) (plan : List ℕ) where
   pub begins : (p : Position) → member (p .state) ≡ opening t → member (p .set) ≡ empty → p .cost ≡ 0 → Stands t plan p 0
@@ -94,11 +96,6 @@ module _ (t : Task) (plan : List ℕ) where
         ap (verdictFrom t (member (p .state)) (s .monitors) (p .cost) i) (sym (drop-of-length-le plan {i = i} h)) ∙ s .same
 
     module _ (h : i < length plan) (k : ℕ) (read : k ≡ getD plan i 0) where
-      pub known : Known t plan → k < length (t .actions)
-      known all-known =
-          subst⁻¹ (λ (j : ℕ). j < length (t .actions)) read
-          (ltb→lt (getD plan i 0) (length (t .actions)) (all-at (λ (j : ℕ). ltb j (length (t .actions))) plan i 0 all-known h))
-
       here : cond (applies t (member (p .state)) k)
           (verdictFrom t (after (member (p .state)) (actionAt t k)) (stepAll false (s .monitors) (member (p .state)))
           (p .cost + actionAt t k .cost) (i + 1) (drop (suc i) plan)) (stopped i)

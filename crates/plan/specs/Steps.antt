@@ -3,12 +3,11 @@ use mathlib.Core.Path.{_≡_}
 use mathlib.Core.Bool.{Bool, true, false, cond}
 use mathlib.Core.List.{List, map}
 use Prim.Native.Nat.{ℕ, _+_, _<_}
-use lib.Dec.{T, ltb}
 use lib.IntN.{pos, _-ℤ_}
 use lib.ListN.{length, getD}
-use Rattle.task.specs.Lists.{all, sum}
+use Rattle.task.specs.Lists.{sum}
 use Rattle.task.specs.Task.{Task, Preference}
-use Rattle.task.specs.Meaning.{State as Facts, isTrue, after, actionAt, applies, seen, preferenceAt}
+use Rattle.task.specs.Meaning.{State as Facts, isTrue, opening, after, actionAt, applies, seen, preferenceAt}
 use Rattle.task.specs.Monitor.{Monitor, step, good}
 use Rattle.task.specs.Verdict
 use Rattle.task.specs.Verdict.{verdict}
@@ -16,6 +15,7 @@ use Rattle.state.specs.Member.{member}
 use Rattle.plan.specs.Answers.{asVerdict}
 use Rattle.plan.specs.Monitors.{monitorAt}
 use Rattle.plan.specs.Reads.{Reads, PreferencesAt}
+use Rattle.plan.specs.Places.{actionRow, Layout}
 use Rattle.plan.specs.declared.Verdict.{Verdict}
 use Rattle.plan.specs.declared.steps.Position.{Position}
 use Rattle.plan.specs.declared.steps.Moved.{Moved}
@@ -39,9 +39,11 @@ abbrev pub CostsLittle : Position → Moved → Type 0
 CostsLittle p (To q) = q .cost < p .cost + 4294967296
 CostsLittle p Stopped = Unit {0}
 
+-- a step by the action that row i opens
 abbrev pub Moves : List ℕ → List ℕ → ℕ → ℕ → Position → Moved → Type 0
-Moves ms vs at k p r =
-    CostsLittle p r × ((t : Task) → Reads t ms vs → PreferencesAt t ms vs at → k < length (t .actions) → Moving t k p r)
+Moves ms vs at i p r =
+    CostsLittle p r
+    × ((t : Task) → Reads t ms vs → PreferencesAt t ms vs at → (k : ℕ) → k < length (t .actions) → i ≡ actionRow t k → Moving t k p r)
 
 -- a preference is met, by monitors that have seen all states
 abbrev pub isGood : (Preference → Monitor) → Preference → Bool
@@ -67,6 +69,9 @@ Finishes ms vs at goal p r =
     (t : Task) → Reads t ms vs → PreferencesAt t ms vs at → goal ≡ length (t .start) + 1
     → (μ : Preference → Monitor) → MonitorsAre t p μ → asVerdict r ≡ lastVerdict t (member (p .state)) μ (p .cost)
 
+-- a plan followed from state σ on
+abbrev pub Follows : List ℕ → List ℕ → ℕ → ℕ → List ℕ → Facts → List ℕ → Verdict → Type 0
+Follows ms vs at goal starts σ plan r = (t : Task) → Layout t ms vs at goal starts → σ ≡ opening t → asVerdict r ≡ verdict t plan
+
 abbrev pub Runs : List ℕ → List ℕ → List ℕ → Verdict → Type 0
-Runs ms vs plan r =
-    (t : Task) → Reads t ms vs → T (all (λ (k : ℕ). ltb k (length (t .actions))) plan) → asVerdict r ≡ verdict t plan
+Runs ms vs plan r = (t : Task) → Reads t ms vs → asVerdict r ≡ verdict t plan

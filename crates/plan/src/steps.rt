@@ -2,7 +2,9 @@
 ghost use mathlib.Core.Path.{_≡_};
 ghost use Prim.Native.Nat.{_+_, _*_, _^_, _≤_, _<_};
 ghost use lib.ListN.{length};
-ghost use Rattle.plan.specs.Steps.{Moves, Finishes, Runs};
+ghost use Rattle.state.specs.Member.{member};
+ghost use Rattle.plan.specs.Places.{actionsFrom, AllBelow};
+ghost use Rattle.plan.specs.Steps.{Moves, Finishes, Follows, Runs};
 use super::Verdict;
 use super::amounts;
 use super::monitors;
@@ -11,6 +13,7 @@ use state::State;
 use state::conditions;
 use state::effects;
 use state::opening;
+use task::rows;
 
 // Where a plan has come to: the state, the monitors that have seen those before it, and the cost.
 pub struct Position {
@@ -24,22 +27,21 @@ pub enum Moved {
     Stopped,
 }
 
-// A step as a number of actions to pass.
+// A step as an index.
 pub fn wide(k: u8) -> usize
     ensures { λ r. ⌜ r ≡ k ⌝ }
 {
     k as usize
 }
 
-// One step by action k; the preferences stand from row `at` on.
-fn step(marks: &[u8], values: &[u8], at: usize, k: usize, p: Position) -> Moved
-    requires { ⌜ (4 * length (now marks) ≤ length (now values)) × (length (now marks) ≤ 12000) × (p .cost < 2 ^ 62) ⌝ }
-    ensures { λ r. ⌜ Moves (now (marks .entry)) (now (values .entry)) at k p r ⌝ }
+// One step by the action that row `from` opens; the preferences stand from row `at` on.
+fn step(marks: &[u8], values: &[u8], at: usize, from: usize, p: Position) -> Moved
+    requires { ⌜ (4 * length (now marks) ≤ length (now values)) × (length (now marks) ≤ 12000) × (from < length (now marks)) × (p .cost < 2 ^ 62) ⌝ }
+    ensures { λ r. ⌜ Moves (now (marks .entry)) (now (values .entry)) at from p r ⌝ }
 {
     let s = p.state;
     let set = monitors::watch(marks, values, at, s, p.set, false);
-    let a = places::action(marks, values, k);
-    let pre = conditions::condition(marks, values, a.next, s);
+    let pre = conditions::condition(marks, values, from + 1, s);
     if !pre.holds {
         return Moved::Stopped;
     }
@@ -48,7 +50,7 @@ fn step(marks: &[u8], values: &[u8], at: usize, k: usize, p: Position) -> Moved
     Moved::To(Position {
         state,
         set,
-        cost: p.cost + (a.cost as u64),
+        cost: p.cost + (rows::value_at(values, from) as u64),
     })
 }
 
@@ -66,15 +68,21 @@ fn finish(marks: &[u8], values: &[u8], at: usize, goal: usize, p: Position) -> V
     Verdict::Solved(amounts::worth(p.cost, amounts::total(marks, values, at, set)))
 }
 
-// The verdict on a plan of known steps.
-pub fn run(marks: &[u8], values: &[u8], plan: &[u8]) -> Verdict
-    requires { ⌜ (4 * length (now marks) ≤ length (now values)) × (length (now marks) ≤ 12000) × (length (now plan) ≤ 2048) ⌝ }
-    ensures { λ r. ⌜ Runs (now (marks .entry)) (now (values .entry)) (now (plan .entry)) r ⌝ }
+// The verdict on a plan of known steps, from the opening state on. `starts` has the rows of the actions; the preferences stand
+// from row `at` on, and the goal's condition from row `goal` on.
+fn follow(
+    marks: &[u8],
+    values: &[u8],
+    at: usize,
+    goal: usize,
+    starts: &[usize],
+    state: State,
+    plan: &[u8],
+) -> Verdict
+    requires { ⌜ (4 * length (now marks) ≤ length (now values)) × (length (now marks) ≤ 12000) × (length (now plan) ≤ 2048) × (at ≤ length (now marks)) ⌝ }
+    requires { ⌜ AllBelow (length (now marks)) (now starts) × AllBelow (length (now starts)) (now plan) ⌝ }
+    ensures { λ r. ⌜ Follows (now (marks .entry)) (now (values .entry)) at goal (now (starts .entry)) (member state) (now (plan .entry)) r ⌝ }
 {
-    let start = opening::opening(marks, values);
-    let goal = start.next + 1;
-    let state = start.state;
-    let at = places::preferences(marks);
     let mut p = Position {
         state,
         set: state::none(),
@@ -82,7 +90,7 @@ pub fn run(marks: &[u8], values: &[u8], plan: &[u8]) -> Verdict
     };
     let mut i = 0;
     while i < plan.len() {
-        let moved = step(marks, values, at, wide(plan[i]), p);
+        let moved = step(marks, values, at, starts[wide(plan[i])], p);
         let Moved::To(q) = moved else {
             return Verdict::Stopped(i);
         };
@@ -90,4 +98,18 @@ pub fn run(marks: &[u8], values: &[u8], plan: &[u8]) -> Verdict
         i += 1;
     }
     finish(marks, values, at, goal, p)
+}
+
+// The verdict on a plan of known steps.
+pub fn run(marks: &[u8], values: &[u8], plan: &[u8]) -> Verdict
+    requires { ⌜ (4 * length (now marks) ≤ length (now values)) × (length (now marks) ≤ 12000) × (length (now plan) ≤ 2048) ⌝ }
+    requires { ⌜ (length (actionsFrom 0 (now marks)) ≤ 128) × AllBelow (length (actionsFrom 0 (now marks))) (now plan) ⌝ }
+    ensures { λ r. ⌜ Runs (now (marks .entry)) (now (values .entry)) (now (plan .entry)) r ⌝ }
+{
+    let start = opening::opening(marks, values);
+    let goal = start.next + 1;
+    let at = places::preferences(marks);
+    let mut table: [usize; 128] = [0; 128];
+    let many = places::note_actions(marks, &mut table);
+    follow(marks, values, at, goal, &table[0..many], start.state, plan)
 }

@@ -20,7 +20,8 @@ use Rattle.translation.specs.Rows.{singleRows}
 use Rattle.translation.specs.Parts.{AllActsFor, openingRows, closedRows, WroteTask}
 use Rattle.translation.proofs.Putting.{then, as-rows}
 use Rattle.translation.proofs.Ends.{end-behind, part-is, condition-between}
-use Rattle.translation.proofs.TrackerRows.{concat-append, rows-append}
+use Rattle.task.proofs.Tests.{concat-append}
+use Rattle.translation.proofs.TrackerRows.{rows-append}
 use Rattle.translation.proofs.PartRows.{end-is, closed-is}
 
 -- Where the parts of a task stand

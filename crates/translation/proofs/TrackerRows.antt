@@ -17,6 +17,7 @@ use Rattle.classical.specs.Translation.{holdsFact, lacksFact, deny, alone, effe
 use Rattle.translation.specs.Writer.{part}
 use Rattle.translation.specs.Places.{Located}
 use Rattle.translation.specs.declared.places.Sides.{Sides}
+use Rattle.task.proofs.Tests.{concat-append}
 use Rattle.task.proofs.Reading.{mark-at}
 use Rattle.translation.specs.Rows.{singleRows, changeRows, closeRows, falseRow, falseRows, onceRows, beforeRows, afterRows, trackerRows}
 use Rattle.translation.specs.Parts.{preferenceTrackers, allTrackerRows}
@@ -55,10 +56,6 @@ pub no-rows : (ms vs : List ℕ) (gs : List Row) (b : ℕ) (xs : List Row) → f
 no-rows ms vs gs b xs = ap (λ (hs : List Row). falseRows hs b false xs) (ap (λ (hs : List Row). gs ++ hs) (no-row ms vs 0 0 (omega arith)) ∙ append-nil gs)
 
 -- What they spell
-
-pub concat-append : {A : Type 0} (f : A → List Row) (xs ys : List A) → concatMap f (xs ++ ys) ≡ concatMap f xs ++ concatMap f ys
-concat-append f [] ys = refl
-concat-append f (x ∷ xs) ys = ap (λ (zs : List Row). f x ++ zs) (concat-append f xs ys) ∙ sym (append-assoc (f x) (concatMap f xs) (concatMap f ys))
 
 -- parts that are made one after the other
 pub concat-from : {A B : Type 0} (h : B → List Row) (f : ℕ → A → List B) (k : ℕ) (xs : List A)

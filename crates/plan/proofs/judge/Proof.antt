@@ -8,7 +8,7 @@ use Rattle.task.specs.Answers.{answer as checked, asSizes}
 use Rattle.task.proofs.Answered.{lengths}
 use Rattle.plan.specs.Answers.{asVerdict}
 use Rattle.plan.specs.Judged.{refused}
-use Rattle.plan.proofs.Judging.{turned-down, too-long, unknown, run-on}
+use Rattle.plan.proofs.Judging.{turned-down, too-long, unknown, actions-fit, run-on}
 use Rattle.plan.proofs.judge.Statement.{statement}
 use Rattle.plan.proofs.judge.Tie as tie
 
@@ -91,7 +91,16 @@ part-run-end-2 : tie.Need-part-run-end-2
 part-run-end-2 c = let h = parts (c .before .before .before .before .before) in search needs
 
 run-requires : tie.Need-run-requires
-run-requires c κs = let h = parts (c .before .before .before .before .before .before) in simp (length-take, length-drop) (omega arith)
+run-requires c κs =
+    let s = c .before .before .before .before .before in
+    let n = s .before in
+    let k = n .before .before .before in
+    let a = k .before .before .before .args in
+    let h = parts n in (
+      simp (length-take, length-drop) (omega arith),
+      actions-fit (now (a .file)) (now (a .plan)) (k .check .result) (k .check .ensures) (n .before .c .given .0 .0) (n .before .c .given .1) (search needs)
+          (omega (arith, c .before .before .before .if2 .left, s .steps-known .ensures)),
+    )
 
 returns-4 : tie.Need-returns-4
 returns-4 c =

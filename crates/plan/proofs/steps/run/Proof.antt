@@ -1,147 +1,98 @@
 use borrow.Author.Needs.{needs}
-use mathlib.Core.Path.{refl, sym, ap, subst, _∙_}
-use Prim.Native.Nat.{_+_, _-_, _≤_}
+use mathlib.Core.Path.{_≡_, ap, _∙_, subst⁻¹}
+use mathlib.Core.List.{List}
+use Prim.Native.Nat.{ℕ, _+_, _-_, _≤_}
+use native.Mathlib.Nat.{sub-zero}
 use native.Mathlib.Omega.{arith}
 use denote.Ref.{now}
-use lib.ListN.{length}
+use lib.ListN.{length, take}
 use Rattle.state.specs.Effects.{Result}
 use Rattle.state.proofs.OpeningRows.{opening-ends}
-use Rattle.task.specs.Task.{Task}
-use Rattle.plan.specs.Reads.{Reads, PreferencesAt}
-use Rattle.plan.specs.Steps.{Moves}
+use Rattle.plan.specs.Reads.{PreferencesAt}
+use Rattle.plan.specs.Places.{actionsFrom, Noted, AllBelow}
+use Rattle.plan.proofs.ActionRows.{within-rows, as-many}
 use Rattle.plan.proofs.TaskRead.{opening-read, preferences-read}
-use Rattle.plan.proofs.Running.{Running, begins, ends, known, stops, goes-on}
 use Rattle.plan.proofs.steps.run.Statement.{statement}
 use Rattle.plan.proofs.steps.run.Tie as tie
 
-abbrev Inv-loop : tie.InvT-loop
-Inv-loop marks values plan goal at p₀ i₀ p i = Running marks values plan p i
-
-abbrev μ-loop : tie.MeasureT-loop
-μ-loop marks values plan goal at p₀ i₀ p i = length plan - i
-
 -- the goal stands within the rows
-few : (c : tie.After-opening Inv-loop μ-loop) → c .opening .result .next ≤ length (now (c .before .before .before .before .args .marks))
+few : (c : tie.After-opening) → c .opening .result .next ≤ length (now (c .before .before .before .before .args .marks))
 few c =
     let a = c .before .before .before .before .args in
     omega (arith, opening-ends (now (a .marks)) (now (a .values)), ap (λ (r : Result). r .next) (c .opening .ensures))
 
--- the preferences stand where they are found
-at-preferences : (c : tie.After-preferences Inv-loop μ-loop) → let a = c .before .before .before .before .before .before .before .args in
-    (t : Task) → Reads t (now (a .marks)) (now (a .values)) → PreferencesAt t (now (a .marks)) (now (a .values)) (c .preferences .result)
-at-preferences c t R =
-    let a = c .before .before .before .before .before .before .before .args in
-    subst (PreferencesAt t (now (a .marks)) (now (a .values))) (sym (c .preferences .ensures .0)) (preferences-read t (now (a .marks)) (now (a .values)) R)
+-- the rows that are lent are those of the actions
+lent : (c : tie.After-note-actions) → take (c .note-actions .result - 0) (c .note-actions .last .1 .0)
+    ≡ actionsFrom 0 (now (c .before .before .before .before .before .before .before .before .args .marks))
+lent c = ap (λ (n : ℕ). take n (c .note-actions .last .1 .0)) (sub-zero (c .note-actions .result)) ∙ c .note-actions .ensures .0 .1
 
-opening-requires : tie.Need-opening-requires Inv-loop μ-loop
+opening-requires : tie.Need-opening-requires
 opening-requires c κs = search needs
 
-add-goal : tie.Need-add-goal Inv-loop μ-loop
+add-goal : tie.Need-add-goal
 add-goal c = let f = few (c .before) in search needs
 
-preferences-requires : tie.Need-preferences-requires Inv-loop μ-loop
+preferences-requires : tie.Need-preferences-requires
 preferences-requires c κs = search needs
 
-none-requires : tie.Need-none-requires Inv-loop μ-loop
-none-requires c κs = search needs
+slice-aggregate-note-actions : tie.Need-slice-aggregate-note-actions
+slice-aggregate-note-actions c = search needs
 
-loop-holds : tie.Need-loop-holds Inv-loop μ-loop
-loop-holds c =
-    let o = c .before .before .before .before in
-    let a = o .before .before .before .before .args in
-    record {
-      steps-left = search needs;
-      little = search needs;
-      stands = λ t R known. begins t (now (a .plan)) _
-          (ap (λ (r : Result). r .state) (o .opening .ensures ∙ opening-read t (now (a .marks)) (now (a .values)) R)) (c .none .ensures) refl;
-    }
+note-actions-requires : tie.Need-note-actions-requires
+note-actions-requires c κs = search needs
 
-shared-slice-read-wide : tie.Need-shared-slice-read-wide Inv-loop μ-loop
-shared-slice-read-wide c = search needs
+sub-follow : tie.Need-sub-follow
+sub-follow c = search needs
 
-wide-requires : tie.Need-wide-requires Inv-loop μ-loop
-wide-requires c κs = search needs
+part-follow-start : tie.Need-part-follow-start
+part-follow-start c = search needs
 
-step-requires : tie.Need-step-requires Inv-loop μ-loop
-step-requires c κs = search needs
+part-follow-end : tie.Need-part-follow-end
+part-follow-end c = search needs
 
-enum-known-moved : tie.Need-enum-known-moved Inv-loop μ-loop
-enum-known-moved c = search needs
+follow-requires : tie.Need-follow-requires
+follow-requires c κs =
+    let n = c .before .before .before in
+    let b = n .before .before .before .before .before .before .before .before in (
+      search needs,
+      (
+        subst⁻¹ (AllBelow (length (now (b .args .marks)))) (lent n) (within-rows (now (b .args .marks))),
+        subst⁻¹ (λ (l : List ℕ). AllBelow (length l) (now (b .args .plan))) (lent n) (b .pre .1 .1),
+      ),
+    )
 
-enum-told : tie.Need-enum-told Inv-loop μ-loop
-enum-told c = search needs
-
-returns : tie.Need-returns Inv-loop μ-loop
-returns c = λ t R known-plan.
-    let st = c .before .before in
-    let l = st .before .before .before .before in
-    let o = l .before .before .before .before .before in
-    let a = o .before .before .before .before .args in
-    let k = st .before .wide .result in
-    let s = l .loop .inv .stands t R known-plan in
-    stops t (now (a .plan)) (l .loop .p) (l .loop .i) s (search needs) k (st .before .wide .ensures)
-    (subst (Moves (now (a .marks)) (now (a .values)) (l .before .before .preferences .result) k (l .loop .p)) (c .enum-told .given .1) (st .step .ensures) .1
-    t R (at-preferences (l .before .before) t R) (known t (now (a .plan)) (l .loop .p) (l .loop .i) s (search needs) k (st .before .wide .ensures) known-plan))
-
-add-i : tie.Need-add-i Inv-loop μ-loop
-add-i c = search needs
-
-loop-less : tie.Need-loop-less Inv-loop μ-loop
-loop-less c = search needs
-
-loop-again : tie.Need-loop-again Inv-loop μ-loop
-loop-again c =
-    let st = c .before .before .before in
-    let l = st .before .before .before .before in
-    let o = l .before .before .before .before .before in
-    let a = o .before .before .before .before .args in
-    let k = st .before .wide .result in
-    let q = c .before .moved .given .0 .0 in
-    let moves = subst (Moves (now (a .marks)) (now (a .values)) (l .before .before .preferences .result) k (l .loop .p)) (c .before .moved .given .1) (st .step .ensures) in
-    record {
-      steps-left = search needs;
-      little = omega (arith, l .loop .inv .little, moves .0);
-      stands = λ t R known-plan.
-          let s = l .loop .inv .stands t R known-plan in
-          goes-on t (now (a .plan)) (l .loop .p) (l .loop .i) s (search needs) k (st .before .wide .ensures) q
-          (moves .1 t R (at-preferences (l .before .before) t R)
-          (known t (now (a .plan)) (l .loop .p) (l .loop .i) s (search needs) k (st .before .wide .ensures) known-plan));
-    }
-
-finish-requires : tie.Need-finish-requires Inv-loop μ-loop
-finish-requires c κs = search needs
-
-returns-2 : tie.Need-returns-2 Inv-loop μ-loop
-returns-2 c = λ t R known.
-    let l = c .before .before in
-    let o = l .before .before .before .before .before in
-    let a = o .before .before .before .before .args in
-    let s = l .loop .inv .stands t R known in
-    c .finish .ensures t R
-    (at-preferences (l .before .before) t R)
-    (ap (λ (r : Result). r .next + 1) (o .opening .ensures ∙ opening-read t (now (a .marks)) (now (a .values)) R))
-    (s .monitors) (s .are)
-    ∙ ends t (now (a .plan)) (l .loop .p) (l .loop .i) s (search needs)
+returns : tie.Need-returns
+returns c = λ t R.
+    let n = c .before .before .before .before in
+    let p = n .before .before in
+    let o = p .before .before in
+    let b = o .before .before .before .before in
+    let opens = o .opening .ensures ∙ opening-read t (now (b .args .marks)) (now (b .args .values)) R in
+    let counted = sub-zero (n .note-actions .result) in
+    c .follow .ensures t
+    (record {
+      reads = R;
+      preferences =
+          subst⁻¹ (PreferencesAt t (now (b .args .marks)) (now (b .args .values))) (p .preferences .ensures .0)
+          (preferences-read t (now (b .args .marks)) (now (b .args .values)) R);
+      goal-row = ap (λ (r : Result). r .next + 1) opens;
+      all-actions = ap length (lent n) ∙ as-many t (now (b .args .marks)) (now (b .args .values)) R;
+      actions =
+          subst⁻¹ (λ (k : ℕ). Noted t (take k (n .note-actions .last .1 .0))) counted (n .note-actions .ensures .1 t (now (b .args .values)) R);
+    })
+    (ap (λ (r : Result). r .state) opens)
 
 pub run-spec : {M : Type 1} → statement M
 run-spec =
     tie.close
     (tie.spec
-    Inv-loop
-    μ-loop
     opening-requires
     add-goal
     preferences-requires
-    none-requires
-    loop-holds
-    shared-slice-read-wide
-    wide-requires
-    step-requires
-    enum-known-moved
-    enum-told
-    returns
-    add-i
-    loop-less
-    loop-again
-    finish-requires
-    returns-2)
+    slice-aggregate-note-actions
+    note-actions-requires
+    sub-follow
+    part-follow-start
+    part-follow-end
+    follow-requires
+    returns)
