@@ -1,5 +1,5 @@
-/* Route rules: check a task file, translate a task with soft rules into a classical task, judge a plan, given as bytes or as
- * planners print it.
+/* Route rules: check a task file, translate a task with soft rules into a classical task, write that as PDDL, judge a plan, given
+ * as bytes or as planners print it.
  *
  * Link target/staticlib/libroute_rules.a, which `rt staticlib route_rules` writes. Every function is proved: it answers every
  * input as the definitions say (crates/route_rules/specs/Numbers.antt has the words of the answers), always returns, and
@@ -33,9 +33,13 @@ extern "C" {
 /* The length of the longest task file: an output area of this length is never too short. */
 #define ROUTE_RULES_MAX_FILE (8 + 5 * ROUTE_RULES_MAX_ROWS)
 
+/* An area of this length is never too short for a domain or a problem in PDDL. */
+#define ROUTE_RULES_MAX_PDDL 262144
+
 /* Refusals, with their place. 1 to 3 are tried in order. Rows then go from the first; the first faulty row decides, 4 before
  * 5 on one row; 6 comes after all rows. 7 to 9 are translate's, 10 and 11 judge's, in that order, after 1 to 6.
- * Of a plan's text 12 comes after 6, and before 10 and 11; reading alone is refused by 12, then 10, then 9. */
+ * Of a plan's text 12 comes after 6, and before 10 and 11; reading alone is refused by 12, then 10, then 9. 13 and 14 are
+ * pddl's, in that order, after 1 to 6. */
 enum {
     ROUTE_RULES_SHORT_FILE = 1,       /* under 8 bytes; 0 */
     ROUTE_RULES_SIZE = 2,             /* a size out of range; 0 */
@@ -48,7 +52,9 @@ enum {
     ROUTE_RULES_SHORT_OUTPUT = 9,     /* output area under the output's length; 0 */
     ROUTE_RULES_LONG_PLAN = 10,       /* plan over 2,048 steps; 0 */
     ROUTE_RULES_STEP = 11,            /* step not below A; the first such step */
-    ROUTE_RULES_TEXT = 12             /* text over 65,536 bytes: 0; or a line of another form or without a newline: that line */
+    ROUTE_RULES_TEXT = 12,            /* text over 65,536 bytes: 0; or a line of another form or without a newline: that line */
+    ROUTE_RULES_PREFERENCES = 13,     /* the task has preferences; 0 */
+    ROUTE_RULES_SHORT_AREA = 14       /* a domain or a problem longer than its area; 0 */
 };
 
 /* The four sizes of an accepted file: F, A, P and N. */
@@ -126,9 +132,25 @@ uint32_t route_rules_write_plan(const uint8_t *plan, size_t plan_length, uint8_t
 uint32_t route_rules_judge_text(const uint8_t *file, size_t file_length, const uint8_t *text, size_t text_length,
                                 route_rules_judged *answer);
 
+/* The lengths in bytes of the two texts. */
+typedef struct route_rules_texts {
+    uint64_t place;
+    uint64_t domain;
+    uint64_t problem;
+    uint64_t spare[5];
+} route_rules_texts;
+
+/* Writes a task without preferences, such as a translation, as PDDL: the domain into the first `domain` bytes of one area, the
+ * problem into the first `problem` bytes of the other, and no other bytes. Facts are f0, f1 and so on, actions a0, a1 and so
+ * on, in row order. Or it is refused by 1 to 6, 13 or 14, and both areas are as they were. Two accepted tasks without
+ * preferences give equal texts exactly when their files are equal. */
+uint32_t route_rules_pddl(const uint8_t *file, size_t file_length, uint8_t *domain, size_t domain_length, uint8_t *problem,
+                          size_t problem_length, route_rules_texts *answer);
+
 /* Every answer has eight words; the functions write them all. */
 typedef char route_rules_answers_have_eight_words[sizeof(route_rules_checked) == 64 && sizeof(route_rules_translated) == 64 &&
-                                                          sizeof(route_rules_judged) == 64 && sizeof(route_rules_listed) == 64
+                                                          sizeof(route_rules_judged) == 64 && sizeof(route_rules_listed) == 64 &&
+                                                          sizeof(route_rules_texts) == 64
                                                       ? 1
                                                       : -1];
 

@@ -24,6 +24,8 @@ pub mod refused {
     pub const LONG_PLAN: u32 = 10;
     pub const STEP: u32 = 11;
     pub const TEXT: u32 = 12;
+    pub const PREFERENCES: u32 = 13;
+    pub const SHORT_AREA: u32 = 14;
 }
 
 /// The length of the longest task file: an output area of this length is never too short.
@@ -31,6 +33,9 @@ pub const MAX_FILE: usize = 8 + 5 * 12_000;
 
 /// The length of the longest plan's text that is read: an area of this length is never too short for a plan's text.
 pub const MAX_TEXT: usize = 65_536;
+
+/// An area of this length is never too short for a domain or a problem in PDDL.
+pub const MAX_PDDL: usize = 262_144;
 
 /// The four sizes of an accepted file.
 #[derive(Clone, Copy, PartialEq, Eq, Debug)]
@@ -94,6 +99,15 @@ extern "C" {
         file_length: usize,
         text: *const u8,
         text_length: usize,
+        answer: *mut Answer,
+    ) -> u32;
+    fn route_rules_pddl(
+        file: *const u8,
+        file_length: usize,
+        domain: *mut u8,
+        domain_length: usize,
+        problem: *mut u8,
+        problem_length: usize,
         answer: *mut Answer,
     ) -> u32;
     fn route_rules_report(
@@ -194,6 +208,23 @@ pub fn read_plan(text: &[u8], out: &mut [u8]) -> Result<usize, Refusal> {
 /// it was.
 pub fn write_plan(plan: &[u8], out: &mut [u8]) -> Result<usize, Refusal> {
     filled(route_rules_write_plan, plan, out)
+}
+
+/// Writes a task without preferences as PDDL, the domain into the start of one area and the problem into the start of the other,
+/// and answers both lengths; or it is refused by 1 to 6, 13 or 14, and both areas are as they were.
+pub fn pddl(file: &[u8], domain: &mut [u8], problem: &mut [u8]) -> Result<(usize, usize), Refusal> {
+    let words = answered(|answer| unsafe {
+        route_rules_pddl(
+            file.as_ptr(),
+            file.len(),
+            domain.as_mut_ptr(),
+            domain.len(),
+            problem.as_mut_ptr(),
+            problem.len(),
+            answer,
+        )
+    })?;
+    Ok((words[1] as usize, words[2] as usize))
 }
 
 /// Writes the lines of program judge about a plan on the task in a file, as far as the output has room, and answers the

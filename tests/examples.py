@@ -1,7 +1,7 @@
 #!/usr/bin/env python3
 """The examples as text, the tool that turns texts into files and back, and the programs' answers on the batch house.
 
-tests/examples.py            needs target/bin/translate and target/bin/judge
+tests/examples.py            needs target/bin/translate, target/bin/pddl and target/bin/judge
 tests/examples.py --write    writes examples/batch_house/answers anew
 """
 import os
@@ -24,14 +24,25 @@ WRONG = [
 ]
 
 
+# Planners' lines for a text with one action, and its source part or what the tool says.
+SOURCES = [
+    ('', b''),
+    ('(a0)\n(a1)\n(a0)\n(a300)\n; cost = 3\n', b'\0\0'),
+    ('; none\n(a00)\n', 'line 2: no step and no comment'),
+    ('(a0)\n\n', 'line 2: no step and no comment'),
+    ('(a0) \n', 'line 1: no step and no comment'),
+]
+
+
 def expect(what, got, wanted):
     if got != wanted:
         sys.exit(f'{what}: {got!r}, and not {wanted!r}')
 
 
-def turned_down(text):
+def answered(call):
+    """What the tool answers, or why it turns a text down."""
     try:
-        return Text(text).file()
+        return call()
     except Wrong as why:
         return str(why)
 
@@ -65,7 +76,9 @@ def main(option=None):
     belt = os.path.join(ROOT, 'examples/belt/task')
     expect('the belt', text_of(belt + '.txt').file(), read(belt))
     for text, why in WRONG:
-        expect(text, turned_down(text), why)
+        expect(text, answered(lambda: Text(text).file()), why)
+    for lines, source in SOURCES:
+        expect(lines, answered(lambda: Text('FACTS 1\nGOAL\nACTION').source(lines)), source)
     count = round_trips()
 
     text, stored = text_of(os.path.join(HOUSE, 'task.txt')), os.path.join(HOUSE, 'answers')

@@ -4,11 +4,13 @@
 tools/task.py make TEXT             writes the task file of a text to standard output
 tools/task.py show FILE [TEXT]      writes a task file as text, with the names that TEXT gives
 tools/task.py plan TEXT STEPS       writes the plan of a text: names or numbers of the actions of TEXT
+tools/task.py source TEXT PLANNED   writes the source part of what a planner prints for the translation, a line `(aN)` for each step
 
 A text has a row on each line: document 01's name of the mark, then its value; a value that is 0 may be left out. '#' starts a
 comment. FACTS and their names, or FACTS and how many, come first; a fact is then named or numbered. Behind the cost of an
 ACTION a name for it may stand. Sizes are counted. Nothing else is looked at: whether it is a task is for check to say.
 """
+import re
 import struct
 import sys
 
@@ -17,6 +19,7 @@ MARKS = ['ACTION', 'EFFECT', 'CLAUSE', 'HOLDS', 'LACKS', 'ADD', 'DELETE', 'GOAL'
 MARK = {name: mark for mark, name in enumerate(MARKS, 1)}
 OF_FACTS = ['HOLDS', 'LACKS', 'ADD', 'DELETE', 'START']
 PREFERENCES = MARKS[9:15]
+STEP = re.compile(r'\(a(0|[1-9][0-9]*)\)')
 # How far the rows are set in; an EFFECT's condition stands deeper than a precondition.
 DEPTH = {'EFFECT': 1, 'CLAUSE': 1, 'HOLDS': 2, 'LACKS': 2, 'ADD': 2, 'DELETE': 2, 'SECOND': 1}
 
@@ -88,6 +91,16 @@ class Text:
             raise Wrong('a step is one byte')
         return bytes(steps)
 
+    def source(self, planned):
+        """The steps of a planner's lines that are actions of this text; comments begin with a semicolon."""
+        steps = []
+        for number, line in enumerate(planned.splitlines(), 1):
+            step = STEP.fullmatch(line)
+            if not step and line[:1] != ';':
+                raise Wrong(f'line {number}: no step and no comment')
+            steps += [int(step[1])] if step else []
+        return bytes(step for step in steps if step < len(self.actions))
+
 
 def rows_of(data):
     """The sizes and rows of a file whose sizes are those that its rows have."""
@@ -143,6 +156,8 @@ def main(command, first, second=None):
         return text_of(first).file()
     if command == 'plan':
         return text_of(first).plan(read(second).decode())
+    if command == 'source':
+        return text_of(first).source(read(second).decode())
     if command == 'show':
         return show(read(first), text_of(second) if second else None).encode()
     raise Wrong(__doc__)

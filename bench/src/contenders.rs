@@ -12,6 +12,15 @@ extern "C" {
     fn route_rules_judge(a: *const u8, b: usize, c: *const u8, d: usize, e: *mut [u64; 8]) -> u32;
     fn route_rules_translate(a: *const u8, b: usize, c: *mut u8, d: usize, e: *mut [u64; 8])
         -> u32;
+    fn route_rules_pddl(
+        file: *const u8,
+        file_length: usize,
+        domain: *mut u8,
+        domain_length: usize,
+        problem: *mut u8,
+        problem_length: usize,
+        answer: *mut [u64; 8],
+    ) -> u32;
     fn plain_judge(a: *const u8, b: usize, c: *const u8, d: usize, e: *mut [u64; 8]) -> u32;
     fn plain_translate(a: *const u8, b: usize, c: *mut u8, d: usize, e: *mut [u64; 8]) -> u32;
     fn tuned_judge(a: *const u8, b: usize, c: *const u8, d: usize, e: *mut [u64; 8]) -> u32;
@@ -85,4 +94,29 @@ pub fn translate(who: usize, file: &[u8], out: &mut [u8]) -> Answer {
         2 => call(plain_translate),
         _ => call(tuned_translate),
     }
+}
+
+/// The texts stand in the two areas afterwards. The first two alone write PDDL; the Rust's texts are copied.
+pub fn pddl(who: usize, file: &[u8], domain: &mut [u8], problem: &mut [u8]) -> Answer {
+    if who == 0 {
+        let mut answer = [0; 8];
+        let number = unsafe {
+            route_rules_pddl(
+                file.as_ptr(),
+                file.len(),
+                domain.as_mut_ptr(),
+                domain.len(),
+                problem.as_mut_ptr(),
+                problem.len(),
+                &mut answer,
+            )
+        };
+        return (number, answer);
+    }
+    peer::pddl::write(file, domain.len(), problem.len()).map_or_else(refused, |texts| {
+        let (d, p) = (texts.domain.len(), texts.problem.len());
+        domain[..d].copy_from_slice(texts.domain.as_bytes());
+        problem[..p].copy_from_slice(texts.problem.as_bytes());
+        (0, [0, d as u64, p as u64, 0, 0, 0, 0, 0])
+    })
 }

@@ -1,10 +1,10 @@
 //! The tasks and plans that are measured.
 
-use peer::random::{task_and_plan, Random, Shape};
+use peer::random::{task_and_plan, Random, Shape, MAX_FILE};
 use peer::task::MAX_ROWS;
 use peer::{
-    encode, judge, translated, Action, Clause, Condition, Effect, Kind, Literal, Preference, Task,
-    Verdict,
+    encode, judge, pddl, translate, translated, Action, Clause, Condition, Effect, Kind, Literal,
+    Preference, Task, Verdict,
 };
 
 /// A task file and a plan.
@@ -238,4 +238,25 @@ pub fn copied(rows: usize) -> Input {
         &of(rows - more),
         vec![],
     )
+}
+
+/// The translation of a task, for PDDL.
+pub fn compiled(source: Input) -> Input {
+    Input {
+        name: format!("translation of the {} task", source.name),
+        file: translate(&source.file, MAX_FILE).expect("a translation"),
+        plan: vec![],
+    }
+}
+
+/// A task of so many rows with the longest domain in PDDL.
+pub fn longest_domain(rows: usize) -> Input {
+    let task = pddl::longest_domain(rows);
+    input(&format!("{rows} rows, the longest domain"), &task, vec![])
+}
+
+/// A task of so many rows with the longest problem in PDDL.
+pub fn longest_problem(rows: usize) -> Input {
+    let task = pddl::longest_problem(rows);
+    input(&format!("{rows} rows, the longest problem"), &task, vec![])
 }

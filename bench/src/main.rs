@@ -1,5 +1,5 @@
-//! Measures judge and translate of the library, of the independent Rust and of C on the same inputs, and prints tables. It fails
-//! where two of them differ.
+//! Measures judge and translate of the library, of the independent Rust and of C on the same inputs, and PDDL of the first two,
+//! and prints tables. It fails where two of them differ.
 
 mod contenders;
 mod inputs;
@@ -7,6 +7,7 @@ mod measure;
 
 use contenders::NAMES;
 use inputs::Input;
+use peer::pddl::{MAX_DOMAIN, MAX_PROBLEM};
 use peer::random::MAX_FILE;
 use std::hint::black_box;
 
@@ -42,6 +43,25 @@ fn translate(input: &Input) -> Times {
     })
 }
 
+fn pddl(input: &Input) -> [f64; 2] {
+    let results = [0, 1].map(|who| {
+        let (mut domain, mut problem) = (vec![0xA5; MAX_DOMAIN], vec![0xA5; MAX_PROBLEM]);
+        let answer = contenders::pddl(who, &input.file, &mut domain, &mut problem);
+        (answer, domain, problem)
+    });
+    assert_eq!(results[0].0 .0, 0, "two texts");
+    same(&input.name, &results);
+    let (mut domain, mut problem) = (vec![0; MAX_DOMAIN], vec![0; MAX_PROBLEM]);
+    measure::medians(|who| {
+        black_box(contenders::pddl(
+            who,
+            &input.file,
+            &mut domain,
+            &mut problem,
+        ));
+    })
+}
+
 /// A time with three digits or more.
 fn shown(nanoseconds: f64) -> String {
     if nanoseconds < 10_000.0 {
@@ -53,7 +73,20 @@ fn shown(nanoseconds: f64) -> String {
     }
 }
 
-fn line(operation: &str, input: &Input, times: Times) {
+fn heading(names: &[&str]) {
+    let ratios: Vec<String> = names[1..]
+        .iter()
+        .map(|name| format!("{} / {name}", names[0]))
+        .collect();
+    println!(
+        "| operation | input | {} | {} |",
+        names.join(" | "),
+        ratios.join(" | ")
+    );
+    println!("|---|---|{}", "---|".repeat(2 * names.len() - 1));
+}
+
+fn line(operation: &str, input: &Input, times: &[f64]) {
     let columns: Vec<String> = times.iter().map(|&time| shown(time)).collect();
     let ratios: Vec<String> = times[1..]
         .iter()
@@ -68,14 +101,7 @@ fn line(operation: &str, input: &Input, times: Times) {
 }
 
 fn comparison() {
-    let [library, rest @ ..] = NAMES;
-    let ratios = rest.map(|name| format!("{library} / {name}"));
-    println!(
-        "| operation | input | {} | {} |",
-        NAMES.join(" | "),
-        ratios.join(" | ")
-    );
-    println!("|---|---|{}", "---|".repeat(2 * NAMES.len() - 1));
+    heading(&NAMES);
     let judged = [
         inputs::belt(),
         inputs::middle(),
@@ -84,7 +110,7 @@ fn comparison() {
         inputs::many_actions("each in turn", &Vec::from_iter(0..128)),
     ];
     for input in &judged {
-        line("judge", input, judge(input));
+        line("judge", input, &judge(input));
     }
     let translated = [
         inputs::belt(),
@@ -93,7 +119,18 @@ fn comparison() {
         inputs::copied(12_000),
     ];
     for input in &translated {
-        line("translate", input, translate(input));
+        line("translate", input, &translate(input));
+    }
+    println!();
+    heading(&NAMES[..2]);
+    let written = [
+        inputs::compiled(inputs::belt()),
+        inputs::compiled(inputs::middle()),
+        inputs::longest_domain(12_000),
+        inputs::longest_problem(12_000),
+    ];
+    for input in &written {
+        line("pddl", input, &pddl(input));
     }
 }
 
@@ -119,6 +156,12 @@ fn growth() {
             input.name,
             shown(translate(&input)[0])
         );
+    }
+    for of in [inputs::longest_domain, inputs::longest_problem] {
+        for rows in [1_500, 3_000, 6_000, 12_000] {
+            let input = of(rows);
+            println!("| pddl | {} | {} |", input.name, shown(pddl(&input)[0]));
+        }
     }
 }
 

@@ -1,7 +1,5 @@
 //! Medians of many rounds, in which the implementations take turns.
 
-use crate::contenders::NAMES;
-
 #[repr(C)]
 struct Time {
     seconds: i64,
@@ -24,12 +22,12 @@ fn now() -> f64 {
 }
 
 /// Nanoseconds of one call, for each implementation. A round calls each so often that its clock reading is worth something.
-pub fn medians(mut call: impl FnMut(usize)) -> [f64; NAMES.len()] {
-    let times = [0, 1, 2, 3].map(|who| repeats(|| call(who)));
+pub fn medians<const N: usize>(mut call: impl FnMut(usize)) -> [f64; N] {
+    let times: [u32; N] = std::array::from_fn(|who| repeats(|| call(who)));
     let rounds = 41;
-    let mut seen = [(); NAMES.len()].map(|()| Vec::with_capacity(rounds));
+    let mut seen = [(); N].map(|()| Vec::with_capacity(rounds));
     for _ in 0..rounds {
-        for who in 0..NAMES.len() {
+        for who in 0..N {
             let start = now();
             for _ in 0..times[who] {
                 call(who);

@@ -1,4 +1,5 @@
-/* Checks the belt's task, translates it, judges a plan on it, as bytes and as text, and prints the answers: belt TASK PLAN. */
+/* Checks the belt's task, translates it, writes the translation as PDDL, judges a plan on the task, as bytes and as text, and
+ * prints the answers: belt TASK PLAN. */
 #include "route_rules.h"
 
 #include <inttypes.h>
@@ -34,6 +35,20 @@ static void check(const uint8_t *file, size_t length)
                answer.actions, answer.preferences, answer.rows);
 }
 
+/* Prints the problem in PDDL, and how long the domain is. */
+static void pddl(const uint8_t *file, size_t length)
+{
+    static uint8_t domain[ROUTE_RULES_MAX_PDDL], problem[ROUTE_RULES_MAX_PDDL];
+    route_rules_texts answer;
+    uint32_t number = route_rules_pddl(file, length, domain, sizeof domain, problem, sizeof problem, &answer);
+    if (number != 0) {
+        refused("pddl", number, answer.place);
+        return;
+    }
+    printf("pddl: domain %" PRIu64 " bytes, problem:\n", answer.domain);
+    fwrite(problem, 1, answer.problem, stdout);
+}
+
 static void translate(const uint8_t *file, size_t length)
 {
     static uint8_t out[ROUTE_RULES_MAX_FILE];
@@ -45,6 +60,7 @@ static void translate(const uint8_t *file, size_t length)
     }
     printf("translate: %" PRIu64 " bytes\n", answer.length);
     check(out, answer.length);
+    pddl(out, answer.length);
 }
 
 static void judged(const char *operation, uint32_t number, const route_rules_judged *answer)
@@ -104,6 +120,7 @@ int main(int count, char **words)
 
     check(file, length);
     translate(file, length);
+    pddl(file, length); /* a task with preferences */
     judge(file, length, plan, steps);
     judge(file, length, plan, 0);                     /* the goal is missed */
     judge(file, length, (const uint8_t *)"\0\1\1\0", 4); /* utility below 0 */

@@ -1,9 +1,10 @@
-//! Checks the belt's task, translates it, judges a plan on it, as bytes and as text, and prints the answers: `belt TASK PLAN`.
+//! Checks the belt's task, translates it, writes the translation as PDDL, judges a plan on the task, as bytes and as text, and
+//! prints the answers: `belt TASK PLAN`.
 
 #[path = "../../include/route_rules.rs"]
 mod route_rules;
 
-use route_rules::{Refusal, Verdict, MAX_FILE, MAX_TEXT};
+use route_rules::{Refusal, Verdict, MAX_FILE, MAX_PDDL, MAX_TEXT};
 use std::fs;
 
 fn refused(refusal: Refusal) -> String {
@@ -20,12 +21,25 @@ fn check(file: &[u8]) {
     println!("check: {line}");
 }
 
+/// Prints the problem in PDDL, and how long the domain is.
+fn pddl(file: &[u8]) {
+    let (mut domain, mut problem) = (vec![0; MAX_PDDL], vec![0; MAX_PDDL]);
+    match route_rules::pddl(file, &mut domain, &mut problem) {
+        Ok((of_domain, of_problem)) => {
+            println!("pddl: domain {of_domain} bytes, problem:");
+            print!("{}", String::from_utf8_lossy(&problem[..of_problem]));
+        }
+        Err(refusal) => println!("pddl: {}", refused(refusal)),
+    }
+}
+
 fn translate(file: &[u8]) {
     let mut out = vec![0; MAX_FILE];
     match route_rules::translate(file, &mut out) {
         Ok(length) => {
             println!("translate: {length} bytes");
             check(&out[..length]);
+            pddl(&out[..length]);
         }
         Err(refusal) => println!("translate: {}", refused(refusal)),
     }
@@ -75,6 +89,7 @@ fn main() {
 
     check(&file);
     translate(&file);
+    pddl(&file); // a task with preferences
     judge(&file, &plan);
     judge(&file, &[]); // the goal is missed
     judge(&file, &[0, 1, 1, 0]); // utility below 0

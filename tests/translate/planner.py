@@ -86,12 +86,11 @@ def words(data):
 Solution = collections.namedtuple('Solution', 'total steps missed')
 
 
-def plan(program, data, horizon, sign, steps=None):
-    """The cheapest or dearest list of at most horizon steps that solves a task, or None; where steps are given, only that list is
-    looked at. The total is the cost or the metric. Missed preferences are source.lp's alone."""
-    given = [] if steps is None else [f':- not length({len(steps)}).', *(f':- not step({i},{step}).' for i, step in enumerate(steps))]
+def best(program, facts, horizon, sign):
+    """The cheapest or dearest list of at most horizon steps that solves the task in the facts, or None. The program is a file beside
+    this one, or a whole path."""
     gringo = subprocess.run(['gringo', '-c', f'horizon={horizon}', '-c', f'sign={sign}', os.path.join(HERE, program), '-'],
-                            input='\n'.join([*task_facts(data), *given]).encode(), stdout=subprocess.PIPE, check=True)
+                            input='\n'.join(facts).encode(), stdout=subprocess.PIPE, check=True)
     clasp = subprocess.run(['clasp', '--quiet=1', '--outf=2'], input=gringo.stdout, stdout=subprocess.PIPE)
     answer = json.loads(clasp.stdout)
     if answer['Result'] == 'UNSATISFIABLE':
@@ -104,6 +103,13 @@ def plan(program, data, horizon, sign, steps=None):
         predicate, *numbers = re.findall(r'[^(),]+', atom)
         atoms[predicate].append([int(number) for number in numbers])
     return Solution(sign * total, [step for _, step in sorted(atoms['step'])], sorted(k for k, in atoms['missed']))
+
+
+def plan(program, data, horizon, sign, steps=None):
+    """The cheapest or dearest list of at most horizon steps that solves a task, or None; where steps are given, only that list is
+    looked at. The total is the cost or the metric. Missed preferences are source.lp's alone."""
+    given = [] if steps is None else [f':- not length({len(steps)}).', *(f':- not step({i},{step}).' for i, step in enumerate(steps))]
+    return best(program, [*task_facts(data), *given], horizon, sign)
 
 
 # ---- a task and its translation

@@ -1,5 +1,7 @@
-// Files by name, for the programs.
+// Files by name, and the lines that every program prints.
 ghost use Rattle.files.specs.Content.{Fits};
+use libc::STDOUT_FILENO;
+use task::Refusal;
 
 // What was read of a file: so many bytes, or none since it can't be opened or read.
 pub enum Content {
@@ -31,4 +33,16 @@ pub fn read(name: &[u8], buf: &mut [u8]) -> Content
     let r = read_open(fd, buf);
     libc::close(fd);
     r
+}
+
+// Prints that a file is missing.
+pub fn say_missing() {
+    io::write_all(STDOUT_FILENO, b"no file\n");
+}
+
+// Prints the line of a refusal.
+pub fn say_refused(f: Refusal) {
+    let mut line = [0u8; 64];
+    let k = text::put_refused(&mut line, 0, f.number as u64, f.place as u64);
+    io::write_all(STDOUT_FILENO, text::front(&line, k));
 }

@@ -9,11 +9,11 @@ fn main() {
     let of_task = files::read(b"task", &mut task);
     let of_plan = files::read(b"plan", &mut plan);
     let Content::Bytes(n) = of_task else {
-        io::write_all(STDOUT_FILENO, b"no file\n");
+        files::say_missing();
         return;
     };
     let Content::Bytes(m) = of_plan else {
-        io::write_all(STDOUT_FILENO, b"no file\n");
+        files::say_missing();
         return;
     };
     let mut out = [0u8; 2048];

@@ -13,11 +13,12 @@ use Rattle.task.specs.Task.{kindMark, two-sided, conditionRows, preferenceRows}
 use Rattle.task.specs.File.{paired}
 use Rattle.task.specs.Spelling.{preferenceSpellable}
 use Rattle.task.specs.Meaning.{State as Facts, isTrue}
+use Rattle.task.specs.Rows.{Stops}
 use Rattle.task.proofs.Tests.{tests}
 use Rattle.task.proofs.Bytes.{length-paired}
 use Rattle.task.proofs.Back.{secondRows}
 use Rattle.task.proofs.Parse.{one-sided-mark, two-sided-mark}
-use Rattle.task.proofs.Reading.{mark-at, Stops}
+use Rattle.task.proofs.Reading.{mark-at}
 use Rattle.task.proofs.Positions.{drop-next, drop-behind, preferences-stop}
 use Rattle.state.specs.Conditions.{inCondition, start, evaluateAt}
 use Rattle.state.specs.declared.conditions.Evaluated.{Evaluated}

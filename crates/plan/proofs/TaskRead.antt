@@ -71,7 +71,7 @@ module _ (t : Task) (ms vs : List ℕ) (R : Reads t ms vs) where
         → evaluateAt σ start ms vs at ≡ record { holds = isTrue σ (a .precondition); next = at + length (conditionRows (a .precondition)) }
     precondition-read σ =
         condition-at σ ms vs at (a .precondition) (concatMap effectRows (a .effects) ++ behind) precondition-rows
-        (effects-stop inCondition kind-past refl refl (a .effects) (others t ms vs R k h) (t .preferences))
+        (effects-stop inCondition refl (a .effects) (tailRows (others t ms vs R k h) (t .preferences)) (tail-stops inCondition kind-past refl (others t ms vs R k h) (t .preferences)))
 
     pub effects-read : (σ : Facts) → applyAt σ none ms vs (at + length (conditionRows (a .precondition))) .state ≡ after σ a
     effects-read σ =

@@ -9,7 +9,8 @@ use lib.Dec.{T, eqb, leb}
 use lib.ListN.{length, length-append}
 use borrow.Author.Tests.{leb-true}
 use Rattle.task.proofs.Tests.{and-left, and-right, and-both}
-use Rattle.plan_text.specs.PlanText.{NEWLINE, SEMICOLON, stepLine, textOf, Lines, rest, ended, linesOf, same, numberFrom, asByte, Line, comment, step, other, lineOf, Read, plan, faulty, stepBefore, lineBefore, readLines, readPlan}
+use Rattle.text.specs.Text.{numberFrom}
+use Rattle.plan_text.specs.PlanText.{NEWLINE, SEMICOLON, stepLine, textOf, Lines, rest, ended, linesOf, same, asByte, Line, comment, step, other, lineOf, Read, plan, faulty, stepBefore, lineBefore, readLines, readPlan}
 use Rattle.plan_text.proofs.Numerals.{same-eq}
 use Rattle.plan_text.proofs.Splitting.{bytesOf, whole, oneLine, areSplit, all-split, split-again, by-lines}
 use Rattle.plan_text.proofs.Returned.{read-back}

@@ -7,13 +7,14 @@ use native.Mathlib.Omega.{arith}
 use lib.Dec.{eqb}
 use borrow.Author.Tests.{eqb-true, eqb-false, ne-eqb, lt-ltb}
 use Rattle.task.proofs.Tests.{not-both}
-use Rattle.text.specs.Text.{decimal}
+use Rattle.text.specs.Text.{decimal, isDigit, numberFrom}
 use Rattle.text.proofs.Decimal.{decimal-one}
-use Rattle.plan_text.specs.PlanText.{SEMICOLON, stepLine, stepOr, same, isDigit, numberFrom, asByte, Line, comment, step, other, lineOf}
+use Rattle.plan_text.specs.PlanText.{SEMICOLON, stepLine, stepOr, same, asByte, Line, comment, step, other, lineOf}
 use Rattle.plan_text.specs.Scan.{follow, isOpening}
 use Rattle.plan_text.specs.declared.scan.Mode.{Mode}
 use Rattle.plan_text.specs.declared.scan.Mode.the-variants.{Opening, Comment, Bracket, Letter, Zero, Digits, Closed, Other}
-use Rattle.plan_text.proofs.Numerals.{digit-is, digit-range, decimal-digits, Headed, headed, one-more, as-byte-on, same-refl, closes, closes-digits, not-same}
+use Rattle.text.proofs.Digits.{digit-is, digit-range, decimal-digits, Headed, headed, one-more}
+use Rattle.plan_text.proofs.Numerals.{as-byte-on, same-refl, closes, closes-digits, not-same}
 
 -- a line's form after its bytes
 abbrev pub run : Mode → List ℕ → Mode

@@ -9,10 +9,11 @@ use lib.ListN.{length, length-append}
 use borrow.Author.Tests.{ne-eqb, ltb-false}
 use Rattle.task.specs.Lists.{all}
 use Rattle.task.proofs.Tests.{as-T, never, tests, and-left, and-right, without, noneOf, all-both, all-implies}
-use Rattle.text.specs.Text.{decimal}
+use Rattle.text.specs.Text.{decimal, isDigit, numberFrom}
 use Rattle.text.proofs.Decimal.{few-digits}
-use Rattle.plan_text.specs.PlanText.{NEWLINE, stepLine, textOf, linesOf, isDigit, numberFrom, asByte, step, stepOr, lineOf, plan, readLines, readPlan}
-use Rattle.plan_text.proofs.Numerals.{decimal-digits, number-append, number-back, same-refl}
+use Rattle.plan_text.specs.PlanText.{NEWLINE, stepLine, textOf, linesOf, asByte, step, stepOr, lineOf, plan, readLines, readPlan}
+use Rattle.text.proofs.Digits.{decimal-digits, number-append, number-back}
+use Rattle.plan_text.proofs.Numerals.{same-refl}
 use Rattle.plan_text.proofs.Splitting.{isNewline, oneLine, line-ended, by-lines}
 
 -- The line of step n

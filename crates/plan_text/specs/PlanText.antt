@@ -1,11 +1,11 @@
 -- A plan as text, by document 02, request 1: a line for each step, and comments.
 use mathlib.Core.Bool.{Bool, true, false, cond, _&&_}
 use mathlib.Core.List.{List, [], _∷_, _++_}
-use Prim.Native.Nat.{ℕ, suc, _+_, _*_, _-_}
+use Prim.Native.Nat.{ℕ, suc}
 use lib.Dec.{eqb, leb, ltb}
 use lib.ListN.{length}
 use Rattle.text.specs.Ascii.{ascii}
-use Rattle.text.specs.Text.{decimal}
+use Rattle.text.specs.Text.{decimal, numberFrom}
 
 abbrev pub NEWLINE : ℕ
 NEWLINE = 10
@@ -47,14 +47,6 @@ same [] [] = true
 same [] (y ∷ ys) = false
 same (x ∷ xs) [] = false
 same (x ∷ xs) (y ∷ ys) = eqb x y && same xs ys
-
-abbrev pub isDigit : ℕ → Bool
-isDigit b = leb 48 b && leb b 57
-
--- the number that the digits in a line make, behind digits that make n
-abbrev pub numberFrom : ℕ → List ℕ → ℕ
-numberFrom n [] = n
-numberFrom n (b ∷ l) = numberFrom (cond (isDigit b) (10 * n + (b - 48)) n) l
 
 -- a number too large for a byte is read as 255
 abbrev pub asByte : ℕ → ℕ

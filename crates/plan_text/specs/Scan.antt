@@ -4,7 +4,8 @@ use mathlib.Core.List.{List, [], _∷_, _++_}
 use Prim.Native.Nat.{ℕ, suc, _+_, _*_, _-_}
 use lib.Dec.{eqb}
 use lib.ListN.{length}
-use Rattle.plan_text.specs.PlanText.{NEWLINE, SEMICOLON, isDigit, asByte, Read, plan, faulty}
+use Rattle.text.specs.Text.{isDigit}
+use Rattle.plan_text.specs.PlanText.{NEWLINE, SEMICOLON, asByte, Read, plan, faulty}
 use Rattle.plan_text.specs.declared.scan.Mode.{Mode}
 use Rattle.plan_text.specs.declared.scan.Mode.the-variants.{Opening, Comment, Bracket, Letter, Zero, Digits, Closed, Other}
 use Rattle.plan_text.specs.declared.scan.Scan.{Scan}

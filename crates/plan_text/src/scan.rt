@@ -3,7 +3,8 @@ ghost use mathlib.Core.Path.{_≡_};
 ghost use Prim.Native.Nat.{_+_, _*_, _-_, _^_, _<_, _≤_};
 ghost use lib.ListN.{length};
 ghost use Rattle.text.specs.Area.{written};
-ghost use Rattle.plan_text.specs.PlanText.{isDigit, asByte, linesOf, readLines};
+ghost use Rattle.text.specs.Text.{isDigit};
+ghost use Rattle.plan_text.specs.PlanText.{asByte, linesOf, readLines};
 ghost use Rattle.plan_text.specs.declared.scan.Mode.the-variants.{Opening, Letter, Digits};
 ghost use Rattle.plan_text.specs.Scan.{follow, nextLine, advance, isOpening, count as countOf, counted, begun, stepOf, stepAt, atLine, start, stepsFrom};
 

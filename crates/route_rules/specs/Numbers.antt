@@ -9,6 +9,7 @@ use Rattle.task.specs.Check.{Answer}
 use Rattle.task.specs.Verdict.{Verdict, solved, stopped, goal-missed}
 use Rattle.plan.specs.Judged
 use Rattle.plan.specs.Judged.{Judged, given}
+use Rattle.pddl_text.specs.Outcomes
 use Rattle.outcome.specs.Outcome
 use Rattle.outcome.specs.Outcome.{Outcome, written}
 
@@ -32,6 +33,11 @@ ofCheck (Check.refused n i) = refusal n i
 abbrev pub ofOutcome : Outcome → Call
 ofOutcome (written n) = answered n 0 0 0 0 0 0
 ofOutcome (Outcome.refused n i) = refusal n i
+
+-- words 1 and 2 are the lengths of the domain and of the problem
+abbrev pub ofTexts : Outcomes.Outcome → Call
+ofTexts (Outcomes.written d p) = answered d p 0 0 0 0 0
+ofTexts (Outcomes.refused n i) = refusal n i
 
 -- a signed number in 64 bits, by two's complement
 abbrev pub signed : ℤ → ℕ

@@ -16,7 +16,10 @@ ghost use Rattle.translation.specs.Translated.{outcome, Delivered};
 ghost use Rattle.route_rules.specs.Corollary.{PaidAsJudged};
 ghost use Rattle.plan_text.specs.PlanText.{textOf};
 ghost use Rattle.plan_text.specs.Outcomes.{readOutcome, stepsIn, writeOutcome, textJudged};
-ghost use Rattle.route_rules.specs.Numbers.{call, refusal, answered, ofCheck, ofOutcome, ofVerdict, ofJudge, signed};
+ghost use Rattle.task.specs.File.{taskOf};
+ghost use Rattle.pddl_text.specs.Outcomes.{outcome as texts, domainAfter, problemAfter};
+ghost use Rattle.pddl_text.specs.Answers.{answer as asTexts};
+ghost use Rattle.route_rules.specs.Numbers.{call, refusal, answered, ofCheck, ofOutcome, ofTexts, ofVerdict, ofJudge, signed};
 use outcome::Outcome;
 use plan::Judged;
 use plan::Verdict;
@@ -70,6 +73,17 @@ fn put_outcome(o: Outcome, answer: &mut [u64; 8]) -> u32
     match o {
         Outcome::Written(n) => put_values(answer, n as u64, 0, 0, 0, 0, 0),
         Outcome::Refused(f) => put_refusal(f, answer),
+    }
+}
+
+fn put_texts(o: pddl_text::Outcome, answer: &mut [u64; 8]) -> u32
+    ensures { λ r. ⌜ call r (now (answer .exit)) ≡ ofTexts (asTexts o) ⌝ }
+{
+    match o {
+        pddl_text::Outcome::Written(n) => {
+            put_values(answer, n.domain as u64, n.problem as u64, 0, 0, 0, 0)
+        }
+        pddl_text::Outcome::Refused(f) => put_refusal(f, answer),
     }
 }
 
@@ -164,6 +178,21 @@ pub extern "C" fn route_rules_judge_text(file: &[u8], text: &[u8], answer: &mut 
     ensures { λ r. ⌜ call r (now (answer .exit)) ≡ ofJudge (textJudged (now (file .entry)) (now (text .entry))) ⌝ }
 {
     put_judged(plan_text::judge_text(file, text), answer)
+}
+
+// Writes the task in a file as PDDL into the areas `domain` and `problem`. A refusal leaves both as they were.
+#[no_mangle]
+pub extern "C" fn route_rules_pddl(
+    file: &[u8],
+    domain: &mut [u8],
+    problem: &mut [u8],
+    answer: &mut [u64; 8],
+) -> u32
+    ensures { λ r. ⌜ call r (now (answer .exit)) ≡ ofTexts (texts (now (file .entry)) (length (now (domain .entry))) (length (now (problem .entry)))) ⌝ }
+    ensures { λ r. ⌜ now (domain .exit) ≡ domainAfter (taskOf (now (file .entry))) (now (domain .entry)) (texts (now (file .entry)) (length (now (domain .entry))) (length (now (problem .entry)))) ⌝ }
+    ensures { λ r. ⌜ now (problem .exit) ≡ problemAfter (taskOf (now (file .entry))) (now (problem .entry)) (texts (now (file .entry)) (length (now (domain .entry))) (length (now (problem .entry)))) ⌝ }
+{
+    put_texts(pddl_text::write(file, domain, problem), answer)
 }
 
 // Writes what program judge writes about a plan on a task, as far as the area has room, and returns its length.

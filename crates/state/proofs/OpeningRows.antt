@@ -12,10 +12,10 @@ use Rattle.task.specs.Lists.{elem}
 use Rattle.task.specs.Task.{Row, row, factsBelow}
 use Rattle.task.specs.File.{paired}
 use Rattle.task.specs.Meaning.{State as Facts}
-use Rattle.task.specs.Rows.{run, runAt}
+use Rattle.task.specs.Rows.{run, runAt, Stops}
 use Rattle.task.proofs.Tests.{all-map}
 use Rattle.task.proofs.Bytes.{length-paired}
-use Rattle.task.proofs.Reading.{passes, Stops, fold, run-stop, run-through, run-ends}
+use Rattle.task.proofs.Reading.{passes, fold, run-stop, run-through, run-ends}
 use Rattle.state.specs.Member.{empty}
 use Rattle.state.specs.Effects.{Result}
 use Rattle.state.specs.Opening.{openRow, opened, openAt}

@@ -10,9 +10,9 @@ use Rattle.task.specs.Lists.{concatMap, upTo}
 use Rattle.task.specs.Marks.{ACTION, EFFECT, GOAL, START, ALWAYS, SOMETIME, AT-END, AT-MOST-ONCE, SOMETIME-BEFORE, SOMETIME-AFTER}
 use Rattle.task.specs.Task.{Kind, always, sometime, at-end, at-most-once, sometime-before, sometime-after, Effect, Action, Preference, Task, Row, row, kindMark, conditionRows, effectRows, actionRows, preferenceRows, taskRows}
 use Rattle.task.specs.File.{isPreference}
+use Rattle.task.specs.Rows.{Stops}
 use Rattle.task.proofs.Tests.{tests, noneOf, without, all-both, all-map, all-concat, upTo-none, as-true, as-false}
 use Rattle.task.proofs.Back.{fromGoal, task-grouped, condition-passes, effects-pass, kind-passes}
-use Rattle.task.proofs.Reading.{Stops}
 
 -- Rows behind other rows
 
@@ -49,15 +49,14 @@ module _ (p : ℕ → Bool) (kinds : (k : Kind) → p (kindMark k) ≡ false) wh
   preferences-stop [] = tt
   preferences-stop (q ∷ qs) = kinds (q .kind)
 
-  module _ (action : p ACTION ≡ false) where
-    pub tail-stops : (l : List Action) (qs : List Preference) → Stops p (tailRows l qs)
-    tail-stops [] qs = preferences-stop qs
-    tail-stops (a ∷ l) qs = action
+  pub tail-stops : p ACTION ≡ false → (l : List Action) (qs : List Preference) → Stops p (tailRows l qs)
+  tail-stops action [] qs = preferences-stop qs
+  tail-stops action (a ∷ l) qs = action
 
-    pub effects-stop : p EFFECT ≡ false → (es : List Effect) (l : List Action) (qs : List Preference)
-        → Stops p (concatMap effectRows es ++ tailRows l qs)
-    effects-stop e [] l qs = tail-stops l qs
-    effects-stop e (f ∷ es) l qs = e
+-- effects, and rows behind them
+pub effects-stop : (p : ℕ → Bool) → p EFFECT ≡ false → (es : List Effect) (xs : List Row) → Stops p xs → Stops p (concatMap effectRows es ++ xs)
+effects-stop p e [] xs s = s
+effects-stop p e (f ∷ es) xs s = e
 
 -- START rows, then GOAL
 

@@ -1,9 +1,9 @@
 -- Numbers as bytes, and the line of a refusal.
-use mathlib.Core.Bool.{Bool, true, false}
+use mathlib.Core.Bool.{Bool, true, false, cond, _&&_}
 use mathlib.Core.List.{List, [], _∷_, _++_}
-use Prim.Native.Nat.{ℕ, zero, suc, _+_, _/_, _%_}
+use Prim.Native.Nat.{ℕ, zero, suc, _+_, _*_, _-_, _/_, _%_}
 use Prim.Native.Char.{code}
-use lib.Dec.{ltb}
+use lib.Dec.{leb, ltb}
 use Rattle.text.specs.Ascii.{ascii}
 
 abbrev pub digit : ℕ → List ℕ
@@ -23,6 +23,16 @@ lastDigits (suc k) n = digitsBy (ltb n 10) (lastDigits k) n
 -- all digits: n has no more than n + 1
 unfoldable pub decimal : ℕ → List ℕ
 decimal n = lastDigits (suc n) n
+
+-- Digits read back
+
+abbrev pub isDigit : ℕ → Bool
+isDigit b = leb 48 b && leb b 57
+
+-- the number that the digits in a text make, behind digits that make n
+abbrev pub numberFrom : ℕ → List ℕ → ℕ
+numberFrom n [] = n
+numberFrom n (b ∷ l) = numberFrom (cond (isDigit b) (10 * n + (b - 48)) n) l
 
 -- `refused`, number and place
 unfoldable pub refusedLine : ℕ → ℕ → List ℕ

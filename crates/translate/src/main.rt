@@ -1,13 +1,12 @@
 // Program translate: translates the task in the file `task`, and writes the translation to the file `compiled`.
 use files::Content;
-use libc::STDOUT_FILENO;
 use outcome::Outcome;
 
 // Writes `compiled`, which then holds the translation alone.
 fn write_compiled(translation: &[u8]) {
     let fd = os::open_overwrite(b"compiled");
     if fd < 0 {
-        io::write_all(STDOUT_FILENO, b"no file\n");
+        files::say_missing();
         return;
     }
     io::write_all(fd, translation);
@@ -20,17 +19,13 @@ fn main() {
     let mut task = io::large_buffer();
     let of_task = files::read(b"task", &mut task);
     let Content::Bytes(n) = of_task else {
-        io::write_all(STDOUT_FILENO, b"no file\n");
+        files::say_missing();
         return;
     };
     let mut out = io::large_buffer();
     let answer = translation::translate(text::front(&task, n), &mut out);
     match answer {
         Outcome::Written(m) => write_compiled(text::front(&out, m)),
-        Outcome::Refused(f) => {
-            let mut line = [0u8; 64];
-            let k = text::put_refused(&mut line, 0, f.number as u64, f.place as u64);
-            io::write_all(STDOUT_FILENO, text::front(&line, k));
-        }
+        Outcome::Refused(f) => files::say_refused(f),
     }
 }

@@ -13,12 +13,12 @@ use Rattle.task.specs.Lists.{all, concatMap}
 use Rattle.task.specs.Marks.{CLAUSE, LACKS, SECOND}
 use Rattle.task.specs.Task.{Condition, Preference, Row, row, kindMark, two-sided, conditionRows, preferenceRows}
 use Rattle.task.specs.File.{paired}
-use Rattle.task.specs.Rows.{runAt}
+use Rattle.task.specs.Rows.{between, runAt, Stops}
 use Rattle.task.proofs.Back.{condition-passes}
-use Rattle.task.proofs.Reading.{mark-at, passes, Stops, run-stop, run-through, goes-on, stops-at, ends-at}
+use Rattle.task.proofs.Reading.{mark-at, passes, run-stop, run-through, goes-on, stops-at, ends-at}
 use Rattle.task.proofs.Positions.{drop-next, drop-behind, preferences-stop, past-kinds}
 use Rattle.translation.specs.Writer.{part}
-use Rattle.translation.specs.Places.{between, endAt, Located}
+use Rattle.translation.specs.Places.{endAt, Located}
 
 abbrev still : Unit {0} → Row → Unit {0}
 still w x = w

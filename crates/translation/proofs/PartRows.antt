@@ -12,7 +12,7 @@ use Rattle.task.specs.Marks.{ACTION, EFFECT, CLAUSE, HOLDS, LACKS, DELETE}
 use Rattle.task.specs.Task.{always, sometime-before, sometime-after, Condition, Action, Preference}
 use Rattle.task.specs.Task.{Row, row, clauseRows, conditionRows, effectRows, actionRows, preferenceRows}
 use Rattle.task.specs.File.{paired, kindOf}
-use Rattle.task.specs.Rows.{valueAt}
+use Rattle.task.specs.Rows.{between, valueAt}
 use Rattle.task.proofs.Back.{effects-pass, kind-back}
 use Rattle.task.proofs.Bytes.{length-paired}
 use Rattle.task.proofs.Reading.{row-at, mark-at, passes}
@@ -20,7 +20,7 @@ use Rattle.task.proofs.Positions.{drop-next, drop-behind, tailRows, tail-stops,
 use Rattle.classical.specs.Translation.{holdsFact, lacksFact, alone, factS, factB, factC, normal, ended, metClause, allTrackers, sourceAction, endAction}
 use Rattle.classical.specs.Translation.{closing, collect, forgo, closings, allClosed}
 use Rattle.translation.specs.Writer.{Wrote, part}
-use Rattle.translation.specs.Places.{between, endAt, Starts}
+use Rattle.translation.specs.Places.{endAt, Starts}
 use Rattle.translation.specs.Rows.{singleRows}
 use Rattle.translation.specs.Parts.{allTrackerRows, sourceRows, endRows, missed, closingRows, preferenceClosings, closedRows}
 use Rattle.translation.proofs.Putting.{Onward, then, wrote-none, wrote-full, as-rows}
@@ -87,7 +87,7 @@ module _ (ms vs : List ℕ) (F : ℕ) (qs : List Preference) (all-acts : List Ac
           drop-next j (paired ms vs) (row ACTION (a .cost)) (pre ++ (effects ++ more)) here in
           let mid-is : mid ≡ j + 1 + length pre =
           mid-at ∙ end-behind CLAUSE LACKS ms vs (j + 1) pre (effects ++ more) behind-head (condition-between (a .precondition))
-          (effects-stop (between CLAUSE LACKS) (past-kinds (between CLAUSE LACKS) tt) refl refl (a .effects) l qs) in
+          (effects-stop (between CLAUSE LACKS) refl (a .effects) (tailRows l qs) (tail-stops (between CLAUSE LACKS) (past-kinds (between CLAUSE LACKS) tt) refl l qs)) in
           let behind-pre : drop mid (paired ms vs) ≡ effects ++ more =
           ap (λ (k : ℕ). drop k (paired ms vs)) mid-is ∙ drop-behind (j + 1) (paired ms vs) pre (effects ++ more) behind-head in
           let next-is : next ≡ mid + length effects =

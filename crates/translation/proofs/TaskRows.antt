@@ -11,11 +11,12 @@ use Rattle.task.specs.Task.{Condition, Action, Preference, Task, Row, row, cond
 use Rattle.task.specs.File.{paired}
 use Rattle.task.proofs.Tests.{all-both, all-map, all-concat}
 use Rattle.task.proofs.Back.{fromGoal, task-grouped, condition-passes, effects-pass}
-use Rattle.task.proofs.Reading.{passes, Stops}
+use Rattle.task.proofs.Reading.{passes}
 use Rattle.task.proofs.Positions.{drop-behind, tailRows, tail-stops, preferences-stop, past-kinds}
 use Rattle.classical.specs.Translation.{holdsFact, alone, normal, ended, sourceAction, endAction, closings, allClosed, translated}
 use Rattle.translation.specs.Writer.{Wrote, part}
-use Rattle.translation.specs.Places.{between, endAt, Noted}
+use Rattle.task.specs.Rows.{between, Stops}
+use Rattle.translation.specs.Places.{endAt, Noted}
 use Rattle.translation.specs.Rows.{singleRows}
 use Rattle.translation.specs.Parts.{AllActsFor, openingRows, closedRows, WroteTask}
 use Rattle.translation.proofs.Putting.{then, as-rows}

@@ -1,19 +1,15 @@
 -- Where the parts of a task end among its rows.
 use mathlib.Core.Path.{_≡_}
-use mathlib.Core.Bool.{Bool, true, _&&_}
+use mathlib.Core.Bool.{true}
 use mathlib.Core.List.{List, _∷_}
 use Prim.Native.Nat.{ℕ, _+_, _<_}
-use lib.Dec.{leb}
 use lib.ListN.{length, drop, getD}
 use Rattle.task.specs.Lists.{concatMap}
 use Rattle.task.specs.Task.{Preference, Row, kindMark, two-sided, conditionRows, preferenceRows}
 use Rattle.task.specs.File.{paired}
-use Rattle.task.specs.Rows.{runAt}
+use Rattle.task.specs.Rows.{between, runAt}
 use Rattle.translation.specs.Writer.{part}
 use Rattle.translation.specs.declared.places.Sides.{Sides}
-
-abbrev pub between : ℕ → ℕ → ℕ → Bool
-between least most m = leb least m && leb m most
 
 -- the first row from row i on whose mark is not between the two
 abbrev pub endAt : ℕ → ℕ → List ℕ → List ℕ → ℕ → ℕ

@@ -3,7 +3,7 @@
 #[path = "../../../include/route_rules.rs"]
 mod route_rules;
 
-pub use route_rules::{check, judge, judge_text, refused, Refusal, Sizes, Verdict};
+pub use route_rules::{check, judge, judge_text, refused, Refusal, Sizes, Verdict, MAX_PDDL};
 
 /// Fills an area before it is lent, and stands behind it.
 pub const GUARD: u8 = 0xA5;
@@ -39,6 +39,42 @@ pub fn read_plan(text: &[u8], room: usize) -> Left {
 
 pub fn write_plan(plan: &[u8], room: usize) -> Left {
     left(room, |out| route_rules::write_plan(plan, out))
+}
+
+/// What writing PDDL leaves in two areas, and the two lengths or the refusal that it answers.
+#[derive(PartialEq)]
+pub struct Both {
+    pub domain: Vec<u8>,
+    pub problem: Vec<u8>,
+    pub answer: Result<(usize, usize), Refusal>,
+}
+
+pub fn pddl(file: &[u8], rooms: (usize, usize)) -> Both {
+    let (mut domain, mut problem) = (area(rooms.0), area(rooms.1));
+    let answer = route_rules::pddl(file, &mut domain[..rooms.0], &mut problem[..rooms.1]);
+    Both {
+        domain,
+        problem,
+        answer,
+    }
+}
+
+/// What both areas and the answer have to be where the independent implementation gives these texts.
+pub fn both_expected(
+    rooms: (usize, usize),
+    texts: Result<peer::pddl::Texts, peer::Refusal>,
+) -> Both {
+    let (mut domain, mut problem) = (area(rooms.0), area(rooms.1));
+    let answer = texts.map_err(refusal).map(|texts| {
+        domain[..texts.domain.len()].copy_from_slice(texts.domain.as_bytes());
+        problem[..texts.problem.len()].copy_from_slice(texts.problem.as_bytes());
+        (texts.domain.len(), texts.problem.len())
+    });
+    Both {
+        domain,
+        problem,
+        answer,
+    }
 }
 
 /// What the area and the answer have to be where the independent implementation gives this output.

@@ -6,6 +6,7 @@
 
 mod judging;
 mod library;
+mod pddl;
 mod tally;
 mod texts;
 mod translating;
@@ -22,7 +23,9 @@ fn main() {
     let done = judging::compare(first, count)
         .and_then(|()| translating::edges())
         .and_then(|()| translating::compare(first, count))
-        .and_then(|()| texts::compare(first, count));
+        .and_then(|()| texts::compare(first, count))
+        .and_then(|()| pddl::edges())
+        .and_then(|()| pddl::compare(first, count / 10));
     if let Err(why) = done {
         println!("{why}");
         exit(1);

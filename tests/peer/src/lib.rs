@@ -1,11 +1,12 @@
 //! Task files with soft rules: check a file, judge a plan on it, translate it
-//! into a classical task. Written plainly from the specification, to compare
-//! another implementation with.
+//! into a classical task, write that as PDDL. Written plainly from the
+//! specification, to compare another implementation with.
 
 pub mod decode;
 pub mod encode;
 pub mod judge;
 pub mod meaning;
+pub mod pddl;
 pub mod random;
 pub mod task;
 pub mod text;

@@ -1,7 +1,7 @@
 //! Program peer: the operations on files, and random cases.
 
 use peer::random::{case, MAX_FILE};
-use peer::{check, decode, judge, refused_text, report, translate, Verdict};
+use peer::{check, decode, judge, pddl, refused_text, report, translate, Verdict};
 use std::collections::BTreeMap;
 use std::fs;
 
@@ -9,6 +9,7 @@ const USAGE: &str = "usage:
   peer check FILE
   peer judge TASK PLAN
   peer translate TASK OUT
+  peer pddl TASK DOMAIN PROBLEM
   peer case SEED DIR      write the files task and plan of a random case
   peer tally FIRST COUNT  count the answers on the cases of seeds from FIRST";
 
@@ -32,6 +33,7 @@ fn answer(words: &[&str]) -> Option<String> {
         ["check", file] => Some(check_file(file)),
         ["judge", task, plan] => Some(judge_files(task, plan)),
         ["translate", task, out] => Some(translate_file(task, out)),
+        ["pddl", task, domain, problem] => Some(write_pddl(task, domain, problem)),
         ["case", seed, folder] => Some(write_case(seed.parse().ok()?, folder)),
         ["tally", first, count] => Some(tally(first.parse().ok()?, count.parse().ok()?)),
         _ => None,
@@ -68,6 +70,24 @@ fn translate_file(task: &str, out: &str) -> String {
             Ok(()) => String::new(),
             Err(_) => NO_FILE.to_string(),
         },
+        Err(refusal) => refused_text(refusal),
+    }
+}
+
+/// The output files are opened only once the texts stand.
+fn write_pddl(task: &str, domain: &str, problem: &str) -> String {
+    let Ok(task) = fs::read(task) else {
+        return NO_FILE.to_string();
+    };
+    match pddl::write(&task, pddl::MAX_DOMAIN, pddl::MAX_PROBLEM) {
+        Ok(texts) => {
+            let written =
+                fs::write(domain, &texts.domain).and_then(|()| fs::write(problem, &texts.problem));
+            match written {
+                Ok(()) => String::new(),
+                Err(_) => NO_FILE.to_string(),
+            }
+        }
         Err(refusal) => refused_text(refusal),
     }
 }

@@ -1,0 +1,85 @@
+-- An effect: its condition, what it adds and what it deletes; and the effects of an action, each behind a space.
+use mathlib.Core.Path.{_≡_, refl, ap, _∙_, subst}
+use mathlib.Core.List.{List, [], _∷_, _++_, map, append-assoc}
+use Prim.Native.Nat.{ℕ, _+_}
+use native.Mathlib.Omega.{arith}
+use lib.Dec.{T}
+use lib.ListN.{length, drop, length-append}
+use Rattle.task.specs.Lists.{all}
+use Rattle.task.specs.Marks.{EFFECT, ADD, DELETE}
+use Rattle.task.specs.Task.{Effect, Row, row, conditionRows, effectRows}
+use Rattle.task.specs.File.{paired}
+use Rattle.task.specs.Rows.{between, Stops}
+use Rattle.task.proofs.Tests.{all-both, all-map, concat-append}
+use Rattle.task.proofs.Reading.{passes}
+use Rattle.task.proofs.Positions.{drop-next, drop-behind}
+use Rattle.text.specs.Ascii.{ascii}
+use Rattle.text.specs.Area.{Wrote}
+use Rattle.text.proofs.Writing.{then}
+use Rattle.pddl_text.specs.Pddl.{spaced, factText, notText, conditionText, effectText}
+use Rattle.pddl_text.specs.Rows.{rowText, Listed, listAt, endedAt}
+use Rattle.pddl_text.specs.Puts.{Puts}
+use Rattle.pddl_text.specs.declared.conditions.Spot.{Spot}
+use Rattle.pddl_text.proofs.Listing.{narrowed, each-text, lists}
+use Rattle.pddl_text.proofs.Emitting.{Parts}
+
+abbrev changeRows : Effect → List Row
+changeRows e = map (row ADD) (e .adds) ++ map (row DELETE) (e .deletes)
+
+abbrev pub effects : Parts Effect
+effects = record {
+  head = EFFECT;
+  most = DELETE;
+  inside = refl;
+  value = λ e. 0;
+  body = λ e. conditionRows (e .condition) ++ map (row ADD) (e .adds) ++ map (row DELETE) (e .deletes);
+  piece = λ n e. ascii " " ++ effectText e;
+  text = λ n l. spaced effectText l;
+  no-more = λ n. refl;
+  one-more = λ n e l. refl;
+}
+
+-- The rows of an effect's changes
+
+changes-text : (e : Effect) → spaced rowText (changeRows e) ≡ spaced factText (e .adds) ++ spaced notText (e .deletes)
+changes-text e =
+    concat-append (λ (x : Row). ascii " " ++ rowText x) (map (row ADD) (e .adds)) (map (row DELETE) (e .deletes))
+    ∙ (λ i. each-text (row ADD) factText (λ n. refl) (e .adds) i ++ each-text (row DELETE) notText (λ n. refl) (e .deletes) i)
+
+changes-between : (e : Effect) → T (all (passes (between 6 7)) (changeRows e))
+changes-between e =
+    all-both (passes (between 6 7)) (map (row ADD) (e .adds)) (map (row DELETE) (e .deletes))
+    (all-map (passes (between 6 7)) (row ADD) (λ n. tt) (e .adds)) (all-map (passes (between 6 7)) (row DELETE) (λ n. tt) (e .deletes))
+
+-- a condition ends before them
+changes-stop : (adds deletes : List ℕ) (xs : List Row) → Stops (between 3 7) xs → Stops (between 3 5) ((map (row ADD) adds ++ map (row DELETE) deletes) ++ xs)
+changes-stop [] [] xs s = narrowed 3 7 3 5 (omega arith) (omega arith) xs s
+changes-stop [] (n ∷ ns) xs s = refl
+changes-stop (n ∷ ns) deletes xs s = refl
+
+-- An effect, from what was written of its parts
+module _ (ms vs : List ℕ) (from : ℕ) (b : List ℕ) (at : ℕ) (k₁ : ℕ) (o₁ : List ℕ) (w₁ : Wrote b at (ascii "(when ") k₁ o₁)
+    (c : Spot) (o₂ : List ℕ) (condition : Puts conditionRows conditionText (between 3 5) ms vs (from + 1) o₁ k₁ c o₂)
+    (k₃ : ℕ) (o₃ : List ℕ) (w₃ : Wrote o₂ (c .at) (ascii " (and") k₃ o₃)
+    (k₄ : ℕ) (o₄ : List ℕ) (w₄ : Wrote o₃ k₃ (listAt 6 7 ms vs (c .next) .text) k₄ o₄)
+    (k₅ : ℕ) (o₅ : List ℕ) (w₅ : Wrote o₄ k₄ (ascii "))") k₅ o₅) where
+  pub effect-put : (next : ℕ) → next ≡ listAt 6 7 ms vs (c .next) .next → Puts effectRows effectText (between 3 7) ms vs from b at (record { at = k₅; next = next }) o₅
+  effect-put next read e xs spelled s =
+      let a : List ℕ = spaced factText (e .adds) in
+      let d : List ℕ = spaced notText (e .deletes) in
+      let conditions : List Row = conditionRows (e .condition) in
+      let here : drop (from + 1) (paired ms vs) ≡ conditions ++ (changeRows e ++ xs) =
+      drop-next from (paired ms vs) (row EFFECT 0) (conditions ++ map (row ADD) (e .adds) ++ map (row DELETE) (e .deletes) ++ xs) spelled
+      ∙ cc (append-assoc conditions (map (row ADD) (e .adds)) (map (row DELETE) (e .deletes)), append-assoc conditions (changeRows e) xs) in
+      let (w₂, behind) = condition (e .condition) (changeRows e ++ xs) here (changes-stop (e .adds) (e .deletes) xs s) in
+      let there : drop (c .next) (paired ms vs) ≡ changeRows e ++ xs =
+      ap (λ (i : ℕ). drop i (paired ms vs)) behind ∙ drop-behind (from + 1) (paired ms vs) conditions (changeRows e ++ xs) here in
+      let listed : listAt 6 7 ms vs (c .next) ≡ endedAt (a ++ d) (c .next + length (changeRows e)) =
+      lists 6 7 ms vs (c .next) (changeRows e) xs there (changes-between e) (narrowed 3 7 6 7 (omega arith) (omega arith) xs s)
+      ∙ ap (λ (t : List ℕ). endedAt t (c .next + length (changeRows e))) (changes-text e) in
+      let changes : Wrote o₃ k₃ (a ++ d) k₄ o₄ = subst (λ (l : Listed). Wrote o₃ k₃ (l .text) k₄ o₄) listed w₄ in
+      let ended : (a ++ d) ++ ascii "))" ≡ (a ++ (d ++ ascii ")")) ++ ascii ")" =
+      cc (append-assoc a d (ascii "))"), append-assoc a (d ++ ascii ")") (ascii ")"), append-assoc d (ascii ")") (ascii ")")) in (
+        subst (λ (t : List ℕ). Wrote b at (ascii "(when " ++ (conditionText (e .condition) ++ (ascii " (and" ++ t))) k₅ o₅) ended (then w₁ (then w₂ (then w₃ (then changes w₅)))),
+        omega (arith, read ∙ ap (λ (l : Listed). l .next) listed, behind, length-append conditions (map (row ADD) (e .adds)), length-append (conditions ++ map (row ADD) (e .adds)) (map (row DELETE) (e .deletes)), length-append (map (row ADD) (e .adds)) (map (row DELETE) (e .deletes))),
+      )

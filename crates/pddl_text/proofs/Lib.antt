@@ -1,0 +1,11 @@
+pub mod Examples
+pub mod Tells
+pub mod Told
+pub mod EqualTexts
+pub mod Listing
+pub mod Emitting
+pub mod ClauseRows
+pub mod EffectRows
+pub mod LineRows
+pub mod TextRows
+pub mod Answering

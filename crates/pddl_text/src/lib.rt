@@ -1,0 +1,81 @@
+// A task without preferences as a domain and a problem in PDDL.
+mod actions;
+mod conditions;
+mod texts;
+
+ghost use mathlib.Core.Path.{_≡_};
+ghost use Prim.Native.Nat.{_*_, _≤_};
+ghost use lib.ListN.{length};
+ghost use Rattle.task.specs.File.{taskOf};
+ghost use Rattle.pddl_text.specs.Puts.{Spelled};
+ghost use Rattle.pddl_text.specs.Outcomes.{refused, outcome, domainAfter, problemAfter};
+ghost use Rattle.pddl_text.specs.Answers.{answer, PutsTexts};
+use task::Checked;
+use task::Refusal;
+
+// How long the two texts are.
+pub struct Lengths {
+    pub domain: usize,
+    pub problem: usize,
+}
+
+// The texts stand at the starts of their areas, or a refusal has left both areas as they were.
+pub enum Outcome {
+    Written(Lengths),
+    Refused(Refusal),
+}
+
+fn refuse(number: u8) -> Outcome
+    ensures { λ r. ⌜ answer r ≡ refused number 0 ⌝ }
+{
+    Outcome::Refused(Refusal { number, place: 0 })
+}
+
+// Writes both texts, where both fit.
+fn put_texts(
+    marks: &[u8],
+    values: &[u8],
+    facts: usize,
+    domain: &mut [u8],
+    problem: &mut [u8],
+) -> Outcome
+    requires { ⌜ (4 * length (now marks) ≤ length (now values)) × (length (now marks) ≤ 12000) × (facts ≤ 128) × Spelled (now marks) (now values) ⌝ }
+    ensures { λ r. ⌜ PutsTexts (now (marks .entry)) (now (values .entry)) facts (now (domain .entry)) (now (problem .entry)) r (now (domain .exit)) (now (problem .exit)) ⌝ }
+{
+    let mut nothing: [u8; 1] = [0; 1];
+    let p = texts::put_problem(&mut nothing, marks, values);
+    let d = texts::put_domain(&mut nothing, facts, marks, values, p.next);
+    let both_fit = (d <= domain.len()) & (p.at <= problem.len());
+    if !both_fit {
+        return refuse(14);
+    }
+    texts::put_problem(&mut *problem, marks, values);
+    texts::put_domain(&mut *domain, facts, marks, values, p.next);
+    Outcome::Written(Lengths {
+        domain: d,
+        problem: p.at,
+    })
+}
+
+// Writes the task in a file as PDDL, the domain into one area and the problem into the other.
+pub fn write(file: &[u8], domain: &mut [u8], problem: &mut [u8]) -> Outcome
+    ensures { λ r. ⌜ answer r ≡ outcome (now (file .entry)) (length (now (domain .entry))) (length (now (problem .entry))) ⌝ }
+    ensures { λ r. ⌜ now (domain .exit) ≡ domainAfter (taskOf (now (file .entry))) (now (domain .entry)) (outcome (now (file .entry)) (length (now (domain .entry))) (length (now (problem .entry)))) ⌝ }
+    ensures { λ r. ⌜ now (problem .exit) ≡ problemAfter (taskOf (now (file .entry))) (now (problem .entry)) (outcome (now (file .entry)) (length (now (domain .entry))) (length (now (problem .entry)))) ⌝ }
+{
+    let c = task::check(file);
+    let Checked::Accepted(z) = c else {
+        return Outcome::Refused(task::refusal_of(c));
+    };
+    if z.preferences != 0 {
+        return refuse(13);
+    }
+    let middle = 8 + z.rows;
+    put_texts(
+        &file[8..middle],
+        &file[middle..],
+        z.facts,
+        &mut *domain,
+        &mut *problem,
+    )
+}

@@ -1,0 +1,63 @@
+// The domain and the problem of a task.
+ghost use Prim.Native.Nat.{_+_, _*_, _^_, _≤_, _<_};
+ghost use lib.ListN.{length};
+ghost use Rattle.text.specs.Area.{Wrote};
+ghost use Rattle.pddl_text.specs.Pddl.{spaced, factText, numbers};
+ghost use Rattle.pddl_text.specs.Puts.{Spelled, PutsProblem, PutsDomain};
+use super::actions;
+use super::conditions;
+use super::conditions::Spot;
+use task::marks;
+
+// Writes so many facts, each behind a space.
+fn put_facts(out: &mut [u8], at: usize, facts: usize) -> usize
+    requires { ⌜ (facts ≤ 128) × (at < 2 ^ 32) ⌝ }
+    ensures { λ r. ⌜ Wrote (now (out .entry)) at (spaced factText (numbers 0 facts)) r (now (out .exit)) ⌝ }
+    ensures { λ r. ⌜ r ≤ at + 24 * facts ⌝ }
+{
+    let mut k = at;
+    let mut i = 0;
+    while i < facts {
+        k = text::put_byte(&mut *out, k, b' ');
+        k = conditions::put_fact(&mut *out, k, i as u32);
+        i += 1;
+    }
+    k
+}
+
+// Writes the problem, and answers the row of the first action with its length.
+pub fn put_problem(out: &mut [u8], marks: &[u8], values: &[u8]) -> Spot
+    requires { ⌜ (4 * length (now marks) ≤ length (now values)) × (length (now marks) ≤ 12000) × Spelled (now marks) (now values) ⌝ }
+    ensures { λ r. ⌜ PutsProblem (now (marks .entry)) (now (values .entry)) (now (out .entry)) r (now (out .exit)) ⌝ }
+    ensures { λ r. ⌜ r .next ≤ length (now (marks .entry)) ⌝ }
+{
+    let k = text::put_word(
+        &mut *out,
+        0,
+        b"(define (problem p) (:domain d)\n(:init (= (total-cost) 0)",
+    );
+    let s = conditions::put_list(&mut *out, k, marks, values, 0, marks::START, marks::START);
+    let k = text::put_word(&mut *out, s.at, b")\n(:goal ");
+    let c = conditions::put_condition(&mut *out, k, marks, values, s.next + 1);
+    let k = text::put_word(&mut *out, c.at, b")\n(:metric minimize (total-cost)))\n");
+    Spot {
+        at: k,
+        next: c.next,
+    }
+}
+
+// Writes the domain; the first action stands at row `from`.
+pub fn put_domain(out: &mut [u8], facts: usize, marks: &[u8], values: &[u8], from: usize) -> usize
+    requires { ⌜ (4 * length (now marks) ≤ length (now values)) × (length (now marks) ≤ 12000) × (from ≤ length (now marks)) × (facts ≤ 128) ⌝ }
+    ensures { λ r. ⌜ PutsDomain (now (marks .entry)) (now (values .entry)) facts from (now (out .entry)) r (now (out .exit)) ⌝ }
+{
+    let k = text::put_word(
+        &mut *out,
+        0,
+        b"(define (domain d)\n(:requirements :negative-preconditions :disjunctive-preconditions :conditional-effects :action-costs)\n(:predicates",
+    );
+    let k = put_facts(&mut *out, k, facts);
+    let k = text::put_word(&mut *out, k, b")\n(:functions (total-cost))\n");
+    let s = actions::put_actions(&mut *out, k, marks, values, from);
+    text::put_word(&mut *out, s.at, b")\n")
+}

@@ -1,0 +1,121 @@
+#!/usr/bin/env python3
+"""What program pddl does with its files: `domain.pddl` and `problem.pddl` made, replaced or left alone, and the lines it writes.
+
+tests/pddl/program.py PROGRAM     PROGRAM is target/bin/pddl
+
+The texts are written out here, letter by letter: the lines of document 02's request 4, the shortest texts, and the longest.
+"""
+import os
+import runpy
+import sys
+
+HERE = os.path.dirname(os.path.abspath(__file__))
+ACCOUNT = runpy.run_path(os.path.join(HERE, '../check/vectors.py'))
+file, goal, BELT = ACCOUNT['file'], ACCOUNT['goal'], ACCOUNT['BELT']
+PROGRAMS = runpy.run_path(os.path.join(HERE, '../programs.py'))
+FOLDER, run = PROGRAMS['FOLDER'], PROGRAMS['run']
+
+belt = file(BELT, F=2)
+small = file('GOAL')
+longest_file = file(goal(12000))
+old = {'domain.pddl': b'what stood there', 'problem.pddl': b'and there'}
+
+# What each case is for, its files, and what the program has to write; all files are left as they were.
+REFUSED = [
+    ('no compiled', {}, 'no file\n'),
+    ('no compiled, and old texts', old, 'no file\n'),
+    ('a task, and no compiled', dict(task=small, **old), 'no file\n'),
+    ('compiled is a folder', dict(compiled=FOLDER, **old), 'no file\n'),
+    ('an empty compiled', dict(compiled=b''), 'refused 1 0\n'),
+    ('an empty compiled, and old texts', dict(compiled=b'', **old), 'refused 1 0\n'),
+    ('129 facts', dict(compiled=file('GOAL', F=129), **old), 'refused 2 0\n'),
+    ('one byte more than the longest file', dict(compiled=longest_file + b'\0', **old), 'refused 3 0\n'),
+    ('a million bytes', dict(compiled=longest_file + bytes(1000000), **old), 'refused 3 0\n'),
+    ('a faulty row', dict(compiled=file('GOAL CLAUSE'), **old), 'refused 4 2\n'),
+    ('a faulty value in a preference', dict(compiled=file('GOAL always 1000001'), **old), 'refused 5 1\n'),
+    ('a preference too few', dict(compiled=file('GOAL', P=1), **old), 'refused 6 1\n'),
+    ('preferences', dict(compiled=belt), 'refused 13 0\n'),
+    ('preferences, and old texts', dict(compiled=belt, **old), 'refused 13 0\n'),
+    ('preferences, and folders for texts', {'compiled': belt, 'domain.pddl': FOLDER, 'problem.pddl': FOLDER}, 'refused 13 0\n'),
+]
+
+
+# ---- tasks and their texts
+
+def domain(facts, actions):
+    predicates = ''.join(f' (f{n})' for n in range(facts))
+    return ('(define (domain d)\n'
+            '(:requirements :negative-preconditions :disjunctive-preconditions :conditional-effects :action-costs)\n'
+            f'(:predicates{predicates})\n'
+            f'(:functions (total-cost))\n{actions})\n')
+
+
+def problem(opening, condition):
+    return ('(define (problem p) (:domain d)\n'
+            f'(:init (= (total-cost) 0){opening})\n'
+            f'(:goal {condition})\n'
+            '(:metric minimize (total-cost)))\n')
+
+
+REQUEST = file('START 1 GOAL CLAUSE HOLDS 2 CLAUSE HOLDS 0 LACKS 1 ACTION 3 CLAUSE HOLDS 0 LACKS 1 EFFECT CLAUSE HOLDS 2 ADD 0 DELETE 1 '
+               'ACTION 1000000 ACTION EFFECT', F=3)
+REQUEST_TEXTS = (
+    domain(3, '(:action a0 :parameters () :precondition (and (or (f0) (not (f1)))) '
+              ':effect (and (increase (total-cost) 3) (when (and (f2)) (and (f0) (not (f1))))))\n'
+              '(:action a1 :parameters () :precondition (and) :effect (and (increase (total-cost) 1000000)))\n'
+              '(:action a2 :parameters () :precondition (and) :effect (and (increase (total-cost) 0) (when (and) (and))))\n'),
+    problem(' (f1)', '(and (f2) (or (f0) (not (f1))))'))
+
+# The longest domain has 128 actions of the largest cost and an EFFECT in each row that is left: it gives 19 bytes, more than any row
+# but an ACTION. The longest problem has a goal of one clause, and a literal in each row that is left, which gives 13.
+LONGEST_DOMAIN = file('GOAL' + ' ACTION 1000000' * 128 + ' EFFECT' * 11871, F=128)
+LONGEST_DOMAIN_TEXTS = (
+    domain(128, ''.join(f'(:action a{n} :parameters () :precondition (and) :effect (and (increase (total-cost) 1000000)'
+                        + ' (when (and) (and))' * (11871 if n == 127 else 0) + '))\n' for n in range(128))),
+    problem('', '(and)'))
+LONGEST_PROBLEM = file('GOAL CLAUSE' + ' LACKS 127' * 11998, F=128)
+LONGEST_PROBLEM_TEXTS = domain(128, ''), problem('', '(and (or' + ' (not (f127))' * 11998 + '))')
+
+WRITTEN = [
+    ('the lines of the request', REQUEST, REQUEST_TEXTS),
+    ('GOAL alone', small, (domain(4, ''), problem('', '(and)'))),
+    ('the longest domain', LONGEST_DOMAIN, LONGEST_DOMAIN_TEXTS),
+    ('the longest problem', LONGEST_PROBLEM, LONGEST_PROBLEM_TEXTS),
+]
+
+# A text that can't be opened, the files before and those left. One text beside an old one would mislead: none is written, and
+# the domain, which is opened first, is then empty.
+UNOPENED = [
+    ('domain.pddl is a folder', {'domain.pddl': FOLDER}, {'domain.pddl': FOLDER}),
+    ('domain.pddl is a folder, and an old problem', {**old, 'domain.pddl': FOLDER}, {**old, 'domain.pddl': FOLDER}),
+    ('problem.pddl is a folder', {'problem.pddl': FOLDER}, {'domain.pddl': b'', 'problem.pddl': FOLDER}),
+    ('problem.pddl is a folder, and an old domain', {**old, 'problem.pddl': FOLDER}, {'domain.pddl': b'', 'problem.pddl': FOLDER}),
+]
+
+
+def main(program):
+    count = len(REFUSED)
+    for what, files, line in REFUSED:
+        got = run(program, files)
+        if got != (line, '', files):
+            sys.exit(f'{what}: {str(got)[:1000]}, and not {line!r}')
+    for what, compiled, texts in WRITTEN:
+        made = {'compiled': compiled, 'domain.pddl': texts[0].encode(), 'problem.pddl': texts[1].encode()}
+        for before in [{}, old, {'domain.pddl': b'(' * 300000, 'problem.pddl': b')' * 300000}]:
+            got = run(program, dict(compiled=compiled, **before))
+            if got != ('', '', made):
+                wrong = [name for name in {**made, **got[2]} if got[2].get(name) != made.get(name)]
+                sys.exit(f'{what}: {got[:2]}, and not nothing, or other files: {wrong}')
+            count += 1
+    for what, before, left in UNOPENED:
+        got = run(program, dict(compiled=REQUEST, **before))
+        if got != ('no file\n', '', dict(compiled=REQUEST, **left)):
+            sys.exit(f'{what}: {str(got)[:1000]}, and not no file and {left}')
+    count += len(UNOPENED)
+    print(f'program pddl: {count} cases as they should be')
+
+
+if __name__ == '__main__':
+    if len(sys.argv) != 2:
+        sys.exit(__doc__)
+    main(sys.argv[1])

@@ -1,0 +1,196 @@
+#!/usr/bin/env python3
+"""The whole way of random small tasks: translated, written as PDDL, planned from the two texts, the plan's text read and judged.
+
+tests/pddl/whole_way.py PDDL TRANSLATE JUDGE TEXT_VECTORS [COUNT [SEED]]     the four programs of these names in target/bin
+
+The planner is planner.py, over gringo and clasp (Debian packages of these names).
+Each task goes by its translation, and one without preferences also as it stands. Then, for the cheapest list and for the dearest:
+- the task read back from the texts is the one in the rows of the file;
+- the cost that the planner finds is the one that tests/translate/planner.py finds on the file, or neither has a solution;
+- the plan is printed as planners do, a line for each step and a comment with the cost. Program text_vectors reads it and its source
+  part, which are the lines with numbers below the source's A: what they are worth on the file and on the source is that cost;
+- program judge says the same of both plans in bytes.
+Besides, every file that check's vectors accept without preferences and the heaviest files are read back from their texts.
+"""
+import collections
+import itertools
+import os
+import random
+import re
+import runpy
+import sys
+
+HERE = os.path.dirname(os.path.abspath(__file__))
+ACCOUNT = runpy.run_path(os.path.join(HERE, '../check/vectors.py'))
+file, record, vectors, PREFERENCES = (ACCOUNT[name] for name in ['file', 'record', 'vectors', 'PREFERENCES'])
+rows = runpy.run_path(os.path.join(HERE, '../judge/vectors.py'))['rows']
+run = runpy.run_path(os.path.join(HERE, '../programs.py'))['run']
+FILES = runpy.run_path(os.path.join(HERE, '../translate/planner.py'))
+random_task, words, plan, HORIZON, SIGNS = (FILES[name] for name in ['random_task', 'words', 'plan', 'HORIZON', 'SIGNS'])
+PARSER = runpy.run_path(os.path.join(HERE, 'parser.py'))
+read, Task, Action, Effect = (PARSER[name] for name in ['read', 'Task', 'Action', 'Effect'])
+planned = runpy.run_path(os.path.join(HERE, 'planner.py'))['planned']
+PROGRAM = runpy.run_path(os.path.join(HERE, 'program.py'))
+
+WAYS = ['with preferences', 'without preferences', 'as it stands']
+Programs = collections.namedtuple('Programs', 'pddl translate judge text_vectors')
+
+
+class Different(Exception):
+    """What differs from what it should be."""
+
+
+def expect(what, got, wanted):
+    if got != wanted:
+        raise Different(f'{what}: {str(got)[:2000]}, and not {str(wanted)[:2000]}')
+
+
+# ---- a file, its texts, and the task in them
+
+def task_of(data):
+    """The task in the rows of a file without preferences, in the parser's words."""
+    def condition(clauses):
+        return 'and', tuple(clause[0] if len(clause) == 1 else ('or', tuple(clause)) for clause in clauses)
+
+    init, goal, actions = [], [], []
+    clauses, effects, adds, deletes = [], [], [], []  # those that the next row goes to
+    for name, value in rows(data):
+        fact = 'fact', f'f{value}'
+        if name == 'GOAL':
+            clauses = goal
+        elif name == 'ACTION':
+            clauses, effects = [], []
+            actions.append((value, clauses, effects))
+        elif name == 'EFFECT':
+            clauses, adds, deletes = [], [], []
+            effects.append((clauses, adds, deletes))
+        elif name == 'CLAUSE':
+            clauses.append([])
+        elif name in ('HOLDS', 'LACKS'):
+            clauses[-1].append(fact if name == 'HOLDS' else ('not', fact))
+        else:
+            {'START': init, 'ADD': adds, 'DELETE': deletes}[name].append(f'f{value}')
+    return Task([f'f{n}' for n in range(data[0])], init, condition(goal), [
+        Action(f'a{n}', cost, condition(needs), [Effect(condition(when), *changes) for when, *changes in effects])
+        for n, (cost, needs, effects) in enumerate(actions)])
+
+
+def read_back(program, files):
+    """The task read from the two texts of the file `compiled`, which is the one in its rows."""
+    printed, errors, left = run(program, files)
+    domain, problem = left.get('domain.pddl', b''), left.get('problem.pddl', b'')
+    expect('pddl prints', printed + errors, '')
+    try:
+        task = read(domain.decode(), problem.decode())
+    except PARSER['Wrong'] as why:
+        raise Different(f'the texts are not understood: {why}') from why
+    expect('the task in the texts', task, task_of(files['compiled']))
+    return task
+
+
+def heaviest():
+    """12,000 rows, 128 facts that all open, 128 actions, and every part in a form of its own."""
+    starts = ''.join(f' START {n}' for n in range(128))
+    facts = itertools.cycle(range(127, -1, -1))
+
+    def some(count, *names):
+        return ''.join(f' {name} {next(facts)}' for name, _ in zip(itertools.cycle(names), range(count)))
+
+    def condition(n):
+        return ''.join(' CLAUSE' + some(count, 'HOLDS', 'LACKS', 'LACKS') for count in (n % 3 + 1, n % 2 + 1))
+
+    def effect(n):
+        return ' EFFECT' + condition(n) + some(n % 5, 'ADD') + some(n % 7, 'DELETE')
+
+    actions = ''.join(f' ACTION {1000000 - 7 * n}' + condition(n) + ''.join(effect(n + m) for m in range(5)) for n in range(128))
+    left = 12000 - len(ACCOUNT['spelled'](starts + ' GOAL CLAUSE' + actions))
+    return file(starts + ' GOAL CLAUSE' + some(left, 'LACKS', 'HOLDS') + actions, F=128)
+
+
+def stored_files(program):
+    """Reads back the files that are not random, and answers how many they are."""
+    accepted = [(what, data) for what, data, line in vectors() if line.startswith('accepted') and data[4] == 0]
+    heavy = [('the heaviest task', heaviest()), ('the longest domain', PROGRAM['LONGEST_DOMAIN']),
+             ('the longest problem', PROGRAM['LONGEST_PROBLEM'])]
+    assert [ACCOUNT['check'](data) for _, data in heavy] == [f'accepted 128 {actions} 0 12000' for actions in (128, 128, 0)]
+    for what, data in accepted + heavy:
+        try:
+            read_back(program, dict(compiled=data))
+        except Different as why:
+            sys.exit(f'{what}: {why}')
+    return len(accepted), len(heavy)
+
+
+# ---- the plan's text
+
+STEP = re.compile(r'\(a(\d+)\)\n')
+
+
+def judged(programs, data, text, metric):
+    """What program judge says about preferences of the plan that is read from a text. The plan's metric has to be this one."""
+    steps = [int(number) for number in STEP.findall(text)]
+    costs = [value for name, value in rows(data) if name == 'ACTION']
+    cost = sum(costs[step] for step in steps)
+    lines, errors, _ = run(programs.text_vectors, dict(vectors=record(data) + record(text.encode())))
+    expect('the text is worth', lines + errors, f'read {len(steps)}\n' + ''.join(f'(a{step})\n' for step in steps)
+           + f'solved cost {cost} metric {metric}\n')
+    in_bytes = bytes(int(number) for number in STEP.findall(lines))
+    written, errors, _ = run(programs.judge, dict(task=data, plan=in_bytes))
+    lines = (written + errors).splitlines()
+    expect('judge writes', (lines[0], lines[-1].split()[:2]), (f'solved steps {len(steps)} cost {cost}', ['metric', str(metric)]))
+    return lines[1:-1]
+
+
+def walked(programs, data, files, horizon):
+    """The lines about preferences that judge writes on the cheapest and on the dearest list, by the names in SIGNS, where there is one.
+    The files have `compiled`, which is data itself or its translation."""
+    task, compiled, outcomes = read_back(programs.pddl, files), files['compiled'], {}
+    for name, sign in SIGNS.items():
+        found, on_file = planned(task, horizon, sign), plan('classical.lp', compiled, horizon, sign)
+        expect(f'the cost of the {name} list', found and found[0], on_file and on_file.total)
+        if found:
+            cost, text = found
+            judged(programs, compiled, text, cost)
+            source = ''.join(line for line in text.splitlines(True) if line[0] == ';' or int(STEP.fullmatch(line)[1]) < data[2])
+            outcomes[name] = judged(programs, data, source, cost)
+    return outcomes
+
+
+def ways(programs, data):
+    """The ways of a task, each with its outcomes."""
+    printed, errors, files = run(programs.translate, dict(task=data))
+    expect('translate prints', printed + errors, '')
+    p = data[4]
+    yield 'with preferences' if p else 'without preferences', walked(programs, data, files, HORIZON + 1 + p)
+    if not p:
+        yield 'as it stands', walked(programs, data, dict(compiled=data), HORIZON)
+
+
+def main(pddl, translate, judge, text_vectors, count='110', seed='4'):
+    programs, r = Programs(pddl, translate, judge, text_vectors), random.Random(int(seed))
+    print('%d files of check and %d heavy ones read back from their texts' % stored_files(pddl))
+    print(f'{count} tasks, seed {seed}, at most {HORIZON} source steps')
+    solutions, kinds = collections.Counter(), collections.Counter()
+    for number in range(int(count)):
+        data = random_task(r)
+        try:
+            for way, outcomes in ways(programs, data):
+                solutions[way, 'a plan' if outcomes else 'no plan'] += 1
+                kinds.update((kind, outcome) for lines in outcomes.values() for _, kind, _, outcome in map(str.split, lines))
+        except Different as why:
+            sys.exit(f'task {number}: {why}. The task is {words(data)}')
+    each = {way: [solutions[way, found] for found in ('a plan', 'no plan')] for way in WAYS}
+    for way, (plans, none) in each.items():
+        print(f'{way}: {plans} tasks with a plan, {none} without')
+    for kind in PREFERENCES:
+        print(f'  {kind}: {kinds[kind, "met"]} met, {kinds[kind, "missed"]} missed')
+    if each['with preferences'][0] < 50 or not all(kinds[kind, outcome] for kind in PREFERENCES for outcome in ('met', 'missed')):
+        sys.exit('fewer than 50 plans with preferences, or an outcome never came up')
+    if not all(itertools.chain(*each.values())):
+        sys.exit('a way without a plan, or where every task has one')
+
+
+if __name__ == '__main__':
+    if not 5 <= len(sys.argv) <= 7:
+        sys.exit(__doc__)
+    main(*sys.argv[1:])
