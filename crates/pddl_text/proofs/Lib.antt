@@ -2,6 +2,7 @@ pub mod Examples
 pub mod Tells
 pub mod Told
 pub mod EqualTexts
+pub mod Longest
 pub mod Listing
 pub mod Emitting
 pub mod ClauseRows
