@@ -59,12 +59,19 @@ abbrev pub numbers : ℕ → ℕ → List ℕ
 numbers k zero = []
 numbers k (suc n) = k ∷ numbers (k + 1) n
 
+-- line by line
 unfoldable pub domainText : Task → List ℕ
 domainText t =
-    ascii "(define (domain d)\n(:requirements :negative-preconditions :disjunctive-preconditions :conditional-effects :action-costs)\n(:predicates"
-    ++ (spaced factText (numbers 0 (t .facts)) ++ (ascii ")\n(:functions (total-cost))\n" ++ (concatFrom actionLine 0 (t .actions) ++ ascii ")\n")))
+    ascii "(define (domain d)\n"
+    ++ (ascii "(:requirements :negative-preconditions :disjunctive-preconditions :conditional-effects :action-costs)\n"
+    ++ (ascii "(:predicates" ++ (spaced factText (numbers 0 (t .facts)) ++ (ascii ")\n"
+    ++ (ascii "(:functions (total-cost))\n"
+    ++ (concatFrom actionLine 0 (t .actions)
+    ++ ascii ")\n"))))))
 
 unfoldable pub problemText : Task → List ℕ
 problemText t =
-    ascii "(define (problem p) (:domain d)\n(:init (= (total-cost) 0)"
-    ++ (spaced factText (t .start) ++ (ascii ")\n(:goal " ++ (conditionText (t .goal) ++ ascii ")\n(:metric minimize (total-cost)))\n")))
+    ascii "(define (problem p) (:domain d)\n"
+    ++ (ascii "(:init (= (total-cost) 0)" ++ (spaced factText (t .start) ++ (ascii ")\n"
+    ++ (ascii "(:goal " ++ (conditionText (t .goal) ++ (ascii ")\n"
+    ++ ascii "(:metric minimize (total-cost)))\n"))))))
