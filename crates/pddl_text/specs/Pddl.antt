@@ -9,6 +9,11 @@ use Rattle.text.specs.Text.{decimal}
 
 -- Lists
 
+-- n numbers from k on
+abbrev pub numbers : ℕ → ℕ → List ℕ
+numbers k zero = []
+numbers k (suc n) = k ∷ numbers (k + 1) n
+
 -- each of a list, behind a space
 abbrev pub spaced : {A : Type 0} → (A → List ℕ) → List A → List ℕ
 spaced {A} f = concatMap (λ (x : A). ascii " " ++ f x)
@@ -52,14 +57,8 @@ actionLine k a =
     ascii "(:action a" ++ (decimal k ++ (ascii " :parameters () :precondition " ++ (conditionText (a .precondition)
     ++ (ascii " :effect (and (increase (total-cost) " ++ (decimal (a .cost) ++ (ascii ")" ++ (spaced effectText (a .effects) ++ ascii "))\n")))))))
 
--- The two texts
+-- The two texts, line by line
 
--- n numbers from k on
-abbrev pub numbers : ℕ → ℕ → List ℕ
-numbers k zero = []
-numbers k (suc n) = k ∷ numbers (k + 1) n
-
--- line by line
 unfoldable pub domainText : Task → List ℕ
 domainText t =
     ascii "(define (domain d)\n"
