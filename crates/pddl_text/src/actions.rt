@@ -1,13 +1,9 @@
 // Actions as PDDL, written as the rows are read.
-ghost use mathlib.Core.List.{_++_};
 ghost use Prim.Native.Nat.{_+_, _*_, _-_, _^_, _≤_, _<_};
 ghost use lib.ListN.{length};
 ghost use Rattle.task.specs.Lists.{concatMap, concatFrom};
 ghost use Rattle.task.specs.Task.{effectRows, actionRows};
 ghost use Rattle.task.specs.Rows.{between};
-ghost use Rattle.text.specs.Ascii.{ascii};
-ghost use Rattle.text.specs.Text.{decimal};
-ghost use Rattle.text.specs.Area.{Wrote};
 ghost use Rattle.pddl_text.specs.Pddl.{spaced, effectText, actionLine};
 ghost use Rattle.pddl_text.specs.Puts.{Puts};
 use super::conditions;
@@ -57,28 +53,6 @@ fn put_effects(out: &mut [u8], at: usize, marks: &[u8], values: &[u8], from: usi
     Spot { at: k, next: i }
 }
 
-// Writes the start of an action's line, up to its precondition.
-fn put_name(out: &mut [u8], at: usize, number: usize) -> usize
-    requires { ⌜ at < 2 ^ 52 ⌝ }
-    ensures { λ r. ⌜ Wrote (now (out .entry)) at (ascii "(:action a" ++ (decimal number ++ ascii " :parameters () :precondition ")) r (now (out .exit)) ⌝ }
-    ensures { λ r. ⌜ r ≤ at + 60 ⌝ }
-{
-    let k = text::put_word(&mut *out, at, b"(:action a");
-    let k = text::put_decimal(&mut *out, k, number as u64);
-    text::put_word(&mut *out, k, b" :parameters () :precondition ")
-}
-
-// Writes what stands between an action's precondition and its effects.
-fn put_cost(out: &mut [u8], at: usize, cost: u32) -> usize
-    requires { ⌜ at < 2 ^ 52 ⌝ }
-    ensures { λ r. ⌜ Wrote (now (out .entry)) at (ascii " :effect (and (increase (total-cost) " ++ (decimal cost ++ ascii ")")) r (now (out .exit)) ⌝ }
-    ensures { λ r. ⌜ r ≤ at + 60 ⌝ }
-{
-    let k = text::put_word(&mut *out, at, b" :effect (and (increase (total-cost) ");
-    let k = text::put_decimal(&mut *out, k, cost as u64);
-    text::put_byte(&mut *out, k, b')')
-}
-
 // Writes the line of action `number`, which row `from` opens.
 fn put_action(
     out: &mut [u8],
@@ -92,9 +66,22 @@ fn put_action(
     ensures { λ r. ⌜ Puts actionRows (actionLine number) (between 2 7) (now (marks .entry)) (now (values .entry)) from (now (out .entry)) at r (now (out .exit)) ⌝ }
     ensures { λ r. ⌜ (from < r .next) × (r .next ≤ length (now (marks .entry))) × (r .at ≤ at + 160 * (r .next - from)) ⌝ }
 {
-    let k = put_name(&mut *out, at, number);
+    let cost = rows::value_at(values, from);
+    let k = text::put_number(
+        &mut *out,
+        at,
+        b"(:action a",
+        number as u64,
+        b" :parameters () :precondition ",
+    );
     let c = conditions::put_condition(&mut *out, k, marks, values, from + 1);
-    let k = put_cost(&mut *out, c.at, rows::value_at(values, from));
+    let k = text::put_number(
+        &mut *out,
+        c.at,
+        b" :effect (and (increase (total-cost) ",
+        cost as u64,
+        b")",
+    );
     let s = put_effects(&mut *out, k, marks, values, c.next);
     let k = text::put_word(&mut *out, s.at, b"))\n");
     Spot {

@@ -23,9 +23,7 @@ pub fn put_fact(out: &mut [u8], at: usize, n: u32) -> usize
     ensures { λ r. ⌜ Wrote (now (out .entry)) at (factText n) r (now (out .exit)) ⌝ }
     ensures { λ r. ⌜ r ≤ at + 23 ⌝ }
 {
-    let a = text::put_word(&mut *out, at, b"(f");
-    let b = text::put_decimal(&mut *out, a, n as u64);
-    text::put_byte(&mut *out, b, b')')
+    text::put_number(out, at, b"(f", n as u64, b")")
 }
 
 // Writes that a fact does not hold.

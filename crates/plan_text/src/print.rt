@@ -11,10 +11,7 @@ fn put_step(out: &mut [u8], at: usize, step: u8) -> usize
     ensures { λ r. ⌜ Wrote (now (out .entry)) at (stepLine step ++ (10 ∷ [])) r (now (out .exit)) ⌝ }
     ensures { λ r. ⌜ r ≤ at + 24 ⌝ }
 {
-    let a = text::put_word(&mut *out, at, b"(a");
-    let b = text::put_decimal(&mut *out, a, step as u64);
-    let c = text::put_byte(&mut *out, b, b')');
-    text::put_byte(&mut *out, c, b'\n')
+    text::put_number(out, at, b"(a", step as u64, b")\n")
 }
 
 // Writes a line for each step.

@@ -64,11 +64,9 @@ pub fn put_solved(out: &mut [u8], at: usize, steps: usize, cost: u64) -> usize
     ensures { λ r. ⌜ Wrote (now (out .entry)) at (solvedLine steps cost) r (now (out .exit)) ⌝ }
     ensures { λ r. ⌜ r ≤ at + 60 ⌝ }
 {
-    let a = text::put_word(&mut *out, at, b"solved steps ");
-    let b = text::put_decimal(&mut *out, a, steps as u64);
-    let c = text::put_word(&mut *out, b, b" cost ");
-    let d = text::put_decimal(&mut *out, c, cost);
-    text::put_byte(&mut *out, d, b'\n')
+    let a = text::put_number(&mut *out, at, b"solved steps ", steps as u64, b" cost ");
+    let b = text::put_decimal(&mut *out, a, cost);
+    text::put_byte(&mut *out, b, b'\n')
 }
 
 // How far a number is from 0. Below 0 that is one more than the number with its bits flipped.
@@ -97,11 +95,9 @@ pub fn put_amounts(out: &mut [u8], at: usize, metric: u64, utility: i64) -> usiz
     requires { ⌜ at + 58 < 2 ^ 64 ⌝ }
     ensures { λ r. ⌜ Wrote (now (out .entry)) at (amountsLine metric utility) r (now (out .exit)) ⌝ }
 {
-    let a = text::put_word(&mut *out, at, b"metric ");
-    let b = text::put_decimal(&mut *out, a, metric);
-    let c = text::put_word(&mut *out, b, b" utility ");
-    let d = put_integer(&mut *out, c, utility);
-    text::put_byte(&mut *out, d, b'\n')
+    let a = text::put_number(&mut *out, at, b"metric ", metric, b" utility ");
+    let b = put_integer(&mut *out, a, utility);
+    text::put_byte(&mut *out, b, b'\n')
 }
 
 // Writes the line of a plan that stops.
@@ -109,7 +105,5 @@ pub fn put_stopped(out: &mut [u8], at: usize, step: usize) -> usize
     requires { ⌜ at + 29 < 2 ^ 64 ⌝ }
     ensures { λ r. ⌜ Wrote (now (out .entry)) at (stoppedLine step) r (now (out .exit)) ⌝ }
 {
-    let a = text::put_word(&mut *out, at, b"stopped ");
-    let b = text::put_decimal(&mut *out, a, step as u64);
-    text::put_byte(&mut *out, b, b'\n')
+    text::put_number(out, at, b"stopped ", step as u64, b"\n")
 }

@@ -1,7 +1,7 @@
 // Words and numbers, written as text into a lent area. What does not fit is dropped: each function answers the place
 // behind what it was to write, so that a place beyond the area's length says how much was missing.
 ghost use mathlib.Core.Path.{_≡_};
-ghost use mathlib.Core.List.{[], _∷_};
+ghost use mathlib.Core.List.{[], _∷_, _++_};
 ghost use Prim.Native.Nat.{_+_, _^_, _≤_, _<_};
 ghost use lib.ListN.{length, take};
 ghost use Rattle.text.specs.Text.{decimal, refusedLine};
@@ -53,15 +53,24 @@ pub fn put_decimal(out: &mut [u8], at: usize, n: u64) -> usize
     }
 }
 
+// Writes a number in decimal, with a word before it and one behind it.
+pub fn put_number(out: &mut [u8], at: usize, before: &[u8], n: u64, behind: &[u8]) -> usize
+    requires { ⌜ at + length (now before) + 20 + length (now behind) < 2 ^ 64 ⌝ }
+    ensures { λ r. ⌜ Wrote (now (out .entry)) at (now (before .entry) ++ (decimal n ++ now (behind .entry))) r (now (out .exit)) ⌝ }
+    ensures { λ r. ⌜ r ≤ at + length (now (before .entry)) + 20 + length (now (behind .entry)) ⌝ }
+{
+    let a = put_word(&mut *out, at, before);
+    let b = put_decimal(&mut *out, a, n);
+    put_word(&mut *out, b, behind)
+}
+
 // Writes the line of a refusal.
 pub fn put_refused(out: &mut [u8], at: usize, number: u64, place: u64) -> usize
     requires { ⌜ at + 50 < 2 ^ 64 ⌝ }
     ensures { λ r. ⌜ Wrote (now (out .entry)) at (refusedLine number place) r (now (out .exit)) ⌝ }
     ensures { λ r. ⌜ r ≤ at + 50 ⌝ }
 {
-    let a = put_word(&mut *out, at, b"refused ");
-    let b = put_decimal(&mut *out, a, number);
-    let c = put_byte(&mut *out, b, b' ');
-    let d = put_decimal(&mut *out, c, place);
-    put_byte(&mut *out, d, b'\n')
+    let a = put_number(&mut *out, at, b"refused ", number, b" ");
+    let b = put_decimal(&mut *out, a, place);
+    put_byte(&mut *out, b, b'\n')
 }

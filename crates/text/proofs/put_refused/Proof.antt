@@ -4,23 +4,20 @@ use borrow.Author.Needs.{needs}
 use Rattle.text.proofs.put_refused.Statement.{statement}
 use Rattle.text.proofs.put_refused.Tie as tie
 
-slice-aggregate-put-word : tie.Need-slice-aggregate-put-word
-slice-aggregate-put-word c = search needs
+slice-aggregate-put-number : tie.Need-slice-aggregate-put-number
+slice-aggregate-put-number c = search needs
 
-put-word-requires : tie.Need-put-word-requires
-put-word-requires c κs = search needs
+slice-aggregate-put-number-2 : tie.Need-slice-aggregate-put-number-2
+slice-aggregate-put-number-2 c = search needs
+
+put-number-requires : tie.Need-put-number-requires
+put-number-requires c κs = search needs
 
 put-decimal-requires : tie.Need-put-decimal-requires
 put-decimal-requires c κs = search needs
 
 put-byte-requires : tie.Need-put-byte-requires
 put-byte-requires c κs = search needs
-
-put-decimal-requires-2 : tie.Need-put-decimal-requires-2
-put-decimal-requires-2 c κs = search needs
-
-put-byte-requires-2 : tie.Need-put-byte-requires-2
-put-byte-requires-2 c κs = search needs
 
 same-length : tie.Need-same-length
 same-length c = search needs
@@ -30,23 +27,17 @@ unfolding refusedLine
 returns c =
     let e = c .before .before in
     let d = e .before .before .before .before in
-    let s = d .before .before .before .before in
-    let n = s .before .before .before .before in
-    let w = n .before .before .before .before in (
-      then (then (then (then (w .put-word .ensures) (n .put-decimal .ensures .0)) (s .put-byte .ensures)) (d .put-decimal2 .ensures .0))
-          (e .put-byte2 .ensures),
-      search needs,
-    )
+    let n = d .before .before .before .before in
+    (then (then (n .put-number .ensures .0) (d .put-decimal .ensures .0)) (e .put-byte .ensures), search needs)
 
 pub put-refused-spec : {M : Type 1} → statement M
 put-refused-spec =
     tie.close
     (tie.spec
-    slice-aggregate-put-word
-    put-word-requires
+    slice-aggregate-put-number
+    slice-aggregate-put-number-2
+    put-number-requires
     put-decimal-requires
     put-byte-requires
-    put-decimal-requires-2
-    put-byte-requires-2
     same-length
     returns)

@@ -1,44 +1,44 @@
-use Rattle.text.proofs.Writing.{then}
+use mathlib.Core.Path.{_≡_, sym, ap, subst}
+use mathlib.Core.List.{List, [], _∷_, _++_, append-assoc}
+use Prim.Native.Nat.{ℕ}
+use denote.Ref.{now}
+use Rattle.text.specs.Ascii.{ascii}
+use Rattle.text.specs.Text.{decimal}
+use Rattle.text.specs.Area.{Wrote}
 use Rattle.plan_text.specs.PlanText.{stepLine}
 use borrow.Author.Needs.{needs}
 use Rattle.plan_text.proofs.print.put_step.Statement.{statement}
 use Rattle.plan_text.proofs.print.put_step.Tie as tie
 
-slice-aggregate-put-word : tie.Need-slice-aggregate-put-word
-slice-aggregate-put-word c = search needs
+slice-aggregate-put-number : tie.Need-slice-aggregate-put-number
+slice-aggregate-put-number c = search needs
 
-put-word-requires : tie.Need-put-word-requires
-put-word-requires c κs = search needs
+slice-aggregate-put-number-2 : tie.Need-slice-aggregate-put-number-2
+slice-aggregate-put-number-2 c = search needs
 
-put-decimal-requires : tie.Need-put-decimal-requires
-put-decimal-requires c κs = search needs
-
-put-byte-requires : tie.Need-put-byte-requires
-put-byte-requires c κs = search needs
-
-put-byte-requires-2 : tie.Need-put-byte-requires-2
-put-byte-requires-2 c κs = search needs
+put-number-requires : tie.Need-put-number-requires
+put-number-requires c κs = search needs
 
 same-length : tie.Need-same-length
 same-length c = search needs
 
-returns : tie.Need-returns
+-- a step's line with its newline
+ended : (n : ℕ) → ascii "(a" ++ (decimal n ++ ascii ")\n") ≡ stepLine n ++ (10 ∷ [])
 unfolding stepLine
+ended n = ap (λ (l : List ℕ). ascii "(a" ++ l) (sym (append-assoc (decimal n) (ascii ")") (10 ∷ [])))
+
+returns : tie.Need-returns
 returns c =
-    let e = c .before .before in
-    let d = e .before .before .before .before in
-    let n = d .before .before .before .before in
-    let w = n .before .before .before .before in
-    (then (then (then (w .put-word .ensures) (n .put-decimal .ensures .0)) (d .put-byte .ensures)) (e .put-byte2 .ensures), search needs)
+    let n = c .before .before in
+    let a = n .before .before .before .before .before .args in
+    (subst (λ (l : List ℕ). Wrote (now (a .out)) (a .at) l (n .put-number .result) (n .put-number .last .0)) (ended (a .step)) (n .put-number .ensures .0), search needs)
 
 pub put-step-spec : {M : Type 1} → statement M
 put-step-spec =
     tie.close
     (tie.spec
-    slice-aggregate-put-word
-    put-word-requires
-    put-decimal-requires
-    put-byte-requires
-    put-byte-requires-2
+    slice-aggregate-put-number
+    slice-aggregate-put-number-2
+    put-number-requires
     same-length
     returns)

@@ -6,20 +6,14 @@ use borrow.Author.Needs.{needs}
 use Rattle.report.proofs.lines.put_amounts.Statement.{statement}
 use Rattle.report.proofs.lines.put_amounts.Tie as tie
 
-slice-aggregate-put-word : tie.Need-slice-aggregate-put-word
-slice-aggregate-put-word c = search needs
+slice-aggregate-put-number : tie.Need-slice-aggregate-put-number
+slice-aggregate-put-number c = search needs
 
-put-word-requires : tie.Need-put-word-requires
-put-word-requires c κs = search needs
+slice-aggregate-put-number-2 : tie.Need-slice-aggregate-put-number-2
+slice-aggregate-put-number-2 c = search needs
 
-put-decimal-requires : tie.Need-put-decimal-requires
-put-decimal-requires c κs = search needs
-
-slice-aggregate-put-word-2 : tie.Need-slice-aggregate-put-word-2
-slice-aggregate-put-word-2 c = search needs
-
-put-word-requires-2 : tie.Need-put-word-requires-2
-put-word-requires-2 c κs = search needs
+put-number-requires : tie.Need-put-number-requires
+put-number-requires c κs = search needs
 
 put-integer-requires : tie.Need-put-integer-requires
 put-integer-requires c κs = search needs
@@ -35,23 +29,18 @@ unfolding amountsLine
 returns c =
     let e = c .before .before in
     let d = e .before .before .before .before in
-    let s = d .before .before .before .before in
-    let n = s .before .before .before .before .before in
-    let w = n .before .before .before .before in
-    let a = w .before .before .before .before in
+    let n = d .before .before .before .before in
+    let a = n .before .before .before .before .before in
     let utility = toZ-ofZ w64 (a .args .utility) (a .fits .utility) in
-    let metrics = then (then (w .put-word .ensures) (n .put-decimal .ensures .0)) (s .put-word2 .ensures) in
-    then (then {ys = integer (a .args .utility)} metrics (rw utility at (d .put-integer .ensures .0))) (e .put-byte .ensures)
+    then (then {ys = integer (a .args .utility)} (n .put-number .ensures .0) (rw utility at (d .put-integer .ensures .0))) (e .put-byte .ensures)
 
 pub put-amounts-spec : {M : Type 1} → statement M
 put-amounts-spec =
     tie.close
     (tie.spec
-    slice-aggregate-put-word
-    put-word-requires
-    put-decimal-requires
-    slice-aggregate-put-word-2
-    put-word-requires-2
+    slice-aggregate-put-number
+    slice-aggregate-put-number-2
+    put-number-requires
     put-integer-requires
     put-byte-requires
     same-length
