@@ -1,9 +1,10 @@
-/* check, judge and translate in C, written from document 01 for speed, to measure the library beside. The answers are those of
- * include/route_rules.h.
+/* check, walk, settle and translate in C, written from documents 01 and 02 for speed, to measure the library beside. The answers
+ * are those of include/route_rules.h.
  *
  * plain_ reads the rows where they lie: parts of a file are found once, a condition is left as soon as it is decided, parts of
- * the source are copied by memcpy. tuned_ also makes tables before it begins: judge turns every clause into masks over
- * the state, translate writes the trackers of all preferences once and copies them into each action. */
+ * the source are copied by memcpy. tuned_ also makes tables before it begins: walk turns every clause into masks over
+ * the state, translate writes the trackers of all preferences once and copies them into each action. Settle reads each weight
+ * once, so there is no table to make. */
 #include "plain.h"
 
 #include <string.h>
@@ -60,7 +61,7 @@ static int need(Task *t, uint8_t mark)
     return take(t, 0);
 }
 
-static int walk_condition(Task *t)
+static int read_condition(Task *t)
 {
     while (next_is(t, CLAUSE)) {
         if (!take(t, 0)) return 0;
@@ -72,13 +73,13 @@ static int walk_condition(Task *t)
     return 1;
 }
 
-static int walk_action(Task *t)
+static int read_action(Task *t)
 {
     if (t->actions < 128) t->action[t->actions] = t->at;
     t->actions++;
-    if (!take(t, ROUTE_RULES_MAX_AMOUNT) || !walk_condition(t)) return 0;
+    if (!take(t, ROUTE_RULES_MAX_AMOUNT) || !read_condition(t)) return 0;
     while (next_is(t, EFFECT)) {
-        if (!take(t, 0) || !walk_condition(t)) return 0;
+        if (!take(t, 0) || !read_condition(t)) return 0;
         while (next_is(t, ADD))
             if (!take(t, t->facts - 1)) return 0;
         while (next_is(t, DELETE))
@@ -87,12 +88,12 @@ static int walk_action(Task *t)
     return 1;
 }
 
-static int walk_preference(Task *t)
+static int read_preference(Task *t)
 {
     uint32_t open = t->at;
-    if (!take(t, ROUTE_RULES_MAX_AMOUNT) || !walk_condition(t)) return 0;
+    if (!take(t, ROUTE_RULES_MAX_AMOUNT) || !read_condition(t)) return 0;
     uint32_t second = t->at;
-    if (t->marks[open] >= SOMETIME_BEFORE && (!need(t, SECOND) || !walk_condition(t))) return 0;
+    if (t->marks[open] >= SOMETIME_BEFORE && (!need(t, SECOND) || !read_condition(t))) return 0;
     if (t->preferences < 16) {
         t->side[t->preferences].open = open;
         t->side[t->preferences].second = second;
@@ -102,21 +103,21 @@ static int walk_preference(Task *t)
     return 1;
 }
 
-static int walk_rows(Task *t)
+static int read_rows(Task *t)
 {
     for (uint32_t floor = 0; next_is(t, START); floor = value_at(t, t->at - 1) + 1) {
         if (value_at(t, t->at) < floor) return refuse(t, ROUTE_RULES_VALUE, t->at);
         if (!take(t, t->facts - 1)) return 0;
     }
     t->goal = t->at;
-    if (!need(t, GOAL) || !walk_condition(t)) return 0;
+    if (!need(t, GOAL) || !read_condition(t)) return 0;
     t->first_action = t->at;
     while (next_is(t, ACTION))
-        if (!walk_action(t)) return 0;
+        if (!read_action(t)) return 0;
     t->first_preference = t->at;
     if (t->actions <= 128) t->action[t->actions] = t->at;
     while (t->at < t->rows && t->marks[t->at] >= ALWAYS && t->marks[t->at] <= SOMETIME_AFTER)
-        if (!walk_preference(t)) return 0;
+        if (!read_preference(t)) return 0;
     return t->at == t->rows || refuse(t, ROUTE_RULES_MARK, t->at);
 }
 
@@ -135,7 +136,7 @@ static int check(Task *t, const uint8_t *file, size_t length)
     t->at = 0;
     t->facts = facts;
     t->actions = t->preferences = 0;
-    if (!walk_rows(t)) return 0;
+    if (!read_rows(t)) return 0;
     if (t->actions != actions || t->preferences != preferences) return refuse(t, ROUTE_RULES_COUNTS, t->rows);
     return 1;
 }
@@ -154,7 +155,7 @@ uint32_t plain_check(const uint8_t *file, size_t length, uint64_t answer[8])
     return t.number;
 }
 
-/* ---- judge */
+/* ---- walk */
 
 static inline int holds(State s, uint32_t fact) { return s.word[fact / 64] >> (fact % 64) & 1; }
 
@@ -240,20 +241,12 @@ static int admitted(Task *t, const uint8_t *plan, size_t steps)
 
 static void solved(const Task *t, const Monitor *m, uint64_t cost, uint64_t answer[8])
 {
-    uint64_t met = 0, gained = 0, lost = 0;
-    for (uint32_t k = 0; k < t->preferences; k++) {
-        uint32_t open = t->side[k].open;
-        if (good(m[k], t->marks[open])) {
-            met |= (uint64_t)1 << k;
-            gained += value_at(t, open);
-        } else
-            lost += value_at(t, open);
-    }
+    uint64_t met = 0;
+    for (uint32_t k = 0; k < t->preferences; k++)
+        met |= (uint64_t)good(m[k], t->marks[t->side[k].open]) << k;
     answer[1] = ROUTE_RULES_SOLVED;
     answer[3] = cost;
-    answer[4] = cost + lost;
-    answer[5] = gained - cost;
-    answer[6] = met;
+    answer[4] = met;
 }
 
 static State opening(const Task *t)
@@ -273,7 +266,7 @@ static void watch_all(const Task *t, Monitor *m, int last, State s)
     }
 }
 
-uint32_t plain_judge(const uint8_t *file, size_t length, const uint8_t *plan, size_t steps, uint64_t answer[8])
+uint32_t plain_walk(const uint8_t *file, size_t length, const uint8_t *plan, size_t steps, uint64_t answer[8])
 {
     Task t;
     Monitor m[16] = {{0, 0}};
@@ -402,7 +395,7 @@ static State after_tables(const Tables *x, uint32_t k, State s)
     return s;
 }
 
-uint32_t tuned_judge(const uint8_t *file, size_t length, const uint8_t *plan, size_t steps, uint64_t answer[8])
+uint32_t tuned_walk(const uint8_t *file, size_t length, const uint8_t *plan, size_t steps, uint64_t answer[8])
 {
     Task t;
     Tables x;
@@ -430,6 +423,30 @@ uint32_t tuned_judge(const uint8_t *file, size_t length, const uint8_t *plan, si
         solved(&t, m, cost, answer);
     else
         answer[1] = ROUTE_RULES_GOAL_MISSED;
+    return 0;
+}
+
+/* ---- settle */
+
+uint32_t plain_settle(const uint8_t *file, size_t length, uint64_t cost, uint64_t met, uint64_t answer[8])
+{
+    Task t;
+    uint64_t gained = 0, lost = 0;
+    memset(answer, 0, 64);
+    if (!check(&t, file, length)) {
+        answer[0] = t.place;
+        return t.number;
+    }
+    if (cost > ROUTE_RULES_MAX_COST || met >> t.preferences != 0) return ROUTE_RULES_ARGUMENT;
+    for (uint32_t k = 0; k < t.preferences; k++) {
+        uint64_t weight = value_at(&t, t.side[k].open);
+        if (met >> k & 1)
+            gained += weight;
+        else
+            lost += weight;
+    }
+    answer[1] = cost + lost;
+    answer[2] = gained - cost;
     return 0;
 }
 

@@ -1,4 +1,4 @@
-/* Feeds files, plans and areas to the static library and holds every answer to the C in bench/plain.c, whose compiled code
+/* Feeds files, plans, amounts and areas to the static library and holds every answer to the C in bench/plain.c, whose compiled code
  * also guides the fuzzer and is watched by AddressSanitizer.
  *
  * The library's own code is not watched, so each area that is lent to it touches a page without access with its start or its
@@ -93,16 +93,28 @@ static void try_check(Area file, int at_end)
     if (number > ROUTE_RULES_COUNTS) fail("a refusal that is not check's");
 }
 
-static void try_judge(Area file, Area plan, int at_end)
+static uint32_t try_settle(Area file, uint64_t cost, uint64_t met, int at_end)
+{
+    uint64_t words[8];
+    Area answer = lend(answer_pages, 64, at_end);
+    uint32_t number = route_rules_settle(file.at, file.length, cost, met, (route_rules_settled *)answer.at);
+    same_answer(number, answer, plain_settle(file.at, file.length, cost, met, words), words);
+    if (number > ROUTE_RULES_COUNTS && number != ROUTE_RULES_ARGUMENT) fail("a refusal that is not settle's");
+    return number;
+}
+
+/* Settle takes what a plan that solves costs and meets. */
+static void try_walk(Area file, Area plan, int at_end)
 {
     uint64_t words[8], tuned[8];
     Area answer = lend(answer_pages, 64, at_end);
-    uint32_t number = route_rules_judge(file.at, file.length, plan.at, plan.length, (route_rules_judged *)answer.at);
-    same_answer(number, answer, plain_judge(file.at, file.length, plan.at, plan.length, words), words);
-    if (number != tuned_judge(file.at, file.length, plan.at, plan.length, tuned) || memcmp(words, tuned, 64) != 0)
-        fail("the two judges in C differ");
+    uint32_t number = route_rules_walk(file.at, file.length, plan.at, plan.length, (route_rules_walked *)answer.at);
+    same_answer(number, answer, plain_walk(file.at, file.length, plan.at, plan.length, words), words);
+    if (number != tuned_walk(file.at, file.length, plan.at, plan.length, tuned) || memcmp(words, tuned, 64) != 0)
+        fail("the two walks in C differ");
     if (number > ROUTE_RULES_COUNTS && number != ROUTE_RULES_LONG_PLAN && number != ROUTE_RULES_STEP)
-        fail("a refusal that is not judge's");
+        fail("a refusal that is not walk's");
+    if (words[1] == ROUTE_RULES_SOLVED && try_settle(file, words[3], words[4], at_end) != 0) fail("a solution that is not settled");
 }
 
 /* A translation is accepted, and its sizes follow from the source's. */
@@ -212,6 +224,27 @@ static size_t make_plan(Data *d, uint8_t *plan)
     return length;
 }
 
+/* A cost from two bytes: small, any that is taken, on both sides of the limit, or with a bit in any place. */
+static uint64_t make_cost(Data *d)
+{
+    uint8_t how = next(d), byte = next(d);
+    switch (how % 4) {
+    case 0: return byte;
+    case 1: return byte * (uint64_t)8000000 + how;
+    case 2: return ROUTE_RULES_MAX_COST - 128 + (uint64_t)byte;
+    default: return (uint64_t)byte << how / 4;
+    }
+}
+
+/* Met preferences from three bytes: two as they stand, or with `cut` what the file has of them, and from the third a bit in any
+ * place or none. */
+static uint64_t make_met(const uint8_t three[3], int cut, const uint8_t *file, size_t length)
+{
+    uint64_t met = three[0] | (uint64_t)three[1] << 8;
+    if (cut && length >= 8 && file[4] <= ROUTE_RULES_MAX_PREFERENCES) met &= ((uint64_t)1 << file[4]) - 1;
+    return three[2] < 128 ? met | (uint64_t)1 << three[2] % 64 : met;
+}
+
 /* The output area: just enough, a byte short, some bytes more, or any small one. */
 static size_t make_room(uint8_t byte, const uint8_t *file, size_t length)
 {
@@ -236,9 +269,12 @@ int LLVMFuzzerInitialize(int *count, char ***words)
 int LLVMFuzzerTestOneInput(const uint8_t *bytes, size_t size)
 {
     static uint8_t file_bytes[ROUTE_RULES_MAX_FILE + 5], plan_bytes[4096];
+    uint8_t three[3];
     Data d = {bytes, size};
     uint8_t choice = next(&d), room_byte = next(&d);
     int at_end = choice & 1;
+    uint64_t cost = make_cost(&d);
+    for (int i = 0; i < 3; i++) three[i] = next(&d);
     size_t steps = make_plan(&d, plan_bytes), length;
     if (choice & 2)
         length = make_file(&d, file_bytes);
@@ -251,7 +287,8 @@ int LLVMFuzzerTestOneInput(const uint8_t *bytes, size_t size)
 
     Area file = lend_copy(file_pages, file_bytes, length, at_end), plan = lend_copy(plan_pages, plan_bytes, steps, at_end);
     try_check(file, at_end);
-    try_judge(file, plan, at_end);
+    try_walk(file, plan, at_end);
+    try_settle(file, cost, make_met(three, choice & 8, file_bytes, length), at_end);
     try_translate(file, room, at_end);
     try_report(file, plan, choice & 4 ? TEXT : room_byte, at_end);
     unchanged(file, file_bytes);

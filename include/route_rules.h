@@ -1,5 +1,5 @@
-/* Route rules: check a task file, translate a task with soft rules into a classical task, write that as PDDL, judge a plan, given
- * as bytes or as planners print it.
+/* Route rules: check a task file, translate a task with soft rules into a classical task, write that as PDDL, walk a plan on a
+ * task, given as bytes or as planners print it, and settle what it is worth.
  *
  * Link target/staticlib/libroute_rules.a, which `rt staticlib route_rules` writes. Every function is proved: it answers every
  * input as the definitions say (crates/route_rules/specs/Numbers.antt has the words of the answers), always returns, and
@@ -28,6 +28,7 @@ extern "C" {
 #define ROUTE_RULES_MAX_ROWS 12000
 #define ROUTE_RULES_MAX_AMOUNT 1000000 /* a cost or a weight */
 #define ROUTE_RULES_MAX_STEPS 2048
+#define ROUTE_RULES_MAX_COST 2048000000 /* the cost of a plan: so many steps of the largest amount */
 #define ROUTE_RULES_MAX_TEXT 65536 /* bytes of a plan's text; an area of this length is never too short for one */
 
 /* The length of the longest task file: an output area of this length is never too short. */
@@ -37,9 +38,9 @@ extern "C" {
 #define ROUTE_RULES_MAX_PDDL 262144
 
 /* Refusals, with their place. 1 to 3 are tried in order. Rows then go from the first; the first faulty row decides, 4 before
- * 5 on one row; 6 comes after all rows. 7 to 9 are translate's, 10 and 11 judge's, in that order, after 1 to 6.
+ * 5 on one row; 6 comes after all rows. 7 to 9 are translate's, 10 and 11 walk's, in that order, after 1 to 6.
  * Of a plan's text 12 comes after 6, and before 10 and 11; reading alone is refused by 12, then 10, then 9. 13 and 14 are
- * pddl's, in that order, after 1 to 6. */
+ * pddl's, in that order, after 1 to 6; 15 is settle's, after 1 to 6. */
 enum {
     ROUTE_RULES_SHORT_FILE = 1,       /* under 8 bytes; 0 */
     ROUTE_RULES_SIZE = 2,             /* a size out of range; 0 */
@@ -54,7 +55,8 @@ enum {
     ROUTE_RULES_STEP = 11,            /* step not below A; the first such step */
     ROUTE_RULES_TEXT = 12,            /* text over 65,536 bytes: 0; or a line of another form or without a newline: that line */
     ROUTE_RULES_PREFERENCES = 13,     /* the task has preferences; 0 */
-    ROUTE_RULES_SHORT_AREA = 14       /* a domain or a problem longer than its area; 0 */
+    ROUTE_RULES_SHORT_AREA = 14,      /* a domain or a problem longer than its area; 0 */
+    ROUTE_RULES_ARGUMENT = 15         /* cost over 2,048,000,000, or a met preference not below P; 0 */
 };
 
 /* The four sizes of an accepted file: F, A, P and N. */
@@ -93,21 +95,31 @@ enum {
     ROUTE_RULES_GOAL_MISSED = 3 /* each step applies in turn, and the goal doesn't hold in the last state */
 };
 
-/* A judged plan. Cost, metric, utility and met are 0 unless it is solved. */
-typedef struct route_rules_judged {
+/* A walked plan. Cost and met are 0 unless it is solved. */
+typedef struct route_rules_walked {
     uint64_t place;
     uint64_t verdict;
-    uint64_t step;   /* stopped: the first step that doesn't apply, from 0; else 0 */
-    uint64_t cost;   /* the sum of the step costs */
+    uint64_t step; /* stopped: the first step that doesn't apply, from 0; else 0 */
+    uint64_t cost; /* the sum of the step costs */
+    uint64_t met;  /* bit k is 1 where preference k is met */
+    uint64_t spare[3];
+} route_rules_walked;
+
+/* Walks a plan, one byte a step, on the task in a file: a verdict, or refused by 1 to 6, 10 or 11. */
+uint32_t route_rules_walk(const uint8_t *file, size_t file_length, const uint8_t *plan, size_t plan_length,
+                          route_rules_walked *answer);
+
+/* What a cost and met preferences are worth. */
+typedef struct route_rules_settled {
+    uint64_t place;
     uint64_t metric; /* cost plus the weights of missed preferences */
     int64_t utility; /* the weights of met preferences minus cost */
-    uint64_t met;    /* bit k is 1 where preference k is met */
-    uint64_t spare;
-} route_rules_judged;
+    uint64_t spare[5];
+} route_rules_settled;
 
-/* Judges a plan, one byte a step, on the task in a file: a verdict, or refused by 1 to 6, 10 or 11. */
-uint32_t route_rules_judge(const uint8_t *file, size_t file_length, const uint8_t *plan, size_t plan_length,
-                           route_rules_judged *answer);
+/* Settles a cost and met preferences on the task in a file: those that walk gave, or any others. Preference k is met where bit k
+ * of `met` is 1. Or it is refused by 1 to 6 or 15. */
+uint32_t route_rules_settle(const uint8_t *file, size_t file_length, uint64_t cost, uint64_t met, route_rules_settled *answer);
 
 /* The length in bytes of the plan read, or of the text written. */
 typedef struct route_rules_listed {
@@ -128,9 +140,9 @@ uint32_t route_rules_read_plan(const uint8_t *text, size_t text_length, uint8_t 
 uint32_t route_rules_write_plan(const uint8_t *plan, size_t plan_length, uint8_t *out, size_t out_length,
                                 route_rules_listed *answer);
 
-/* Judges the plan in a text on the task in a file: a verdict, or refused by 1 to 6, 12, 10 or 11. */
-uint32_t route_rules_judge_text(const uint8_t *file, size_t file_length, const uint8_t *text, size_t text_length,
-                                route_rules_judged *answer);
+/* Walks the plan in a text on the task in a file: a verdict, or refused by 1 to 6, 12, 10 or 11. */
+uint32_t route_rules_walk_text(const uint8_t *file, size_t file_length, const uint8_t *text, size_t text_length,
+                               route_rules_walked *answer);
 
 /* The lengths in bytes of the two texts. */
 typedef struct route_rules_texts {
@@ -149,8 +161,8 @@ uint32_t route_rules_pddl(const uint8_t *file, size_t file_length, uint8_t *doma
 
 /* Every answer has eight words; the functions write them all. */
 typedef char route_rules_answers_have_eight_words[sizeof(route_rules_checked) == 64 && sizeof(route_rules_translated) == 64 &&
-                                                          sizeof(route_rules_judged) == 64 && sizeof(route_rules_listed) == 64 &&
-                                                          sizeof(route_rules_texts) == 64
+                                                          sizeof(route_rules_walked) == 64 && sizeof(route_rules_settled) == 64 &&
+                                                          sizeof(route_rules_listed) == 64 && sizeof(route_rules_texts) == 64
                                                       ? 1
                                                       : -1];
 

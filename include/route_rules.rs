@@ -26,10 +26,14 @@ pub mod refused {
     pub const TEXT: u32 = 12;
     pub const PREFERENCES: u32 = 13;
     pub const SHORT_AREA: u32 = 14;
+    pub const ARGUMENT: u32 = 15;
 }
 
 /// The length of the longest task file: an output area of this length is never too short.
 pub const MAX_FILE: usize = 8 + 5 * 12_000;
+
+/// The largest cost that settle takes: no plan costs more.
+pub const MAX_COST: u64 = 2_048_000_000;
 
 /// The length of the longest plan's text that is read: an area of this length is never too short for a plan's text.
 pub const MAX_TEXT: usize = 65_536;
@@ -46,19 +50,24 @@ pub struct Sizes {
     pub rows: u64,
 }
 
-/// What a plan is worth on a task.
+/// What a walk of a plan comes to.
 #[derive(Clone, Copy, PartialEq, Eq, Debug)]
 pub enum Verdict {
     /// Bit k of `met` is 1 where preference k is met.
     Solved {
         cost: u64,
-        metric: u64,
-        utility: i64,
         met: u64,
     },
     /// The first step that doesn't apply.
     Stopped(u64),
     GoalMissed,
+}
+
+/// What a cost and met preferences are worth.
+#[derive(Clone, Copy, PartialEq, Eq, Debug)]
+pub struct Worth {
+    pub metric: u64,
+    pub utility: i64,
 }
 
 /// The words of an answer: the structs of the header.
@@ -73,11 +82,18 @@ extern "C" {
         out_length: usize,
         answer: *mut Answer,
     ) -> u32;
-    fn route_rules_judge(
+    fn route_rules_walk(
         file: *const u8,
         file_length: usize,
         plan: *const u8,
         plan_length: usize,
+        answer: *mut Answer,
+    ) -> u32;
+    fn route_rules_settle(
+        file: *const u8,
+        file_length: usize,
+        cost: u64,
+        met: u64,
         answer: *mut Answer,
     ) -> u32;
     fn route_rules_read_plan(
@@ -94,7 +110,7 @@ extern "C" {
         out_length: usize,
         answer: *mut Answer,
     ) -> u32;
-    fn route_rules_judge_text(
+    fn route_rules_walk_text(
         file: *const u8,
         file_length: usize,
         text: *const u8,
@@ -123,8 +139,8 @@ extern "C" {
 /// A function that fills one area from another.
 type Filling = unsafe extern "C" fn(*const u8, usize, *mut u8, usize, *mut Answer) -> u32;
 
-/// A function that judges a plan, or a plan's text, on the task in a file.
-type Judging = unsafe extern "C" fn(*const u8, usize, *const u8, usize, *mut Answer) -> u32;
+/// A function that walks a plan, or a plan's text, on the task in a file.
+type Walking = unsafe extern "C" fn(*const u8, usize, *const u8, usize, *mut Answer) -> u32;
 
 /// The answer of a call that lends an answer area, or its refusal.
 fn answered(call: impl FnOnce(*mut Answer) -> u32) -> Result<Answer, Refusal> {
@@ -171,16 +187,14 @@ pub fn translate(file: &[u8], out: &mut [u8]) -> Result<usize, Refusal> {
 }
 
 /// The verdict on a plan, or on the plan in a text.
-fn judged(judge: Judging, file: &[u8], plan: &[u8]) -> Result<Verdict, Refusal> {
+fn walked(walk: Walking, file: &[u8], plan: &[u8]) -> Result<Verdict, Refusal> {
     let words = answered(|answer| unsafe {
-        judge(file.as_ptr(), file.len(), plan.as_ptr(), plan.len(), answer)
+        walk(file.as_ptr(), file.len(), plan.as_ptr(), plan.len(), answer)
     })?;
     Ok(match words[1] {
         1 => Verdict::Solved {
             cost: words[3],
-            metric: words[4],
-            utility: words[5] as i64,
-            met: words[6],
+            met: words[4],
         },
         2 => Verdict::Stopped(words[2]),
         3 => Verdict::GoalMissed,
@@ -188,14 +202,26 @@ fn judged(judge: Judging, file: &[u8], plan: &[u8]) -> Result<Verdict, Refusal> 
     })
 }
 
-/// Judges a plan, one byte a step, on the task in a file: a verdict, or refused by 1 to 6, 10 or 11.
-pub fn judge(file: &[u8], plan: &[u8]) -> Result<Verdict, Refusal> {
-    judged(route_rules_judge, file, plan)
+/// Walks a plan, one byte a step, on the task in a file: a verdict, or refused by 1 to 6, 10 or 11.
+pub fn walk(file: &[u8], plan: &[u8]) -> Result<Verdict, Refusal> {
+    walked(route_rules_walk, file, plan)
 }
 
-/// Judges the plan in a text on the task in a file: a verdict, or refused by 1 to 6, 12, 10 or 11.
-pub fn judge_text(file: &[u8], text: &[u8]) -> Result<Verdict, Refusal> {
-    judged(route_rules_judge_text, file, text)
+/// Walks the plan in a text on the task in a file: a verdict, or refused by 1 to 6, 12, 10 or 11.
+pub fn walk_text(file: &[u8], text: &[u8]) -> Result<Verdict, Refusal> {
+    walked(route_rules_walk_text, file, text)
+}
+
+/// Settles a cost and met preferences on the task in a file: those that `walk` gave, or any others. Preference k is met where bit
+/// k of `met` is 1. Or it is refused by 1 to 6 or 15.
+pub fn settle(file: &[u8], cost: u64, met: u64) -> Result<Worth, Refusal> {
+    let words = answered(|answer| unsafe {
+        route_rules_settle(file.as_ptr(), file.len(), cost, met, answer)
+    })?;
+    Ok(Worth {
+        metric: words[1],
+        utility: words[2] as i64,
+    })
 }
 
 /// Reads a plan's text into the start of the output, one byte a step, and answers the number of steps; or it is refused by 12,

@@ -1,15 +1,17 @@
 //! The implementations beside each other, all with the answers of include/route_rules.h.
 
-use peer::{Refusal, Verdict};
+use peer::{Refusal, Verdict, Worth};
 
 /// What a call returns, and the words of its answer.
 pub type Answer = (u32, [u64; 8]);
 
-type Judge = unsafe extern "C" fn(*const u8, usize, *const u8, usize, *mut [u64; 8]) -> u32;
+type Walk = unsafe extern "C" fn(*const u8, usize, *const u8, usize, *mut [u64; 8]) -> u32;
+type Settle = unsafe extern "C" fn(*const u8, usize, u64, u64, *mut [u64; 8]) -> u32;
 type Translate = unsafe extern "C" fn(*const u8, usize, *mut u8, usize, *mut [u64; 8]) -> u32;
 
 extern "C" {
-    fn route_rules_judge(a: *const u8, b: usize, c: *const u8, d: usize, e: *mut [u64; 8]) -> u32;
+    fn route_rules_walk(a: *const u8, b: usize, c: *const u8, d: usize, e: *mut [u64; 8]) -> u32;
+    fn route_rules_settle(a: *const u8, b: usize, c: u64, d: u64, e: *mut [u64; 8]) -> u32;
     fn route_rules_translate(a: *const u8, b: usize, c: *mut u8, d: usize, e: *mut [u64; 8])
         -> u32;
     fn route_rules_pddl(
@@ -21,9 +23,10 @@ extern "C" {
         problem_length: usize,
         answer: *mut [u64; 8],
     ) -> u32;
-    fn plain_judge(a: *const u8, b: usize, c: *const u8, d: usize, e: *mut [u64; 8]) -> u32;
+    fn plain_walk(a: *const u8, b: usize, c: *const u8, d: usize, e: *mut [u64; 8]) -> u32;
+    fn plain_settle(a: *const u8, b: usize, c: u64, d: u64, e: *mut [u64; 8]) -> u32;
     fn plain_translate(a: *const u8, b: usize, c: *mut u8, d: usize, e: *mut [u64; 8]) -> u32;
-    fn tuned_judge(a: *const u8, b: usize, c: *const u8, d: usize, e: *mut [u64; 8]) -> u32;
+    fn tuned_walk(a: *const u8, b: usize, c: *const u8, d: usize, e: *mut [u64; 8]) -> u32;
     fn tuned_translate(a: *const u8, b: usize, c: *mut u8, d: usize, e: *mut [u64; 8]) -> u32;
 }
 
@@ -34,25 +37,25 @@ fn refused(refusal: Refusal) -> Answer {
     (u32::from(refusal.number), [place, 0, 0, 0, 0, 0, 0, 0])
 }
 
-fn words(verdict: Verdict) -> [u64; 8] {
+fn walked(verdict: Verdict) -> [u64; 8] {
     match verdict {
-        Verdict::Solved {
-            cost,
-            metric,
-            utility,
-            met,
-        } => [0, 1, 0, cost, metric, utility as u64, u64::from(met), 0],
+        Verdict::Solved { cost, met } => [0, 1, 0, cost, met, 0, 0, 0],
         Verdict::Stopped(step) => [0, 2, step as u64, 0, 0, 0, 0, 0],
         Verdict::GoalMissed => [0, 3, 0, 0, 0, 0, 0, 0],
     }
 }
 
-pub fn judge(who: usize, file: &[u8], plan: &[u8]) -> Answer {
-    let call = |judge: Judge| {
+fn settled(worth: Worth) -> [u64; 8] {
+    [0, worth.metric, worth.utility as u64, 0, 0, 0, 0, 0]
+}
+
+/// What a walk gives. Tuned C makes tables first.
+pub fn walk(who: usize, file: &[u8], plan: &[u8]) -> Answer {
+    let call = |walk: Walk| {
         let mut answer = [0; 8];
         // Each pointer comes with the length of its area.
         let number = unsafe {
-            judge(
+            walk(
                 file.as_ptr(),
                 file.len(),
                 plan.as_ptr(),
@@ -63,11 +66,31 @@ pub fn judge(who: usize, file: &[u8], plan: &[u8]) -> Answer {
         (number, answer)
     };
     match who {
-        0 => call(route_rules_judge),
-        1 => peer::judge(file, plan).map_or_else(refused, |verdict| (0, words(verdict))),
-        2 => call(plain_judge),
-        _ => call(tuned_judge),
+        0 => call(route_rules_walk),
+        1 => peer::walk(file, plan).map_or_else(refused, |verdict| (0, walked(verdict))),
+        2 => call(plain_walk),
+        _ => call(tuned_walk),
     }
+}
+
+/// What a cost and met preferences are worth. Both programs in C do the same here.
+pub fn settle(who: usize, file: &[u8], cost: u64, met: u64) -> Answer {
+    let call = |settle: Settle| {
+        let mut answer = [0; 8];
+        let number = unsafe { settle(file.as_ptr(), file.len(), cost, met, &mut answer) };
+        (number, answer)
+    };
+    match who {
+        0 => call(route_rules_settle),
+        1 => peer::settle(file, cost, met).map_or_else(refused, |worth| (0, settled(worth))),
+        _ => call(plain_settle),
+    }
+}
+
+/// A walk, and what settle makes of the cost and the met preferences that it gave.
+pub fn walk_and_settle(who: usize, file: &[u8], plan: &[u8]) -> [Answer; 2] {
+    let walked = walk(who, file, plan);
+    [walked, settle(who, file, walked.1[3], walked.1[4])]
 }
 
 /// The translation stands in `out` afterwards. The Rust makes its own area, and its bytes are copied.

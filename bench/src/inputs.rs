@@ -3,7 +3,7 @@
 use peer::random::{task_and_plan, Random, Shape, MAX_FILE};
 use peer::task::MAX_ROWS;
 use peer::{
-    encode, judge, pddl, translate, translated, Action, Clause, Condition, Effect, Kind, Literal,
+    encode, pddl, translate, translated, walk, Action, Clause, Condition, Effect, Kind, Literal,
     Preference, Task, Verdict,
 };
 
@@ -68,7 +68,7 @@ pub fn middle() -> Input {
         let has = |&kind: &Kind| task.preferences.iter().any(|p| p.kind == kind);
         plan.len() == 200
             && Kind::ALL.iter().all(has)
-            && matches!(judge(&encode(task), plan), Ok(Verdict::Solved { .. }))
+            && matches!(walk(&encode(task), plan), Ok(Verdict::Solved { .. }))
             && translated(task, MAX_ROWS).is_some()
     };
     let (task, plan) = (1..)

@@ -1,5 +1,5 @@
-//! Measures judge and translate of the library, of the independent Rust and of C on the same inputs, and PDDL of the first two,
-//! and prints tables. It fails where two of them differ.
+//! Measures walk, settle and translate of the library, of the independent Rust and of C on the same inputs, and PDDL of the first
+//! two, and prints tables. It fails where two of them differ.
 
 mod contenders;
 mod inputs;
@@ -19,14 +19,37 @@ fn same<T: PartialEq + std::fmt::Debug>(name: &str, results: &[T]) {
     }
 }
 
-fn judge(input: &Input) -> Times {
-    let run = |who| contenders::judge(who, &input.file, &input.plan);
-    let answers = [0, 1, 2, 3].map(run);
-    assert_eq!((answers[0].0, answers[0].1[1]), (0, 1), "a solved plan");
-    same(&input.name, &answers);
+/// The times of calls whose answers are the same.
+fn timed<T: PartialEq + std::fmt::Debug>(name: &str, run: impl Fn(usize) -> T) -> Times {
+    same(name, &[0, 1, 2, 3].map(&run));
     measure::medians(|who| {
         black_box(run(who));
     })
+}
+
+fn walk(input: &Input) -> Times {
+    timed(&input.name, |who| {
+        contenders::walk(who, &input.file, &input.plan)
+    })
+}
+
+/// Settle alone, of what the library's walk gives.
+fn settle(input: &Input) -> Times {
+    let (_, words) = contenders::walk(0, &input.file, &input.plan);
+    timed(&input.name, |who| {
+        contenders::settle(who, &input.file, words[3], words[4])
+    })
+}
+
+fn walk_and_settle(input: &Input) -> Times {
+    let run = |who| contenders::walk_and_settle(who, &input.file, &input.plan);
+    let [walked, settled] = run(0);
+    assert_eq!(
+        (walked.0, walked.1[1], settled.0),
+        (0, 1, 0),
+        "a plan that solves"
+    );
+    timed(&input.name, run)
 }
 
 fn translate(input: &Input) -> Times {
@@ -102,15 +125,19 @@ fn line(operation: &str, input: &Input, times: &[f64]) {
 
 fn comparison() {
     heading(&NAMES);
-    let judged = [
+    let walked = [
         inputs::belt(),
         inputs::middle(),
         inputs::in_preferences(12_000, 2_048),
         inputs::in_action(12_000, 2_048),
         inputs::many_actions("each in turn", &Vec::from_iter(0..128)),
     ];
-    for input in &judged {
-        line("judge", input, &judge(input));
+    for input in &walked {
+        line("walk and settle", input, &walk_and_settle(input));
+    }
+    for input in &walked[1..3] {
+        line("walk", input, &walk(input));
+        line("settle", input, &settle(input));
     }
     let translated = [
         inputs::belt(),
@@ -134,28 +161,28 @@ fn comparison() {
     }
 }
 
-/// The library's time alone.
+/// A line with the library's time alone.
+fn grown(operation: &str, input: &Input, times: Times) {
+    println!("| {operation} | {} | {} |", input.name, shown(times[0]));
+}
+
 fn growth() {
     println!("\n| operation | input | library |\n|---|---|---|");
     for rows in [1_500, 3_000, 6_000, 12_000] {
         let input = inputs::in_preferences(rows, 2_048);
-        println!("| judge | {} | {} |", input.name, shown(judge(&input)[0]));
+        grown("walk and settle", &input, walk_and_settle(&input));
     }
     for steps in [256, 512, 1_024, 2_048] {
         let input = inputs::in_preferences(12_000, steps);
-        println!("| judge | {} | {} |", input.name, shown(judge(&input)[0]));
+        grown("walk and settle", &input, walk_and_settle(&input));
     }
     for k in [0, 31, 63, 95, 127] {
         let input = inputs::many_actions(&format!("action {k}"), &[k]);
-        println!("| judge | {} | {} |", input.name, shown(judge(&input)[0]));
+        grown("walk and settle", &input, walk_and_settle(&input));
     }
     for rows in [1_500, 3_000, 6_000, 12_000] {
         let input = inputs::in_trackers(rows, 2);
-        println!(
-            "| translate | {} | {} |",
-            input.name,
-            shown(translate(&input)[0])
-        );
+        grown("translate", &input, translate(&input));
     }
     for of in [inputs::longest_domain, inputs::longest_problem] {
         for rows in [1_500, 3_000, 6_000, 12_000] {

@@ -1,5 +1,5 @@
-/* Checks the belt's task, translates it, writes the translation as PDDL, judges a plan on the task, as bytes and as text, and
- * prints the answers: belt TASK PLAN. */
+/* Checks the belt's task, translates it, writes the translation as PDDL, walks a plan on the task, as bytes and as text, settles
+ * what it is worth, and prints the answers: belt TASK PLAN. */
 #include "route_rules.h"
 
 #include <inttypes.h>
@@ -63,7 +63,7 @@ static void translate(const uint8_t *file, size_t length)
     pddl(out, answer.length);
 }
 
-static void judged(const char *operation, uint32_t number, const route_rules_judged *answer)
+static void walked(const char *operation, uint32_t number, const route_rules_walked *answer)
 {
     if (number != 0) {
         refused(operation, number, answer->place);
@@ -72,8 +72,7 @@ static void judged(const char *operation, uint32_t number, const route_rules_jud
     printf("%s: ", operation);
     switch (answer->verdict) {
     case ROUTE_RULES_SOLVED:
-        printf("solved cost %" PRIu64 " metric %" PRIu64 " utility %" PRId64 " met", answer->cost, answer->metric,
-               answer->utility);
+        printf("solved cost %" PRIu64 " met", answer->cost);
         for (int k = 0; k < ROUTE_RULES_MAX_PREFERENCES; k++)
             if (answer->met >> k & 1) printf(" %d", k);
         break;
@@ -83,11 +82,23 @@ static void judged(const char *operation, uint32_t number, const route_rules_jud
     printf("\n");
 }
 
-static void judge(const uint8_t *file, size_t length, const uint8_t *plan, size_t steps)
+static void settle(const uint8_t *file, size_t length, uint64_t cost, uint64_t met)
 {
-    route_rules_judged answer;
-    uint32_t number = route_rules_judge(file, length, plan, steps, &answer);
-    judged("judge", number, &answer);
+    route_rules_settled answer;
+    uint32_t number = route_rules_settle(file, length, cost, met, &answer);
+    if (number != 0)
+        refused("settle", number, answer.place);
+    else
+        printf("settle: metric %" PRIu64 " utility %" PRId64 "\n", answer.metric, answer.utility);
+}
+
+/* Cost and met preferences first; then, of a plan that solves, what they are worth. */
+static void walk(const uint8_t *file, size_t length, const uint8_t *plan, size_t steps)
+{
+    route_rules_walked answer;
+    uint32_t number = route_rules_walk(file, length, plan, steps, &answer);
+    walked("walk", number, &answer);
+    if (number == 0 && answer.verdict == ROUTE_RULES_SOLVED) settle(file, length, answer.cost, answer.met);
 }
 
 static void write_plan(const uint8_t *plan, size_t steps)
@@ -103,11 +114,11 @@ static void write_plan(const uint8_t *plan, size_t steps)
     fwrite(text, 1, answer.length, stdout);
 }
 
-static void judge_text(const uint8_t *file, size_t length, const char *text)
+static void walk_text(const uint8_t *file, size_t length, const char *text)
 {
-    route_rules_judged answer;
-    uint32_t number = route_rules_judge_text(file, length, (const uint8_t *)text, strlen(text), &answer);
-    judged("judge_text", number, &answer);
+    route_rules_walked answer;
+    uint32_t number = route_rules_walk_text(file, length, (const uint8_t *)text, strlen(text), &answer);
+    walked("walk_text", number, &answer);
 }
 
 int main(int count, char **words)
@@ -121,15 +132,18 @@ int main(int count, char **words)
     check(file, length);
     translate(file, length);
     pddl(file, length); /* a task with preferences */
-    judge(file, length, plan, steps);
-    judge(file, length, plan, 0);                     /* the goal is missed */
-    judge(file, length, (const uint8_t *)"\0\1\1\0", 4); /* utility below 0 */
-    judge(file, length, (const uint8_t *)"\2", 1);    /* no action 2 */
-    check(file, length - 1);                          /* a byte is missing */
+    walk(file, length, plan, steps);
+    walk(file, length, plan, 0);                        /* the goal is missed */
+    walk(file, length, (const uint8_t *)"\0\1\1\0", 4); /* utility below 0 */
+    walk(file, length, (const uint8_t *)"\2", 1);       /* no action 2 */
+    settle(file, length, 3, 3);                         /* if preference 0 were met as well */
+    settle(file, length, 3, 4);                         /* no preference 2 */
+    settle(file, length, ROUTE_RULES_MAX_COST + 1, 0);  /* more than any plan costs */
+    check(file, length - 1);                            /* a byte is missing */
 
     write_plan(plan, steps);
-    judge_text(file, length, "; from a planner\n(a0)\n");
-    judge_text(file, length, "; from a planner\n(a00)\n"); /* line 1 has a leading zero */
+    walk_text(file, length, "; from a planner\n(a0)\n");
+    walk_text(file, length, "; from a planner\n(a00)\n"); /* line 1 has a leading zero */
 
     size_t written = route_rules_report(file, length, plan, steps, text, sizeof text);
     fwrite(text, 1, written, stdout);

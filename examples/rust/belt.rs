@@ -1,10 +1,10 @@
-//! Checks the belt's task, translates it, writes the translation as PDDL, judges a plan on the task, as bytes and as text, and
-//! prints the answers: `belt TASK PLAN`.
+//! Checks the belt's task, translates it, writes the translation as PDDL, walks a plan on the task, as bytes and as text, settles
+//! what it is worth, and prints the answers: `belt TASK PLAN`.
 
 #[path = "../../include/route_rules.rs"]
 mod route_rules;
 
-use route_rules::{Refusal, Verdict, MAX_FILE, MAX_PDDL, MAX_TEXT};
+use route_rules::{Refusal, Verdict, MAX_COST, MAX_FILE, MAX_PDDL, MAX_TEXT};
 use std::fs;
 
 fn refused(refusal: Refusal) -> String {
@@ -47,26 +47,32 @@ fn translate(file: &[u8]) {
 
 fn verdict(verdict: Verdict) -> String {
     match verdict {
-        Verdict::Solved {
-            cost,
-            metric,
-            utility,
-            met,
-        } => {
+        Verdict::Solved { cost, met } => {
             let met: String = (0..16)
                 .filter(|k| met >> k & 1 == 1)
                 .map(|k| format!(" {k}"))
                 .collect();
-            format!("solved cost {cost} metric {metric} utility {utility} met{met}")
+            format!("solved cost {cost} met{met}")
         }
         Verdict::Stopped(step) => format!("stopped {step}"),
         Verdict::GoalMissed => "goal missed".to_string(),
     }
 }
 
-fn judge(file: &[u8], plan: &[u8]) {
-    let line = route_rules::judge(file, plan).map_or_else(refused, verdict);
-    println!("judge: {line}");
+fn settle(file: &[u8], cost: u64, met: u64) {
+    let line = route_rules::settle(file, cost, met).map_or_else(refused, |worth| {
+        format!("metric {} utility {}", worth.metric, worth.utility)
+    });
+    println!("settle: {line}");
+}
+
+/// Cost and met preferences first; then, of a plan that solves, what they are worth.
+fn walk(file: &[u8], plan: &[u8]) {
+    let answer = route_rules::walk(file, plan);
+    println!("walk: {}", answer.map_or_else(refused, verdict));
+    if let Ok(Verdict::Solved { cost, met }) = answer {
+        settle(file, cost, met);
+    }
 }
 
 fn write_plan(plan: &[u8]) {
@@ -77,9 +83,9 @@ fn write_plan(plan: &[u8]) {
     }
 }
 
-fn judge_text(file: &[u8], text: &[u8]) {
-    let line = route_rules::judge_text(file, text).map_or_else(refused, verdict);
-    println!("judge_text: {line}");
+fn walk_text(file: &[u8], text: &[u8]) {
+    let line = route_rules::walk_text(file, text).map_or_else(refused, verdict);
+    println!("walk_text: {line}");
 }
 
 fn main() {
@@ -90,15 +96,18 @@ fn main() {
     check(&file);
     translate(&file);
     pddl(&file); // a task with preferences
-    judge(&file, &plan);
-    judge(&file, &[]); // the goal is missed
-    judge(&file, &[0, 1, 1, 0]); // utility below 0
-    judge(&file, &[2]); // no action 2
+    walk(&file, &plan);
+    walk(&file, &[]); // the goal is missed
+    walk(&file, &[0, 1, 1, 0]); // utility below 0
+    walk(&file, &[2]); // no action 2
+    settle(&file, 3, 0b11); // if preference 0 were met as well
+    settle(&file, 3, 0b100); // no preference 2
+    settle(&file, MAX_COST + 1, 0); // more than any plan costs
     check(&file[..file.len() - 1]); // a byte is missing
 
     write_plan(&plan);
-    judge_text(&file, b"; from a planner\n(a0)\n");
-    judge_text(&file, b"; from a planner\n(a00)\n"); // line 1 has a leading zero
+    walk_text(&file, b"; from a planner\n(a0)\n");
+    walk_text(&file, b"; from a planner\n(a00)\n"); // line 1 has a leading zero
 
     let mut text = [0; 2048];
     let length = route_rules::report(&file, &plan, &mut text);

@@ -1,5 +1,5 @@
 #!/usr/bin/env python3
-"""The test vectors of judge: task files and plans, and the texts that document 01 wants for them.
+"""The test vectors of program judge: task files and plans, and the texts that document 01 wants for them.
 
 tests/judge/vectors.py           writes crates/judge_vectors/data/vectors and crates/judge_vectors/stdout
 tests/judge/vectors.py --check   writes nothing, and fails where these two files are not what it makes
@@ -38,7 +38,7 @@ def rows(data):
 
 
 def refusal(data, plan):
-    """The refused line, or nothing for a plan that is judged."""
+    """The refused line, or nothing for a plan that is walked."""
     line = check(data)
     if line.startswith('refused'):
         return line + '\n'
@@ -72,9 +72,9 @@ def facts(t, data, plan):
     yield from task_facts(data, f'{t},')
 
 
-def derived(program):
-    """The atoms in the one model of the program, each as a list: predicate, vector, what it says."""
-    ground = subprocess.run(['gringo', os.path.join(HERE, 'meaning.lp'), '-'], input=program.encode(), stdout=subprocess.PIPE, check=True)
+def derived(program, rules=os.path.join(HERE, 'meaning.lp')):
+    """The atoms in the one model of the rules and the program, each as a list: predicate, vector, what it says."""
+    ground = subprocess.run(['gringo', rules, '-'], input=program.encode(), stdout=subprocess.PIPE, check=True)
     clasp = subprocess.run(['clasp', '-n2', '--outf=2'], input=ground.stdout, stdout=subprocess.PIPE)
     answer = json.loads(clasp.stdout)
     assert answer['Models'] == {'Number': 1, 'More': 'no'}, answer['Models']

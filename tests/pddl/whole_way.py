@@ -141,7 +141,7 @@ def judged(programs, data, text, metric):
     return lines[1:-1]
 
 
-def walked(programs, data, files, horizon):
+def both_lists(programs, data, files, horizon):
     """The lines about preferences that judge writes on the cheapest and on the dearest list, by the names in SIGNS, where there is one.
     The files have `compiled`, which is data itself or its translation."""
     task, compiled, outcomes = read_back(programs.pddl, files), files['compiled'], {}
@@ -161,9 +161,9 @@ def ways(programs, data):
     printed, errors, files = run(programs.translate, dict(task=data))
     expect('translate prints', printed + errors, '')
     p = data[4]
-    yield 'with preferences' if p else 'without preferences', walked(programs, data, files, HORIZON + 1 + p)
+    yield 'with preferences' if p else 'without preferences', both_lists(programs, data, files, HORIZON + 1 + p)
     if not p:
-        yield 'as it stands', walked(programs, data, dict(compiled=data), HORIZON)
+        yield 'as it stands', both_lists(programs, data, dict(compiled=data), HORIZON)
 
 
 def main(pddl, translate, judge, text_vectors, count='110', seed='4'):

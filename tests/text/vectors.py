@@ -62,7 +62,7 @@ def first_lines(plan, fault):
 
 
 def last_refusal(data, plan, fault):
-    """The refusal that judging a text answers, or nothing."""
+    """The refusal that walking a text answers, or nothing."""
     of_task = check(data) + '\n'
     return of_task if of_task.startswith('refused') else fault or refusal(data, plan)
 

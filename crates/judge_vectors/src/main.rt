@@ -1,4 +1,4 @@
-// Judges the plans of the file `vectors`.
+// Reports on the plans of the file `vectors`.
 use vectors::Family;
 
 fn main() {

@@ -8,7 +8,7 @@ use native.Mathlib.Omega.{arith}
 use lib.Dec.{T, ltb, ltb→lt, lt→ltb, leb→le}
 use lib.ListN.{length, length-append}
 use borrow.Author.Tests.{eq-eqb, le-leb}
-use Rattle.task.specs.Lists.{all, concatMap, concatFrom}
+use Rattle.task.specs.Lists.{all, concatMap, concatFrom, numbers}
 use Rattle.task.specs.Marks.{ADD, DELETE, GOAL, START}
 use Rattle.task.specs.Task.{Literal, Clause, Condition, Effect, Action, Task, Row, row, literalRow, clauseRows, conditionRows, effectRows, actionRows, preferenceRows, taskRows, conditionBelow, factsBelow, effectBelow, actionBelow, wellFormed}
 use Rattle.task.specs.File.{Sizes, taskOf}
@@ -20,7 +20,7 @@ use Rattle.task.proofs.Checking.{within}
 use Rattle.text.specs.Ascii.{ascii}
 use Rattle.text.specs.Text.{decimal}
 use Rattle.text.proofs.Decimal.{few-digits}
-use Rattle.pddl_text.specs.Pddl.{spaced, factText, notText, literalText, clauseText, conditionText, effectText, actionLine, numbers, domainText, problemText}
+use Rattle.pddl_text.specs.Pddl.{spaced, factText, notText, literalText, clauseText, conditionText, effectText, actionLine, domainText, problemText}
 use Rattle.pddl_text.specs.Outcomes.{written, outcome}
 
 -- Lists, each of whose parts is behind a space

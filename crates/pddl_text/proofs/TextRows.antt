@@ -6,7 +6,7 @@ use native.Mathlib.Nat.{add-zero}
 use native.Mathlib.Numerals.{add-one}
 use native.Mathlib.Omega.{arith}
 use lib.ListN.{length, drop, length-append, length-map}
-use Rattle.task.specs.Lists.{concatMap, concatFrom}
+use Rattle.task.specs.Lists.{concatMap, concatFrom, numbers}
 use Rattle.task.specs.Marks.{START}
 use Rattle.task.specs.Task.{Task, Row, row, conditionRows, actionRows, preferenceRows, taskRows}
 use Rattle.task.specs.File.{paired}
@@ -19,7 +19,7 @@ use Rattle.task.proofs.Positions.{drop-behind, past-kinds, tailRows, preference
 use Rattle.text.specs.Ascii.{ascii}
 use Rattle.text.specs.Area.{Wrote}
 use Rattle.text.proofs.Writing.{then, from-start}
-use Rattle.pddl_text.specs.Pddl.{spaced, factText, conditionText, actionLine, numbers, domainText, problemText}
+use Rattle.pddl_text.specs.Pddl.{spaced, factText, conditionText, actionLine, domainText, problemText}
 use Rattle.pddl_text.specs.Rows.{Listed, listAt, endedAt}
 use Rattle.pddl_text.specs.Puts.{Puts, PutsProblem, PutsDomain}
 use Rattle.pddl_text.specs.declared.conditions.Spot.{Spot}

@@ -5,11 +5,11 @@ use mathlib.Core.List.{List, [], _∷_, _++_, append-nil, head-eq-of-cons-eq, ta
 use Prim.Native.Nat.{ℕ, zero, suc, _+_}
 use native.Mathlib.Omega.{arith}
 use lib.ListN.{length}
-use Rattle.task.specs.Lists.{concatFrom}
+use Rattle.task.specs.Lists.{concatFrom, numbers}
 use Rattle.task.specs.Task.{Literal, Clause, Condition, Effect, Action, Task}
 use Rattle.text.specs.Ascii.{ascii}
 use Rattle.text.specs.Text.{decimal}
-use Rattle.pddl_text.specs.Pddl.{spaced, factText, notText, literalText, clauseText, conditionText, effectText, actionLine, numbers, domainText, problemText}
+use Rattle.pddl_text.specs.Pddl.{spaced, factText, notText, literalText, clauseText, conditionText, effectText, actionLine, domainText, problemText}
 use Rattle.pddl_text.proofs.Tells.{Tells, word-before, word-behind, both, regroup, number-then, number-tells, list-then, list-tells}
 
 -- Conditions

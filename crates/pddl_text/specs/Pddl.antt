@@ -1,18 +1,13 @@
 -- A task without preferences as a domain and a problem in PDDL: document 02, request 4.
 use mathlib.Core.Bool.{cond}
 use mathlib.Core.List.{List, [], _∷_, _++_}
-use Prim.Native.Nat.{ℕ, zero, suc, _+_}
-use Rattle.task.specs.Lists.{concatMap, concatFrom}
+use Prim.Native.Nat.{ℕ}
+use Rattle.task.specs.Lists.{concatMap, concatFrom, numbers}
 use Rattle.task.specs.Task.{Literal, Clause, Condition, Effect, Action, Task}
 use Rattle.text.specs.Ascii.{ascii}
 use Rattle.text.specs.Text.{decimal}
 
 -- Lists
-
--- n numbers from k on
-abbrev pub numbers : ℕ → ℕ → List ℕ
-numbers k zero = []
-numbers k (suc n) = k ∷ numbers (k + 1) n
 
 -- each of a list, behind a space
 abbrev pub spaced : {A : Type 0} → (A → List ℕ) → List A → List ℕ

@@ -1,8 +1,9 @@
 // The domain and the problem of a task.
 ghost use Prim.Native.Nat.{_+_, _*_, _^_, _≤_, _<_};
 ghost use lib.ListN.{length};
+ghost use Rattle.task.specs.Lists.{numbers};
 ghost use Rattle.text.specs.Area.{Wrote};
-ghost use Rattle.pddl_text.specs.Pddl.{spaced, factText, numbers};
+ghost use Rattle.pddl_text.specs.Pddl.{spaced, factText};
 ghost use Rattle.pddl_text.specs.Puts.{Spelled, PutsProblem, PutsDomain};
 use super::actions;
 use super::conditions;

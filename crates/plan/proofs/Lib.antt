@@ -3,9 +3,11 @@ pub mod ByMark
 pub mod Bits
 pub mod SidesRead
 pub mod Watching
--- Amounts
+-- The preferences counted: those that are met, and their weights
+pub mod Counting
+pub mod Meeting
 pub mod Difference
-pub mod Tallying
+pub mod Weighing
 -- The parts of a task among its rows
 pub mod Seeking
 pub mod ActionRows
@@ -15,4 +17,5 @@ pub mod TaskRead
 pub mod Stepping
 pub mod Finishing
 pub mod Running
-pub mod Judging
+pub mod Walking
+pub mod Settling

@@ -7,30 +7,31 @@ use native.Mathlib.Nat.{add-zero, zero-add}
 use native.Mathlib.Numerals.{add-one}
 use native.Mathlib.Omega.{arith}
 use lib.Dec.{ltb, ltb→lt}
-use lib.IntN.{pos, _-ℤ_}
 use lib.ListN.{length, drop, getD, drop-of-length-le}
 use lib.Seq.{drop-cons}
-use Rattle.task.specs.Lists.{sum, lastOr}
+use Rattle.task.specs.Lists.{lastOr}
 use Rattle.task.specs.Task.{Task, Preference}
-use Rattle.task.specs.Meaning.{State as Facts, isTrue, opening, after, actionAt, applies, runs, reached, final, cost, seen, preferenceAt}
+use Rattle.task.specs.Meaning.{State as Facts, isTrue, opening, after, actionAt, applies, runs, reached, final, cost, metric, utility, seen, preferenceAt}
 use Rattle.task.specs.Monitor.{Monitor, fresh, step}
-use Rattle.task.specs.Verdict.{Verdict, solved, stopped, goal-missed, stepsApplied, verdict}
+use Rattle.task.specs.Verdict
+use Rattle.task.specs.Verdict.{stepsApplied, metSet, verdict}
 use Rattle.task.proofs.Tests.{all-at}
 use Rattle.task.proofs.Watched.{stepAll, watchAll, good-watched}
 use Rattle.state.specs.Member.{member, empty}
 use Rattle.plan.specs.Monitors.{monitorAt}
+use Rattle.plan.specs.Walked.{Walk, solved, stopped, goal-missed, unpriced}
 use Rattle.plan.specs.Places.{AllBelow, Layout}
 use Rattle.plan.specs.Steps.{Leads, solvedBy, lastVerdict, MonitorsAre}
 use Rattle.plan.specs.declared.steps.Position.{Position}
 
 -- the verdict on the steps from step i on, in state σ, with monitors μ and cost c so far
-abbrev pub verdictFrom : Task → Facts → (Preference → Monitor) → ℕ → ℕ → List ℕ → Verdict
+abbrev pub verdictFrom : Task → Facts → (Preference → Monitor) → ℕ → ℕ → List ℕ → Walk
 verdictFrom t σ μ c i [] = lastVerdict t σ μ c
 verdictFrom t σ μ c i (k ∷ ks) =
     cond (applies t σ k) (verdictFrom t (after σ (actionAt t k)) (stepAll false μ σ) (c + actionAt t k .cost) (i + 1) ks) (stopped i)
 
 -- with the amounts as they come out
-abbrev outcome : Task → Facts → (Preference → Monitor) → List ℕ → ℕ → ℕ → Verdict
+abbrev outcome : Task → Facts → (Preference → Monitor) → List ℕ → ℕ → ℕ → Walk
 outcome t σ μ p c i =
     cond (runs t σ p) (cond (isTrue (lastOr σ (reached t σ p)) (t .goal)) (solvedBy t (watchAll t μ σ p) c) goal-missed) (stopped i)
 
@@ -52,16 +53,21 @@ step-by-step t σ μ c i (k ∷ ks) =
     go false a e = rw a (ap stopped (sym (add-zero i)))
 
 -- monitors that begin fresh come to the amounts of the verdict
-pub from-the-opening : (t : Task) (p : List ℕ) → verdictFrom t (opening t) (λ (q : Preference). fresh) 0 0 p ≡ verdict t p
+pub from-the-opening : (t : Task) (p : List ℕ) → verdictFrom t (opening t) (λ (q : Preference). fresh) 0 0 p ≡ unpriced (verdict t p)
 unfolding verdict
 from-the-opening t p =
     step-by-step t (opening t) (λ (q : Preference). fresh) 0 0 p
     ∙ ap₂ (outcome t (opening t) (λ (q : Preference). fresh) p) (zero-add (cost t p)) (zero-add (stepsApplied t (opening t) p))
     ∙ ap (λ (ok : Preference → Bool). cond (runs t (opening t) p) (cond (isTrue (final t p) (t .goal))
-    (solved (cost t p) (cost t p + sum (map (λ (q : Preference). cond (ok q) 0 (q .weight)) (t .preferences)))
-    (pos (sum (map (λ (q : Preference). cond (ok q) (q .weight) 0) (t .preferences))) -ℤ pos (cost t p))
-    (λ (k : ℕ). getD (map ok (t .preferences)) k false)) goal-missed) (stopped (stepsApplied t (opening t) p)))
+    (solved (cost t p) (λ (k : ℕ). getD (map ok (t .preferences)) k false)) goal-missed) (stopped (stepsApplied t (opening t) p)))
     (fun-ext (good-watched t p))
+    ∙ go (runs t (opening t) p) (isTrue (final t p) (t .goal))
+  where
+    go : (a b : Bool) → cond a (cond b (solved (cost t p) (metSet t p)) goal-missed) (stopped (stepsApplied t (opening t) p))
+        ≡ unpriced (cond a (cond b (Verdict.solved (cost t p) (metric t p) (utility t p) (metSet t p)) Verdict.goal-missed) (Verdict.stopped (stepsApplied t (opening t) p)))
+    go true true = refl
+    go true false = refl
+    go false b = refl
 
 -- The loop over the steps
 
@@ -69,7 +75,7 @@ from-the-opening t p =
 pub record Stands (t : Task) (plan : List ℕ) (p : Position) (i : ℕ) : Type 0 where
   pub monitors : Preference → Monitor
   pub are : MonitorsAre t p monitors
-  pub same : verdictFrom t (member (p .state)) monitors (p .cost) i (drop i plan) ≡ verdict t plan
+  pub same : verdictFrom t (member (p .state)) monitors (p .cost) i (drop i plan) ≡ unpriced (verdict t plan)
 
 -- what holds before step i
 pub record Running (ms vs : List ℕ) (at goal : ℕ) (starts : List ℕ) (σ : Facts) (plan : List ℕ) (p : Position) (i : ℕ) : Type 0 where
@@ -91,7 +97,7 @@ module _ (t : Task) (plan : List ℕ) where
   }
 
   module _ (p : Position) (i : ℕ) (s : Stands t plan p i) where
-    pub ends : length plan ≤ i → lastVerdict t (member (p .state)) (s .monitors) (p .cost) ≡ verdict t plan
+    pub ends : length plan ≤ i → lastVerdict t (member (p .state)) (s .monitors) (p .cost) ≡ unpriced (verdict t plan)
     ends h =
         ap (verdictFrom t (member (p .state)) (s .monitors) (p .cost) i) (sym (drop-of-length-le plan {i = i} h)) ∙ s .same
 
@@ -99,12 +105,12 @@ module _ (t : Task) (plan : List ℕ) where
       here : cond (applies t (member (p .state)) k)
           (verdictFrom t (after (member (p .state)) (actionAt t k)) (stepAll false (s .monitors) (member (p .state)))
           (p .cost + actionAt t k .cost) (i + 1) (drop (suc i) plan)) (stopped i)
-          ≡ verdict t plan
+          ≡ unpriced (verdict t plan)
       here =
           ap (λ (j : ℕ). verdictFrom t (member (p .state)) (s .monitors) (p .cost) i (j ∷ drop (suc i) plan)) read
           ∙ ap (verdictFrom t (member (p .state)) (s .monitors) (p .cost) i) (sym (drop-cons plan i 0 h)) ∙ s .same
 
-      pub stops : applies t (member (p .state)) k ≡ false → stopped i ≡ verdict t plan
+      pub stops : applies t (member (p .state)) k ≡ false → stopped i ≡ unpriced (verdict t plan)
       stops e = rw e at here
 
       pub goes-on : (q : Position) → Leads t k p q → Stands t plan q (i + 1)

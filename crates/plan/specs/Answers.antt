@@ -1,17 +1,24 @@
--- What the answers of `judge` stand for: the values of each case.
+-- What the answers of `walk` and `settle` stand for: the values of each case.
 use Rattle.state.specs.Member.{bit}
-use Rattle.task.specs.Verdict
-use Rattle.plan.specs.Judged
+use Rattle.plan.specs.Walked
+use Rattle.plan.specs.Walked.{Walk}
+use Rattle.plan.specs.Settled
 use Rattle.plan.specs.declared.Verdict.{Verdict}
 use Rattle.plan.specs.declared.Verdict.the-variants.{Solved, Stopped, GoalMissed}
-use Rattle.plan.specs.declared.Judged.{Judged}
-use Rattle.plan.specs.declared.Judged.the-variants.{Given, Refused}
+use Rattle.plan.specs.declared.Walked.{Walked}
+use Rattle.plan.specs.declared.Walked.the-variants as walk
+use Rattle.plan.specs.declared.Settled.{Settled}
+use Rattle.plan.specs.declared.Settled.the-variants as settle
 
-abbrev pub asVerdict : Verdict → Verdict.Verdict
-asVerdict (Solved w) = Verdict.solved (w .cost) (w .metric) (w .utility) (bit (w .met))
-asVerdict (Stopped i) = Verdict.stopped i
-asVerdict GoalMissed = Verdict.goal-missed
+abbrev pub asVerdict : Verdict → Walk
+asVerdict (Solved s) = Walked.solved (s .cost) (bit (s .met))
+asVerdict (Stopped i) = Walked.stopped i
+asVerdict GoalMissed = Walked.goal-missed
 
-abbrev pub answer : Judged → Judged.Judged
-answer (Given v) = Judged.given (asVerdict v)
-answer (Refused r) = Judged.refused (r .number) (r .place)
+abbrev pub walkedAs : Walked → Walked.Walked
+walkedAs (walk.Given v) = Walked.given (asVerdict v)
+walkedAs (walk.Refused r) = Walked.refused (r .number) (r .place)
+
+abbrev pub settledAs : Settled → Settled.Settled
+settledAs (settle.Given w) = Settled.worth (w .metric) (w .utility)
+settledAs (settle.Refused r) = Settled.refused (r .number) (r .place)

@@ -3,15 +3,13 @@ use mathlib.Core.Path.{_≡_}
 use mathlib.Core.Bool.{Bool, true, false, cond}
 use mathlib.Core.List.{List, map}
 use Prim.Native.Nat.{ℕ, _+_, _<_}
-use lib.IntN.{pos, _-ℤ_}
 use lib.ListN.{length, getD}
-use Rattle.task.specs.Lists.{sum}
 use Rattle.task.specs.Task.{Task, Preference}
 use Rattle.task.specs.Meaning.{State as Facts, isTrue, opening, after, actionAt, applies, seen, preferenceAt}
 use Rattle.task.specs.Monitor.{Monitor, step, good}
-use Rattle.task.specs.Verdict
 use Rattle.task.specs.Verdict.{verdict}
 use Rattle.state.specs.Member.{member}
+use Rattle.plan.specs.Walked.{Walk, solved, goal-missed, unpriced}
 use Rattle.plan.specs.Answers.{asVerdict}
 use Rattle.plan.specs.Monitors.{monitorAt}
 use Rattle.plan.specs.Reads.{Reads, PreferencesAt}
@@ -50,16 +48,13 @@ abbrev pub isGood : (Preference → Monitor) → Preference → Bool
 isGood μ q = good (q .kind) (μ q)
 
 -- the verdict on a plan whose goal holds, of cost c, by such monitors
-abbrev pub solvedBy : Task → (Preference → Monitor) → ℕ → Verdict.Verdict
-solvedBy t μ c =
-    Verdict.solved c (c + sum (map (λ (q : Preference). cond (isGood μ q) 0 (q .weight)) (t .preferences)))
-    (pos (sum (map (λ (q : Preference). cond (isGood μ q) (q .weight) 0) (t .preferences))) -ℤ pos c)
-    (λ (k : ℕ). getD (map (isGood μ) (t .preferences)) k false)
+abbrev pub solvedBy : Task → (Preference → Monitor) → ℕ → Walk
+solvedBy t μ c = solved c (λ (k : ℕ). getD (map (isGood μ) (t .preferences)) k false)
 
 -- the verdict behind the last step, in the last state σ, by monitors that have seen those before it
-abbrev pub lastVerdict : Task → Facts → (Preference → Monitor) → ℕ → Verdict.Verdict
+abbrev pub lastVerdict : Task → Facts → (Preference → Monitor) → ℕ → Walk
 lastVerdict t σ μ c =
-    cond (isTrue σ (t .goal)) (solvedBy t (λ (q : Preference). step (q .kind) true (μ q) (seen q σ)) c) Verdict.goal-missed
+    cond (isTrue σ (t .goal)) (solvedBy t (λ (q : Preference). step (q .kind) true (μ q) (seen q σ)) c) goal-missed
 
 abbrev pub MonitorsAre : Task → Position → (Preference → Monitor) → Type 0
 MonitorsAre t p μ = (j : ℕ) → j < length (t .preferences) → monitorAt (member (p .set)) j ≡ μ (preferenceAt t j)
@@ -71,7 +66,7 @@ Finishes ms vs at goal p r =
 
 -- a plan followed from state σ on
 abbrev pub Follows : List ℕ → List ℕ → ℕ → ℕ → List ℕ → Facts → List ℕ → Verdict → Type 0
-Follows ms vs at goal starts σ plan r = (t : Task) → Layout t ms vs at goal starts → σ ≡ opening t → asVerdict r ≡ verdict t plan
+Follows ms vs at goal starts σ plan r = (t : Task) → Layout t ms vs at goal starts → σ ≡ opening t → asVerdict r ≡ unpriced (verdict t plan)
 
 abbrev pub Runs : List ℕ → List ℕ → List ℕ → Verdict → Type 0
-Runs ms vs plan r = (t : Task) → Reads t ms vs → asVerdict r ≡ verdict t plan
+Runs ms vs plan r = (t : Task) → Reads t ms vs → asVerdict r ≡ unpriced (verdict t plan)

@@ -1,40 +1,62 @@
-// What a plan is worth on a task.
+// A plan walked on a task, and what a walk is worth.
 mod amounts;
+mod met;
 mod monitors;
 mod places;
 mod steps;
 
 ghost use mathlib.Core.Path.{_≡_};
-ghost use Rattle.plan.specs.Answers.{answer};
-ghost use Rattle.plan.specs.Judged.{refused, stepsKnown, judged};
+ghost use Rattle.state.specs.Member.{bit};
+ghost use Rattle.plan.specs.Answers.{walkedAs, settledAs};
+ghost use Rattle.plan.specs.Judged.{stepsKnown};
+ghost use Rattle.plan.specs.Walked.{refused, walked};
+ghost use Rattle.plan.specs.Settled.{settled};
+use state::State;
 use task::Checked;
 use task::Refusal;
 
-// What a plan that solves is worth. Preference k is met where bit k of `met` is set.
-pub struct Worth {
+// What a plan that solves costs, and which preferences it meets: preference k where bit k of `met` is set.
+pub struct Solution {
     pub cost: u64,
-    pub metric: u64,
-    pub utility: i64,
     pub met: u64,
 }
 
 // Stopped has the first step that doesn't apply.
 pub enum Verdict {
-    Solved(Worth),
+    Solved(Solution),
     Stopped(usize),
     GoalMissed,
 }
 
-// A judged plan: a verdict, or a refusal of the task or of the plan.
-pub enum Judged {
+// A walked plan: a verdict, or a refusal of the task or of the plan.
+pub enum Walked {
     Given(Verdict),
     Refused(Refusal),
 }
 
-fn refuse(number: u8, place: u16) -> Judged
-    ensures { λ r. ⌜ answer r ≡ refused number place ⌝ }
+// What a solution is worth.
+pub struct Worth {
+    pub metric: u64,
+    pub utility: i64,
+}
+
+// A settled solution: what it is worth, or a refusal of the task, of the cost or of the met preferences.
+pub enum Settled {
+    Given(Worth),
+    Refused(Refusal),
+}
+
+// Whether preference k is among the met ones.
+pub fn is_met(met: u64, k: u32) -> bool
+    ensures { λ r. ⌜ r ≡ bit met k ⌝ }
 {
-    Judged::Refused(Refusal { number, place })
+    state::holds(State { low: met, high: 0 }, k)
+}
+
+fn refuse(number: u8, place: u16) -> Walked
+    ensures { λ r. ⌜ walkedAs r ≡ refused number place ⌝ }
+{
+    Walked::Refused(Refusal { number, place })
 }
 
 // How many steps stand before the first that is not below the number of actions.
@@ -51,13 +73,13 @@ fn steps_known(actions: usize, plan: &[u8]) -> usize
     i
 }
 
-// What a plan is worth on the task in a file.
-pub fn judge(file: &[u8], plan: &[u8]) -> Judged
-    ensures { λ r. ⌜ answer r ≡ judged (now (file .entry)) (now (plan .entry)) ⌝ }
+// Walks a plan on the task in a file: the verdict, and of a plan that solves the cost and the met preferences.
+pub fn walk(file: &[u8], plan: &[u8]) -> Walked
+    ensures { λ r. ⌜ walkedAs r ≡ walked (now (file .entry)) (now (plan .entry)) ⌝ }
 {
     let c = task::check(file);
     let Checked::Accepted(z) = c else {
-        return Judged::Refused(task::refusal_of(c));
+        return Walked::Refused(task::refusal_of(c));
     };
     let known = steps_known(z.actions, plan);
     if 2048 < plan.len() {
@@ -67,5 +89,23 @@ pub fn judge(file: &[u8], plan: &[u8]) -> Judged
         return refuse(11, known as u16);
     }
     let middle = 8 + z.rows;
-    Judged::Given(steps::run(&file[8..middle], &file[middle..], plan))
+    Walked::Given(steps::run(&file[8..middle], &file[middle..], plan))
+}
+
+// What a cost and met preferences are worth on the task in a file; preference k is met where bit k of `met` is set.
+pub fn settle(file: &[u8], cost: u64, met: u64) -> Settled
+    ensures { λ r. ⌜ settledAs r ≡ settled (now (file .entry)) cost (bit met) ⌝ }
+{
+    let c = task::check(file);
+    let Checked::Accepted(z) = c else {
+        return Settled::Refused(task::refusal_of(c));
+    };
+    if !amounts::arguments_allowed(z.preferences, cost, met) {
+        return Settled::Refused(Refusal {
+            number: 15,
+            place: 0,
+        });
+    }
+    let middle = 8 + z.rows;
+    Settled::Given(amounts::worth(cost, amounts::weigh(&file[8..middle], &file[middle..], met)))
 }

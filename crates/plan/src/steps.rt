@@ -5,8 +5,9 @@ ghost use lib.ListN.{length};
 ghost use Rattle.state.specs.Member.{member};
 ghost use Rattle.plan.specs.Places.{actionsFrom, AllBelow};
 ghost use Rattle.plan.specs.Steps.{Moves, Finishes, Follows, Runs};
+use super::Solution;
 use super::Verdict;
-use super::amounts;
+use super::met;
 use super::monitors;
 use super::places;
 use state::State;
@@ -65,7 +66,11 @@ fn finish(marks: &[u8], values: &[u8], at: usize, goal: usize, p: Position) -> V
     if !g.holds {
         return Verdict::GoalMissed;
     }
-    Verdict::Solved(amounts::worth(p.cost, amounts::total(marks, values, at, set)))
+    let found = met::find(marks, at, set);
+    Verdict::Solved(Solution {
+        cost: p.cost,
+        met: found.low,
+    })
 }
 
 // The verdict on a plan of known steps, from the opening state on. `starts` has the rows of the actions; the preferences stand

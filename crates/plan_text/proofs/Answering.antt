@@ -1,4 +1,4 @@
--- What reading, writing and judging answer, from what the code has found.
+-- What reading, writing and walking answer, from what the code has found.
 use mathlib.Core.Path.{_≡_, refl, sym, ap, _∙_}
 use mathlib.Core.Bool.{Bool, true, false, cond, true≢false}
 use mathlib.Core.List.{List, _++_}
@@ -18,12 +18,13 @@ use Rattle.task.specs.declared.Sizes.{Sizes}
 use Rattle.task.specs.declared.Refusal.{Refusal}
 use Rattle.task.specs.declared.Checked.{Checked}
 use Rattle.task.specs.declared.Checked.the-variants.{Accepted, Refused}
-use Rattle.plan.specs.Judged
-use Rattle.plan.specs.Judged.{Judged, judgedBy, judged}
+use Rattle.plan.specs.Judged.{judgedBy, judged}
+use Rattle.plan.specs.Walked
+use Rattle.plan.specs.Walked.{Walked, unsettled, walked}
 use Rattle.plan_text.specs.PlanText.{linesOf, Read, plan, faulty, readLines, readPlan}
 use Rattle.outcome.specs.Outcome.{Outcome, written, refused, areaAfter}
 use Rattle.outcome.proofs.Outcomes.{not-written, same-written}
-use Rattle.plan_text.specs.Outcomes.{planFitted, readBy, readOutcome, steps, stepsIn, refusedAfter, textJudgedBy, textJudged}
+use Rattle.plan_text.specs.Outcomes.{planFitted, readBy, readOutcome, steps, stepsIn, refusedAfter, textWalkedBy, textWalked}
 use Rattle.plan_text.specs.Scan.{isOpening, Count, all, faultyAt, count, counted, begun, start, stepsFrom}
 use Rattle.plan_text.specs.declared.scan.Scan.{Scan}
 use Rattle.plan_text.proofs.Scanning.{steps-read}
@@ -110,7 +111,7 @@ module _ (t : List ℕ) (room : ℕ) where
 pub line-below : (t : List ℕ) (s : Scan) → length t ≤ 65536 → s .line + begun (s .mode) ≤ length t → isOpening (s .mode) ≡ false → s .line < 65536
 line-below t s short h e = let l : s .line + 1 ≤ length t = (rw e at h) in omega arith
 
--- Judging
+-- Walking
 
 size-read : (r : Read) (room n : ℕ) → readBy room r ≡ written n → length (steps r) ≡ n
 size-read (plan p) room n e = go (leb (length p) 2048) (leb (length p) room) e
@@ -129,41 +130,41 @@ at-front t area out room n e w =
     ap (take n) (w ∙ ap (areaAfter (steps (readPlan t)) area) e) ∙ take-at (steps (readPlan t)) (drop n area) n (size-read (readPlan t) room n e)
 
 module _ (b : List ℕ) (x : Checked) (e : checked x ≡ check b) (m j : ℕ) where
-  pub file-refused : (f : Refusal) → x ≡ Refused f → Judged.refused (f .number) (f .place) ≡ refusedAfter (check b) m j
+  pub file-refused : (f : Refusal) → x ≡ Refused f → Walked.refused (f .number) (f .place) ≡ refusedAfter (check b) m j
   file-refused f q = ap (λ (a : Answer). refusedAfter a m j) (sym (ap checked q) ∙ e)
 
-  pub file-accepted : (z : Sizes) → x ≡ Accepted z → Judged.refused m j ≡ refusedAfter (check b) m j
+  pub file-accepted : (z : Sizes) → x ≡ Accepted z → Walked.refused m j ≡ refusedAfter (check b) m j
   file-accepted z q = ap (λ (a : Answer). refusedAfter a m j) (sym (ap checked q) ∙ e)
 
 module _ (b : List ℕ) where
   -- a refusal of reading, after check's
-  abbrev passedOn : Outcome → Judged
+  abbrev passedOn : Outcome → Walked
   passedOn (written n) = refusedAfter (check b) 0 0
   passedOn (refused n i) = refusedAfter (check b) n i
 
-  -- judge refuses a plan that is too long by the same number
-  over-long : (p : List ℕ) → leb (length p) 2048 ≡ false → (a : Answer) → refusedAfter a 10 0 ≡ judgedBy b p a
+  -- walk refuses a plan that is too long by the same number
+  over-long : (p : List ℕ) → leb (length p) 2048 ≡ false → (a : Answer) → refusedAfter a 10 0 ≡ unsettled (judgedBy b p a)
   over-long p l (Check.refused n i) = refl
   over-long p l (Check.accepted z) = rw l
 
-  on-refusal : (r : Read) (m j : ℕ) → readBy 2048 r ≡ refused m j → refusedAfter (check b) m j ≡ textJudgedBy b r
-  unfolding judged
+  on-refusal : (r : Read) (m j : ℕ) → readBy 2048 r ≡ refused m j → refusedAfter (check b) m j ≡ textWalkedBy b r
+  unfolding judged walked
   on-refusal (faulty i) m j e = sym (ap passedOn e)
   on-refusal (plan p) m j e = go (leb (length p) 2048) refl e
     where
       go : (x : Bool) → leb (length p) 2048 ≡ x → cond x (cond x (written (length p)) (refused 9 0)) (refused 10 0) ≡ refused m j
-          → refusedAfter (check b) m j ≡ judged b p
+          → refusedAfter (check b) m j ≡ walked b p
       go true l e = absurd (not-written m j (length p) (sym e))
       go false l e = sym (ap passedOn e) ∙ over-long p l (check b)
 
-  on-plan : (r : Read) (n : ℕ) → readBy 2048 r ≡ written n → judged b (steps r) ≡ textJudgedBy b r
+  on-plan : (r : Read) (n : ℕ) → readBy 2048 r ≡ written n → walked b (steps r) ≡ textWalkedBy b r
   on-plan (plan p) n e = refl
   on-plan (faulty i) n e = absurd (not-written 12 i n e)
 
-  pub text-refused : (t : List ℕ) (m j : ℕ) → readOutcome t 2048 ≡ refused m j → refusedAfter (check b) m j ≡ textJudged b t
-  unfolding readOutcome textJudged
+  pub text-refused : (t : List ℕ) (m j : ℕ) → readOutcome t 2048 ≡ refused m j → refusedAfter (check b) m j ≡ textWalked b t
+  unfolding readOutcome textWalked
   text-refused t m j e = on-refusal (readPlan t) m j e
 
-  pub text-judged : (t : List ℕ) (n : ℕ) → readOutcome t 2048 ≡ written n → judged b (stepsIn t) ≡ textJudged b t
-  unfolding readOutcome textJudged stepsIn
-  text-judged t n e = on-plan (readPlan t) n e
+  pub text-walked : (t : List ℕ) (n : ℕ) → readOutcome t 2048 ≡ written n → walked b (stepsIn t) ≡ textWalked b t
+  unfolding readOutcome textWalked stepsIn
+  text-walked t n e = on-plan (readPlan t) n e

@@ -1,4 +1,4 @@
--- What reading, writing and judging a plan's text answer: document 02, request 1.
+-- What reading, writing and walking a plan's text answer: document 02, request 1.
 use mathlib.Core.Bool.{cond}
 use mathlib.Core.List.{List, []}
 use Prim.Native.Nat.{ℕ}
@@ -7,8 +7,8 @@ use lib.ListN.{length}
 use Rattle.task.specs.Check
 use Rattle.task.specs.Check.{Answer, check}
 use Rattle.outcome.specs.Outcome.{Outcome, refused, fitted}
-use Rattle.plan.specs.Judged
-use Rattle.plan.specs.Judged.{Judged, judged}
+use Rattle.plan.specs.Walked
+use Rattle.plan.specs.Walked.{Walked, walked}
 use Rattle.plan_text.specs.PlanText.{textOf, Read, plan, faulty, readPlan}
 
 -- a plan of so many steps, written in so many bytes, for an area of so many
@@ -37,16 +37,16 @@ stepsIn t = steps (readPlan t)
 unfoldable pub writeOutcome : List ℕ → ℕ → Outcome
 writeOutcome p room = planFitted (length p) (length (textOf p)) room
 
--- Judging a text
+-- Walking a text
 
 -- check's refusal, or else one of the text
-abbrev pub refusedAfter : Answer → ℕ → ℕ → Judged
-refusedAfter (Check.refused n i) m j = Judged.refused n i
-refusedAfter (Check.accepted z) m j = Judged.refused m j
+abbrev pub refusedAfter : Answer → ℕ → ℕ → Walked
+refusedAfter (Check.refused n i) m j = Walked.refused n i
+refusedAfter (Check.accepted z) m j = Walked.refused m j
 
-abbrev pub textJudgedBy : List ℕ → Read → Judged
-textJudgedBy b (plan p) = judged b p
-textJudgedBy b (faulty i) = refusedAfter (check b) 12 i
+abbrev pub textWalkedBy : List ℕ → Read → Walked
+textWalkedBy b (plan p) = walked b p
+textWalkedBy b (faulty i) = refusedAfter (check b) 12 i
 
-unfoldable pub textJudged : List ℕ → List ℕ → Judged
-textJudged b t = textJudgedBy b (readPlan t)
+unfoldable pub textWalked : List ℕ → List ℕ → Walked
+textWalked b t = textWalkedBy b (readPlan t)

@@ -5,13 +5,13 @@ mod scan;
 ghost use mathlib.Core.Path.{_≡_};
 ghost use lib.ListN.{length};
 ghost use Rattle.plan_text.specs.PlanText.{textOf};
-ghost use Rattle.plan_text.specs.Outcomes.{readOutcome, stepsIn, writeOutcome, refusedAfter, textJudged};
+ghost use Rattle.plan_text.specs.Outcomes.{readOutcome, stepsIn, writeOutcome, refusedAfter, textWalked};
 ghost use Rattle.outcome.specs.Outcome.{areaAfter};
 ghost use Rattle.outcome.specs.Answers.{answer};
 ghost use Rattle.task.specs.Check.{check};
-ghost use Rattle.plan.specs.Answers.{answer as judgedAs};
+ghost use Rattle.plan.specs.Answers.{walkedAs};
 use outcome::Outcome;
-use plan::Judged;
+use plan::Walked;
 use task::Checked;
 use task::Refusal;
 
@@ -55,24 +55,24 @@ pub fn write(plan: &[u8], out: &mut [u8]) -> Outcome
 }
 
 // The refusal that check gives, or else that of the text.
-fn refused_text(file: &[u8], f: Refusal) -> Judged
-    ensures { λ r. ⌜ judgedAs r ≡ refusedAfter (check (now (file .entry))) (f .number) (f .place) ⌝ }
+fn refused_text(file: &[u8], f: Refusal) -> Walked
+    ensures { λ r. ⌜ walkedAs r ≡ refusedAfter (check (now (file .entry))) (f .number) (f .place) ⌝ }
 {
     let c = task::check(file);
     match c {
-        Checked::Refused(g) => Judged::Refused(g),
-        Checked::Accepted(_) => Judged::Refused(f),
+        Checked::Refused(g) => Walked::Refused(g),
+        Checked::Accepted(_) => Walked::Refused(f),
     }
 }
 
-// What the plan in a text is worth on the task in a file.
-pub fn judge_text(file: &[u8], text: &[u8]) -> Judged
-    ensures { λ r. ⌜ judgedAs r ≡ textJudged (now (file .entry)) (now (text .entry)) ⌝ }
+// Walks the plan in a text on the task in a file.
+pub fn walk_text(file: &[u8], text: &[u8]) -> Walked
+    ensures { λ r. ⌜ walkedAs r ≡ textWalked (now (file .entry)) (now (text .entry)) ⌝ }
 {
     let mut steps: [u8; 2048] = [0; 2048];
     let l = read(text, &mut steps);
     match l {
-        Outcome::Written(n) => plan::judge(file, text::front(&steps, n)),
+        Outcome::Written(n) => plan::walk(file, text::front(&steps, n)),
         Outcome::Refused(f) => refused_text(file, f),
     }
 }

@@ -2,7 +2,7 @@
 use mathlib.Core.Path.{_≡_, refl, sym, ap, _∙_}
 use mathlib.Core.Bool.{Bool}
 use mathlib.Core.List.{List, [], _++_, append-assoc, append-nil}
-use Prim.Native.Nat.{ℕ, _+_, _*_, _^_, _<_, _≤_}
+use Prim.Native.Nat.{ℕ, _+_, _*_, _<_, _≤_}
 use native.Mathlib.Omega.{arith}
 use lib.ListN.{length, getD, drop}
 use Rattle.task.specs.Task.{Row, row}
@@ -10,19 +10,9 @@ use Rattle.task.specs.File.{paired, isPreference}
 use Rattle.task.specs.Check.{count}
 use Rattle.task.specs.Rows.{valueAt}
 use Rattle.task.proofs.Reading.{row-at, row-end}
-use Rattle.state.specs.Member.{bit, member}
-use Rattle.state.proofs.Bits.{zero-law, beyond-law}
-use Rattle.state.proofs.Words.{by-words}
 use Rattle.text.specs.Area.{Wrote}
 use Rattle.text.proofs.Writing.{then, no-bytes}
 use Rattle.report.specs.Rows.{rowLine, rowLines}
-
--- the met preferences, as the facts of a state whose second word is empty
-pub met-set : (w : ℕ) → w < 2 ^ 64 → member (record { low = w; high = 0 }) ≡ bit w
-met-set w h =
-    by-words (record { low = w; high = 0 }) (bit w) (λ i k. refl)
-    (λ i k. zero-law i ∙ sym (beyond-law 64 w (64 + i) h (omega arith)))
-    (λ m k. beyond-law 64 w m h (omega arith))
 
 -- The rows one after the other
 

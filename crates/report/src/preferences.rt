@@ -9,7 +9,6 @@ ghost use Rattle.task.specs.Check.{count};
 ghost use Rattle.text.specs.Area.{Wrote};
 ghost use Rattle.report.specs.Rows.{rowLine, rowLines};
 use super::lines;
-use state::State;
 use task::marks;
 use task::rows;
 
@@ -17,14 +16,6 @@ use task::rows;
 pub struct Next {
     pub at: usize,
     pub number: usize,
-}
-
-// Whether preference k is among the met ones.
-fn is_met(met: u64, k: usize) -> bool
-    requires { ⌜ k < 2 ^ 32 ⌝ }
-    ensures { λ r. ⌜ r ≡ bit met k ⌝ }
-{
-    state::holds(State { low: met, high: 0 }, k as u32)
 }
 
 // Writes the line of a row that opens a preference, and nothing for another row.
@@ -37,7 +28,7 @@ fn put_row(out: &mut [u8], next: Next, mark: u8, value: u32, met: u64) -> Next
     let k = next.number;
     match mark {
         marks::ALWAYS..=marks::SOMETIME_AFTER => Next {
-            at: lines::put_preference(out, at, k, mark, value, is_met(met, k)),
+            at: lines::put_preference(out, at, k, mark, value, plan::is_met(met, k as u32)),
             number: k + 1,
         },
         _ => next,

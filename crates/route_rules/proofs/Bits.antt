@@ -1,14 +1,13 @@
 -- A word is the number of its bits; so the code's words are those of a plan that solves.
-use mathlib.Core.Path.{_≡_, refl, sym, ap, ap₂, _∙_, fun-ext}
+use mathlib.Core.Path.{_≡_, refl, sym, ap, _∙_, fun-ext}
 use mathlib.Core.Bool.{cond}
 use Prim.Native.Nat.{ℕ, zero, suc, _+_, _*_, _/_, _%_, _^_, _<_}
 use native.Mathlib.Nat.{div-one, div-div-eq-div-mul, pow-succ'}
 use native.Mathlib.Omega.{arith}
 use lib.Dec.{eqb}
-use lib.IntN.{ℤ}
 use Rattle.state.specs.Member.{bit}
-use Rattle.task.specs.Verdict.{solved}
-use Rattle.route_rules.specs.Numbers.{Call, answered, signed, bits, ofVerdict}
+use Rattle.plan.specs.Walked.{solved}
+use Rattle.route_rules.specs.Numbers.{Call, answered, bits, ofVerdict}
 
 digit : (d : ℕ) → d < 2 → cond (eqb d 1) 1 0 ≡ d
 digit zero h = refl
@@ -33,6 +32,5 @@ bits-of (suc n) w h =
     let e : w % 2 + 2 * (w / 2) ≡ w = omega arith in
     rw (bit-first w, fun-ext (bit-half w), bits-of n (w / 2) half) e
 
-pub solved-words : (c : Call) (cost metric m w : ℕ) (u : ℤ) → m < 2 ^ 64 → w ≡ signed u → c ≡ answered 1 0 cost metric w m 0
-    → c ≡ ofVerdict (solved cost metric u (bit m))
-solved-words c cost metric m w u h p e = e ∙ ap₂ (λ (x y : ℕ). answered 1 0 cost metric x y 0) p (sym (bits-of 64 m h))
+pub solved-words : (c : Call) (cost m : ℕ) → m < 2 ^ 64 → c ≡ answered 1 0 cost m 0 0 0 → c ≡ ofVerdict (solved cost (bit m))
+solved-words c cost m h e = e ∙ ap (λ (x : ℕ). answered 1 0 cost x 0 0 0) (sym (bits-of 64 m h))

@@ -1,9 +1,10 @@
--- The buyer's corollary, from demand 3 and from what judge answers.
+-- The buyer's corollary, from demand 3 and from what walk and settle answer.
 use mathlib.Core.Path.{_≡_, refl, sym, ap, _∙_, subst}
 use mathlib.Core.Bool.{Bool, true, false, cond}
 use mathlib.Core.List.{List}
 use Prim.Native.Nat.{ℕ, _≤_}
 use lib.Dec.{T, leb, ltb}
+use lib.IntN.{ℤ}
 use lib.ListN.{length, take}
 use borrow.Author.Tests.{le-leb}
 use Rattle.task.specs.Lists.{all}
@@ -18,12 +19,15 @@ use Rattle.task.proofs.Spelled.{accepted-spelling}
 use Rattle.classical.specs.Claim.{sourcePart}
 use Rattle.plan.specs.Judged
 use Rattle.plan.specs.Judged.{Judged, given, stepsKnown, judged}
+use Rattle.plan.specs.Walked.{unsettled, walked}
+use Rattle.plan.specs.Settled.{worth, priced, andSettled}
+use Rattle.plan.proofs.Settling.{settled-plan, walk-then-settle}
 use Rattle.outcome.specs.Outcome.{written}
 use Rattle.outcome.proofs.Outcomes.{not-written}
 use Rattle.translation.specs.Translated.{outcomeBy, outcome, Delivered}
-use Rattle.route_rules.specs.Corollary.{PaidAsJudged}
+use Rattle.route_rules.specs.Corollary.{SettledAt, PaidAsSettled}
 
--- What judge answers on an accepted file
+-- What judge gave on an accepted file
 
 isGiven : Judged → Bool
 isGiven (given v) = true
@@ -56,6 +60,10 @@ module _ (b : List ℕ) (z : Sizes) (h : check b ≡ accepted z) (p : List ℕ) 
       go true false e = absurd (subst (λ (j : Judged). T (isGiven j)) (sym e) tt)
       go false k e = absurd (subst (λ (j : Judged). T (isGiven j)) (sym e) tt)
 
+-- what judge gave, from what walk and settle answer
+judged-at : (b p : List ℕ) (m : ℕ) → SettledAt b p m → (c : ℕ) × (u : ℤ) × (s : ℕ → Bool) × (judged b p ≡ given (solved c m u s))
+judged-at b p m (c, u, s, w, e) = (c, u, s, sym (walk-then-settle b p) ∙ ap (andSettled b) w ∙ ap (priced c s) e)
+
 -- The corollary
 
 module _ (b area : List ℕ) (n : ℕ) (z : Sizes) (h : check b ≡ accepted z) (d : Delivered b area n) where
@@ -71,8 +79,9 @@ module _ (b area : List ℕ) (n : ℕ) (z : Sizes) (h : check b ≡ accepted z) 
       subst (λ (A : ℕ). all (λ (k : ℕ). ltb k A) (sourcePart source x) ≡ true) (ap (λ (z : Sizes). z .actions) (accepted-spelling b z h .sized))
       (as-true (all (λ (k : ℕ). ltb k (length (source .actions))) (sourcePart source x)) (all-keep (λ (k : ℕ). ltb k (length (source .actions))) x))
 
-  pub paid-as-judged : PaidAsJudged b area n
-  paid-as-judged =
+  pub paid-as-settled : PaidAsSettled b area n
+  unfolding walked
+  paid-as-settled =
       record {
         pays = λ x solving short.
             let p : List ℕ = sourcePart source x in
@@ -80,10 +89,10 @@ module _ (b area : List ℕ) (n : ℕ) (z : Sizes) (h : check b ≡ accepted z) 
               cost source p,
               utility source p,
               metSet source p,
-              given-verdict b z h p short (steps x) ∙ ap given (solved-iff source p .1 solving-p)
-                  ∙ ap (λ (m : ℕ). given (solved (cost source p) m (utility source p) (metSet source p))) (sym (d .faithfully .priced x solving)),
+              ap unsettled (given-verdict b z h p short (steps x) ∙ ap given (solved-iff source p .1 solving-p)),
+              settled-plan b p z h short ∙ ap (λ (m : ℕ). worth m (utility source p)) (sym (d .faithfully .priced x solving)),
             );
-        offers = λ p m (c, u, s, e). found p m (solved-only source p c m u s (only-verdict b z h p (solved c m u s) e));
+        offers = λ p m e. from-judged p m (judged-at b p m e);
       }
     where
       found : (p : List ℕ) (m : ℕ) → T (solves source p) × (metric source p ≡ m)
@@ -94,11 +103,15 @@ module _ (b area : List ℕ) (n : ℕ) (z : Sizes) (h : check b ≡ accepted z) 
               → (x : List ℕ) × T (solves written-task x) × (sourcePart source x ≡ p) × (cost written-task x ≡ m)
           priced-at (x, solving-x, part) = (x, solving-x, part, d .faithfully .priced x solving-x ∙ ap (metric source) part ∙ same)
 
+      from-judged : (p : List ℕ) (m : ℕ) → (c : ℕ) × (u : ℤ) × (s : ℕ → Bool) × (judged b p ≡ given (solved c m u s))
+          → (x : List ℕ) × T (solves written-task x) × (sourcePart source x ≡ p) × (cost written-task x ≡ m)
+      from-judged p m (c, u, s, e) = found p m (solved-only source p c m u s (only-verdict b z h p (solved c m u s) e))
+
 -- what translate has written is a translation of an accepted file
-pub written-paid : (b area : List ℕ) (room n : ℕ) → outcome b room ≡ written n → Delivered b area n → PaidAsJudged b area n
+pub written-paid : (b area : List ℕ) (room n : ℕ) → outcome b room ≡ written n → Delivered b area n → PaidAsSettled b area n
 unfolding outcome
 written-paid b area room n e d = go (check b) refl e
   where
-    go : (a : Answer) → check b ≡ a → outcomeBy b room a ≡ written n → PaidAsJudged b area n
-    go (accepted z) h w = paid-as-judged b area n z h d
+    go : (a : Answer) → check b ≡ a → outcomeBy b room a ≡ written n → PaidAsSettled b area n
+    go (accepted z) h w = paid-as-settled b area n z h d
     go (refused k i) h w = absurd (not-written k i n w)

@@ -3,12 +3,15 @@ use mathlib.Core.Path.{_≡_, refl}
 use mathlib.Core.List.{List, [], _∷_, map}
 use Prim.Native.Nat.{ℕ, _-_, _^_}
 use Rattle.task.specs.Check.{check, walk}
-use Rattle.task.specs.Verdict.{verdict, stopped}
+use Rattle.task.specs.Verdict.{verdict}
 use Rattle.task.proofs.Lettered.{belt}
-use Rattle.plan.specs.Judged.{given, judged}
+use Rattle.state.specs.Member.{bit}
+use Rattle.plan.specs.Judged.{judged}
+use Rattle.plan.specs.Walked.{given, stopped, walked}
+use Rattle.plan.specs.Settled.{settled}
 use Rattle.classical.specs.Translation.{translated}
 use Rattle.translation.specs.Translated.{outcome}
-use Rattle.route_rules.specs.Numbers.{Call, call, bits, ofCheck, ofOutcome, ofJudge}
+use Rattle.route_rules.specs.Numbers.{Call, call, bits, ofCheck, ofOutcome, ofWalk, ofSettle}
 
 pub record Example : Type 0 where
   pub given : Call
@@ -25,14 +28,21 @@ examples =
     ∷ example (ofOutcome (outcome belt 473)) 0 (0 ∷ 473 ∷ 0 ∷ 0 ∷ 0 ∷ 0 ∷ 0 ∷ 0 ∷ [])
     ∷ example (ofOutcome (outcome belt 472)) 9 (0 ∷ 0 ∷ 0 ∷ 0 ∷ 0 ∷ 0 ∷ 0 ∷ 0 ∷ [])
     -- preference 1 is met, so bit 1 is set
-    ∷ example (ofJudge (judged belt (0 ∷ []))) 0 (0 ∷ 1 ∷ 0 ∷ 3 ∷ 8 ∷ 4 ∷ 2 ∷ 0 ∷ [])
+    ∷ example (ofWalk (walked belt (0 ∷ []))) 0 (0 ∷ 1 ∷ 0 ∷ 3 ∷ 2 ∷ 0 ∷ 0 ∷ 0 ∷ [])
+    ∷ example (ofSettle (settled belt 3 (bit 2))) 0 (0 ∷ 8 ∷ 4 ∷ 0 ∷ 0 ∷ 0 ∷ 0 ∷ 0 ∷ [])
     -- a utility of -2
-    ∷ example (ofJudge (judged belt (0 ∷ 0 ∷ 0 ∷ []))) 0 (0 ∷ 1 ∷ 0 ∷ 9 ∷ 14 ∷ (2 ^ 64 - 2) ∷ 2 ∷ 0 ∷ [])
-    ∷ example (ofJudge (given (stopped 10))) 0 (0 ∷ 2 ∷ 10 ∷ 0 ∷ 0 ∷ 0 ∷ 0 ∷ 0 ∷ [])
-    ∷ example (ofJudge (judged belt [])) 0 (0 ∷ 3 ∷ 0 ∷ 0 ∷ 0 ∷ 0 ∷ 0 ∷ 0 ∷ [])
-    ∷ example (ofJudge (judged belt (0 ∷ 2 ∷ []))) 11 (1 ∷ 0 ∷ 0 ∷ 0 ∷ 0 ∷ 0 ∷ 0 ∷ 0 ∷ [])
+    ∷ example (ofWalk (walked belt (0 ∷ 0 ∷ 0 ∷ []))) 0 (0 ∷ 1 ∷ 0 ∷ 9 ∷ 2 ∷ 0 ∷ 0 ∷ 0 ∷ [])
+    ∷ example (ofSettle (settled belt 9 (bit 2))) 0 (0 ∷ 14 ∷ (2 ^ 64 - 2) ∷ 0 ∷ 0 ∷ 0 ∷ 0 ∷ 0 ∷ [])
+    ∷ example (ofWalk (given (stopped 10))) 0 (0 ∷ 2 ∷ 10 ∷ 0 ∷ 0 ∷ 0 ∷ 0 ∷ 0 ∷ [])
+    ∷ example (ofWalk (walked belt [])) 0 (0 ∷ 3 ∷ 0 ∷ 0 ∷ 0 ∷ 0 ∷ 0 ∷ 0 ∷ [])
+    ∷ example (ofWalk (walked belt (0 ∷ 2 ∷ []))) 11 (1 ∷ 0 ∷ 0 ∷ 0 ∷ 0 ∷ 0 ∷ 0 ∷ 0 ∷ [])
+    -- the largest cost, and one more; a preference that is not there
+    ∷ example (ofSettle (settled belt 2048000000 (bit 3))) 0 (0 ∷ 2048000000 ∷ (2 ^ 64 - 2047999988) ∷ 0 ∷ 0 ∷ 0 ∷ 0 ∷ 0 ∷ [])
+    ∷ example (ofSettle (settled belt 2048000001 (bit 0))) 15 (0 ∷ 0 ∷ 0 ∷ 0 ∷ 0 ∷ 0 ∷ 0 ∷ 0 ∷ [])
+    ∷ example (ofSettle (settled belt 0 (bit 4))) 15 (0 ∷ 0 ∷ 0 ∷ 0 ∷ 0 ∷ 0 ∷ 0 ∷ 0 ∷ [])
+    ∷ example (ofSettle (settled [] 2048000001 (bit 0))) 1 (0 ∷ 0 ∷ 0 ∷ 0 ∷ 0 ∷ 0 ∷ 0 ∷ 0 ∷ [])
     ∷ []
 
 pub as-said : map (λ (e : Example). e .given) examples ≡ map (λ (e : Example). call (e .number) (e .words)) examples
-unfolding check walk judged verdict translated outcome bits
+unfolding check walk judged verdict walked settled bit translated outcome bits
 as-said = refl

@@ -6,9 +6,10 @@ use Prim.Native.Nat.{ℕ, zero, suc, _+_, _*_, _-_, _^_}
 use lib.IntN.{ℤ, pos, negsuc}
 use Rattle.task.specs.Check
 use Rattle.task.specs.Check.{Answer}
-use Rattle.task.specs.Verdict.{Verdict, solved, stopped, goal-missed}
-use Rattle.plan.specs.Judged
-use Rattle.plan.specs.Judged.{Judged, given}
+use Rattle.plan.specs.Walked
+use Rattle.plan.specs.Walked.{Walk, solved, stopped, goal-missed, Walked, given}
+use Rattle.plan.specs.Settled
+use Rattle.plan.specs.Settled.{Settled, worth}
 use Rattle.pddl_text.specs.Outcomes
 use Rattle.outcome.specs.Outcome
 use Rattle.outcome.specs.Outcome.{Outcome, written}
@@ -49,13 +50,18 @@ unfoldable pub bits : ℕ → (ℕ → Bool) → ℕ
 bits zero f = 0
 bits (suc n) f = cond (f 0) 1 0 + 2 * bits n (λ (k : ℕ). f (suc k))
 
--- word 1 is the verdict: 1 solved, 2 stopped, 3 goal missed. Word 2 is the step at which a plan stopped, words 3 to 6 are
--- cost, metric, utility and the met preferences of a plan that solves
-abbrev pub ofVerdict : Verdict → Call
-ofVerdict (solved cost metric utility met) = answered 1 0 cost metric (signed utility) (bits 64 met) 0
+-- word 1 is the verdict: 1 solved, 2 stopped, 3 goal missed. Word 2 is the step at which a plan stopped, words 3 and 4 are
+-- cost and the met preferences of a plan that solves
+abbrev pub ofVerdict : Walk → Call
+ofVerdict (solved cost met) = answered 1 0 cost (bits 64 met) 0 0 0
 ofVerdict (stopped step) = answered 2 step 0 0 0 0 0
 ofVerdict goal-missed = answered 3 0 0 0 0 0 0
 
-abbrev pub ofJudge : Judged → Call
-ofJudge (given v) = ofVerdict v
-ofJudge (Judged.refused n i) = refusal n i
+abbrev pub ofWalk : Walked → Call
+ofWalk (given v) = ofVerdict v
+ofWalk (Walked.refused n i) = refusal n i
+
+-- words 1 and 2 are metric and utility
+abbrev pub ofSettle : Settled → Call
+ofSettle (worth metric utility) = answered metric (signed utility) 0 0 0 0 0
+ofSettle (Settled.refused n i) = refusal n i

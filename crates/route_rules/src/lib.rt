@@ -6,23 +6,28 @@ ghost use Rattle.text.specs.Area.{Filled};
 ghost use Rattle.report.specs.Report.{reportOn};
 ghost use Rattle.task.specs.Check.{check};
 ghost use Rattle.task.specs.Answers.{answer as ofChecked};
-ghost use Rattle.plan.specs.Judged.{judged};
-ghost use Rattle.plan.specs.Answers.{answer as ofJudged, asVerdict};
+ghost use Rattle.state.specs.Member.{bit};
+ghost use Rattle.plan.specs.Walked.{walked};
+ghost use Rattle.plan.specs.Settled.{settled};
+ghost use Rattle.plan.specs.Answers.{asVerdict, walkedAs, settledAs};
 ghost use Rattle.plan.specs.declared.Verdict.the-variants.{Solved};
+ghost use Rattle.plan.specs.declared.Settled.the-variants.{Given};
 ghost use Rattle.classical.specs.Translation.{compiled};
 ghost use Rattle.outcome.specs.Outcome.{written, areaAfter};
 ghost use Rattle.outcome.specs.Answers.{answer as asOutcome};
 ghost use Rattle.translation.specs.Translated.{outcome, Delivered};
-ghost use Rattle.route_rules.specs.Corollary.{PaidAsJudged};
+ghost use Rattle.route_rules.specs.Corollary.{PaidAsSettled};
 ghost use Rattle.plan_text.specs.PlanText.{textOf};
-ghost use Rattle.plan_text.specs.Outcomes.{readOutcome, stepsIn, writeOutcome, textJudged};
+ghost use Rattle.plan_text.specs.Outcomes.{readOutcome, stepsIn, writeOutcome, textWalked};
 ghost use Rattle.task.specs.File.{taskOf};
 ghost use Rattle.pddl_text.specs.Outcomes.{outcome as texts, domainAfter, problemAfter};
 ghost use Rattle.pddl_text.specs.Answers.{answer as asTexts};
-ghost use Rattle.route_rules.specs.Numbers.{call, refusal, answered, ofCheck, ofOutcome, ofTexts, ofVerdict, ofJudge, signed};
+ghost use Rattle.route_rules.specs.Numbers.{call, refusal, answered, ofCheck, ofOutcome, ofTexts, ofVerdict, ofWalk, ofSettle, signed};
 use outcome::Outcome;
-use plan::Judged;
+use plan::Settled;
+use plan::Solution;
 use plan::Verdict;
+use plan::Walked;
 use plan::Worth;
 use task::Checked;
 use task::Refusal;
@@ -94,36 +99,43 @@ fn as_word(n: i64) -> u64
     if n < 0 { !((!n) as u64) } else { n as u64 }
 }
 
-fn put_worth(w: Worth, answer: &mut [u64; 8]) -> u32
-    ensures { λ r. ⌜ call r (now (answer .exit)) ≡ ofVerdict (asVerdict (Solved w)) ⌝ }
+fn put_solution(s: Solution, answer: &mut [u64; 8]) -> u32
+    ensures { λ r. ⌜ call r (now (answer .exit)) ≡ ofVerdict (asVerdict (Solved s)) ⌝ }
 {
-    put_values(
-        answer,
-        SOLVED,
-        0,
-        w.cost,
-        w.metric,
-        as_word(w.utility),
-        w.met,
-    )
+    put_values(answer, SOLVED, 0, s.cost, s.met, 0, 0)
 }
 
 fn put_verdict(v: Verdict, answer: &mut [u64; 8]) -> u32
     ensures { λ r. ⌜ call r (now (answer .exit)) ≡ ofVerdict (asVerdict v) ⌝ }
 {
     match v {
-        Verdict::Solved(w) => put_worth(w, answer),
+        Verdict::Solved(s) => put_solution(s, answer),
         Verdict::Stopped(step) => put_values(answer, STOPPED, step as u64, 0, 0, 0, 0),
         Verdict::GoalMissed => put_values(answer, GOAL_MISSED, 0, 0, 0, 0, 0),
     }
 }
 
-fn put_judged(j: Judged, answer: &mut [u64; 8]) -> u32
-    ensures { λ r. ⌜ call r (now (answer .exit)) ≡ ofJudge (ofJudged j) ⌝ }
+fn put_walked(w: Walked, answer: &mut [u64; 8]) -> u32
+    ensures { λ r. ⌜ call r (now (answer .exit)) ≡ ofWalk (walkedAs w) ⌝ }
 {
-    match j {
-        Judged::Given(v) => put_verdict(v, answer),
-        Judged::Refused(f) => put_refusal(f, answer),
+    match w {
+        Walked::Given(v) => put_verdict(v, answer),
+        Walked::Refused(f) => put_refusal(f, answer),
+    }
+}
+
+fn put_worth(w: Worth, answer: &mut [u64; 8]) -> u32
+    ensures { λ r. ⌜ call r (now (answer .exit)) ≡ ofSettle (settledAs (Given w)) ⌝ }
+{
+    put_values(answer, w.metric, as_word(w.utility), 0, 0, 0, 0)
+}
+
+fn put_settled(s: Settled, answer: &mut [u64; 8]) -> u32
+    ensures { λ r. ⌜ call r (now (answer .exit)) ≡ ofSettle (settledAs s) ⌝ }
+{
+    match s {
+        Settled::Given(w) => put_worth(w, answer),
+        Settled::Refused(f) => put_refusal(f, answer),
     }
 }
 
@@ -141,17 +153,25 @@ pub extern "C" fn route_rules_translate(file: &[u8], out: &mut [u8], answer: &mu
     ensures { λ r. ⌜ call r (now (answer .exit)) ≡ ofOutcome (outcome (now (file .entry)) (length (now (out .entry)))) ⌝ }
     ensures { λ r. ⌜ now (out .exit) ≡ areaAfter (compiled (now (file .entry))) (now (out .entry)) (outcome (now (file .entry)) (length (now (out .entry)))) ⌝ }
     ensures { λ r. ⌜ ((n : ℕ) → outcome (now (file .entry)) (length (now (out .entry))) ≡ written n → Delivered (now (file .entry)) (now (out .exit)) n) ⌝ }
-    ensures { λ r. ⌜ ((n : ℕ) → outcome (now (file .entry)) (length (now (out .entry))) ≡ written n → PaidAsJudged (now (file .entry)) (now (out .exit)) n) ⌝ }
+    ensures { λ r. ⌜ ((n : ℕ) → outcome (now (file .entry)) (length (now (out .entry))) ≡ written n → PaidAsSettled (now (file .entry)) (now (out .exit)) n) ⌝ }
 {
     put_outcome(translation::translate(file, out), answer)
 }
 
-// Judges a plan on the task in a file.
+// Walks a plan on the task in a file.
 #[no_mangle]
-pub extern "C" fn route_rules_judge(file: &[u8], plan: &[u8], answer: &mut [u64; 8]) -> u32
-    ensures { λ r. ⌜ call r (now (answer .exit)) ≡ ofJudge (judged (now (file .entry)) (now (plan .entry))) ⌝ }
+pub extern "C" fn route_rules_walk(file: &[u8], plan: &[u8], answer: &mut [u64; 8]) -> u32
+    ensures { λ r. ⌜ call r (now (answer .exit)) ≡ ofWalk (walked (now (file .entry)) (now (plan .entry))) ⌝ }
 {
-    put_judged(plan::judge(file, plan), answer)
+    put_walked(plan::walk(file, plan), answer)
+}
+
+// Settles a cost and met preferences on the task in a file.
+#[no_mangle]
+pub extern "C" fn route_rules_settle(file: &[u8], cost: u64, met: u64, answer: &mut [u64; 8]) -> u32
+    ensures { λ r. ⌜ call r (now (answer .exit)) ≡ ofSettle (settled (now (file .entry)) cost (bit met)) ⌝ }
+{
+    put_settled(plan::settle(file, cost, met), answer)
 }
 
 // Reads a plan's text into the area `out`, one byte a step. A refusal leaves that area as it was.
@@ -172,12 +192,12 @@ pub extern "C" fn route_rules_write_plan(plan: &[u8], out: &mut [u8], answer: &m
     put_outcome(plan_text::write(plan, out), answer)
 }
 
-// Judges the plan in a text on the task in a file.
+// Walks the plan in a text on the task in a file.
 #[no_mangle]
-pub extern "C" fn route_rules_judge_text(file: &[u8], text: &[u8], answer: &mut [u64; 8]) -> u32
-    ensures { λ r. ⌜ call r (now (answer .exit)) ≡ ofJudge (textJudged (now (file .entry)) (now (text .entry))) ⌝ }
+pub extern "C" fn route_rules_walk_text(file: &[u8], text: &[u8], answer: &mut [u64; 8]) -> u32
+    ensures { λ r. ⌜ call r (now (answer .exit)) ≡ ofWalk (textWalked (now (file .entry)) (now (text .entry))) ⌝ }
 {
-    put_judged(plan_text::judge_text(file, text), answer)
+    put_walked(plan_text::walk_text(file, text), answer)
 }
 
 // Writes the task in a file as PDDL into the areas `domain` and `problem`. A refusal leaves both as they were.

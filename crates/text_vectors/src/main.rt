@@ -1,4 +1,4 @@
-// Reads and judges the plans' texts of the file `vectors`.
+// Reads, walks and settles the plans' texts of the file `vectors`.
 use vectors::Family;
 
 fn main() {

@@ -1,4 +1,5 @@
 // Programs that run test vectors: the one loop over a file of them, and what is done with each.
+mod amounts;
 mod checks;
 mod lines;
 mod plans;
@@ -7,19 +8,22 @@ mod texts;
 
 use libc::STDOUT_FILENO;
 
-// What the vectors of a file are: task files to check; tasks and plans to judge; tasks and plans' texts to read and judge.
+// What the vectors of a file are: task files to check; tasks and plans to report on; tasks and plans' texts to read, walk and
+// settle; tasks, costs and met preferences to settle.
 pub enum Family {
     Checks,
     Plans,
     Texts,
+    Amounts,
 }
 
 // Runs the next vector, and answers whether there was one.
 fn run_next(fd: i32, family: Family) -> bool {
     match family {
         Family::Checks => checks::check_next(fd),
-        Family::Plans => plans::judge_next(fd),
-        Family::Texts => texts::judge_next(fd),
+        Family::Plans => plans::report_next(fd),
+        Family::Texts => texts::walk_next(fd),
+        Family::Amounts => amounts::settle_next(fd),
     }
 }
 

@@ -1,10 +1,10 @@
-// Judges plans, where a task's record comes before its plan's, and writes each report.
+// Reports on plans, where a task's record comes before its plan's.
 use super::records;
 use super::records::Next;
 use libc::STDOUT_FILENO;
 
-// Judges the next plan, and answers whether there was one.
-pub fn judge_next(fd: i32) -> bool {
+// Writes the report on the next plan, and answers whether there was one.
+pub fn report_next(fd: i32) -> bool {
     let mut task = io::large_buffer();
     let mut plan = io::large_buffer();
     let of_task = records::next_record(fd, &mut task);

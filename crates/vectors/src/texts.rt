@@ -1,33 +1,45 @@
-// Reads and judges texts, where a task's record comes before its text's. Of each it writes `read` and the number of steps,
-// and then the plan as text again, or `refused`, number and place; then a line with what the text is worth on the task.
+// Reads, walks and settles texts, where a task's record comes before its text's. Of each it writes `read` and the number of
+// steps, and then the plan as text again, or `refused`, number and place; then a line with what the text is worth on the task.
 use super::lines;
 use super::records;
 use super::records::Next;
 use libc::STDOUT_FILENO;
 use outcome::Outcome;
-use plan::Judged;
+use plan::Settled;
+use plan::Solution;
 use plan::Verdict;
+use plan::Walked;
 
-fn write_verdict(v: Verdict) {
-    match v {
-        Verdict::Solved(w) => {
-            lines::write_amount(b"solved cost ", w.cost);
+// Writes what a plan that solves costs, and its metric.
+fn write_solution(file: &[u8], s: Solution) {
+    let settled = plan::settle(file, s.cost, s.met);
+    match settled {
+        Settled::Given(w) => {
+            lines::write_amount(b"solved cost ", s.cost);
             lines::write_amount(b" metric ", w.metric);
+            io::write_all(STDOUT_FILENO, b"\n");
         }
-        Verdict::Stopped(i) => {
-            lines::write_amount(b"stopped ", i as u64);
-        }
-        Verdict::GoalMissed => {
-            io::write_all(STDOUT_FILENO, b"goal missed");
-        }
+        Settled::Refused(f) => lines::write_refused(f),
     }
-    io::write_all(STDOUT_FILENO, b"\n");
 }
 
-fn write_judged(judged: Judged) {
-    match judged {
-        Judged::Given(v) => write_verdict(v),
-        Judged::Refused(f) => lines::write_refused(f),
+fn write_verdict(file: &[u8], v: Verdict) {
+    match v {
+        Verdict::Solved(s) => write_solution(file, s),
+        Verdict::Stopped(i) => {
+            lines::write_amount(b"stopped ", i as u64);
+            io::write_all(STDOUT_FILENO, b"\n");
+        }
+        Verdict::GoalMissed => {
+            io::write_all(STDOUT_FILENO, b"goal missed\n");
+        }
+    }
+}
+
+fn write_walked(file: &[u8], walked: Walked) {
+    match walked {
+        Walked::Given(v) => write_verdict(file, v),
+        Walked::Refused(f) => lines::write_refused(f),
     }
 }
 
@@ -57,8 +69,8 @@ fn write_read(text: &[u8]) {
     }
 }
 
-// Reads and judges the next text, and answers whether there was one.
-pub fn judge_next(fd: i32) -> bool {
+// Reads, walks and settles the next text, and answers whether there was one.
+pub fn walk_next(fd: i32) -> bool {
     let mut task = io::large_buffer();
     let mut text = [0u8; 65537]; // one byte more than is read
     let of_task = records::next_record(fd, &mut task);
@@ -70,6 +82,7 @@ pub fn judge_next(fd: i32) -> bool {
         return false;
     };
     write_read(text::front(&text, m));
-    write_judged(plan_text::judge_text(text::front(&task, n), text::front(&text, m)));
+    let file = text::front(&task, n);
+    write_walked(file, plan_text::walk_text(file, text::front(&text, m)));
     true
 }

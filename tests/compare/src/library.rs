@@ -3,7 +3,9 @@
 #[path = "../../../include/route_rules.rs"]
 mod route_rules;
 
-pub use route_rules::{check, judge, judge_text, refused, Refusal, Sizes, Verdict, MAX_PDDL};
+pub use route_rules::{
+    check, refused, settle, walk, walk_text, Refusal, Sizes, Verdict, Worth, MAX_PDDL,
+};
 
 /// Fills an area before it is lent, and stands behind it.
 pub const GUARD: u8 = 0xA5;
@@ -13,7 +15,7 @@ pub fn area(room: usize) -> Vec<u8> {
     vec![GUARD; room + 16]
 }
 
-/// The text of a judged plan in an area of `room` bytes, and the length that is answered.
+/// The text about a plan in an area of `room` bytes, and the length that is answered.
 pub fn report(file: &[u8], plan: &[u8], room: usize) -> (Vec<u8>, usize) {
     let mut out = area(room);
     let length = route_rules::report(file, plan, &mut out[..room]);

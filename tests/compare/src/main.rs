@@ -1,15 +1,16 @@
 //! Compares the proved library with the independent implementation on random
-//! tasks, plans and areas, valid and damaged: `compare [COUNT [FIRST SEED]]`.
+//! tasks, plans, amounts and areas, valid and damaged: `compare [COUNT [FIRST SEED]]`.
 //!
 //! It prints how often each answer came up, and fails where a result differs, a
 //! byte outside it was written, or an answer never came up.
 
-mod judging;
 mod library;
 mod pddl;
+mod settling;
 mod tally;
 mod texts;
 mod translating;
+mod walking;
 
 use std::process::exit;
 
@@ -20,7 +21,9 @@ fn main() {
     let count = numbers.next().unwrap_or(200_000);
     let first = numbers.next().unwrap_or(1);
     println!("{count} cases, first seed {first}");
-    let done = judging::compare(first, count)
+    let done = walking::compare(first, count)
+        .and_then(|()| settling::edges())
+        .and_then(|()| settling::compare(first, count))
         .and_then(|()| translating::edges())
         .and_then(|()| translating::compare(first, count))
         .and_then(|()| texts::compare(first, count))

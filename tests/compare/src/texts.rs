@@ -1,8 +1,8 @@
-//! Plans as text: read, written and judged by the library, beside the independent implementation.
+//! Plans as text: read, written and walked by the library, beside the independent implementation.
 
-use crate::judging::{same, verdict};
 use crate::library::{self, expected, Left};
 use crate::tally::Tally;
+use crate::walking::{same, verdict};
 use peer::text;
 
 /// What comes up in reading.
@@ -37,8 +37,8 @@ fn try_text(seed: u64, bytes: &[u8], room: usize) -> Result<(), String> {
         library::write_plan(&case.plan, room),
         expected(room, text::write(&case.plan, room)),
     )?;
-    let judged = text::judge_text(&case.file, bytes).map(verdict);
-    same("judge_text", library::judge_text(&case.file, bytes), judged)
+    let walked = text::walk_text(&case.file, bytes).map(verdict);
+    same("walk_text", library::walk_text(&case.file, bytes), walked)
 }
 
 pub fn compare(first: u64, count: u64) -> Result<(), String> {

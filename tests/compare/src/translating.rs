@@ -33,12 +33,13 @@ fn same(file: &[u8], room: usize) -> Result<&'static str, String> {
     })
 }
 
-/// The metric that the library gives a plan that solves.
+/// The metric of a plan that solves: the library walks it, and settles what that gives.
 fn metric(file: &[u8], plan: &[u8]) -> Option<u128> {
-    match library::judge(file, plan) {
-        Ok(Verdict::Solved { metric, .. }) => Some(u128::from(metric)),
-        _ => None,
-    }
+    let Ok(Verdict::Solved { cost, met }) = library::walk(file, plan) else {
+        return None;
+    };
+    let worth = library::settle(file, cost, met).ok()?;
+    Some(u128::from(worth.metric))
 }
 
 /// A plan that solves, completed by end and one closing action for each preference, solves the task in the bytes that the
@@ -66,7 +67,7 @@ pub fn compare(first: u64, count: u64) -> Result<(), String> {
     for seed in first..first + count {
         let case = peer::random::case(seed);
         tally.count(same(&case.file, case.room).map_err(|why| format!("seed {seed}: {why}"))?);
-        if let Ok(peer::Verdict::Solved { .. }) = peer::judge(&case.file, &case.plan) {
+        if let Ok(peer::Verdict::Solved { .. }) = peer::walk(&case.file, &case.plan) {
             completed(&case.file, &case.plan).map_err(|why| format!("seed {seed}: {why}"))?;
             solved += 1;
         }

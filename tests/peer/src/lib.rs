@@ -1,23 +1,27 @@
-//! Task files with soft rules: check a file, judge a plan on it, translate it
-//! into a classical task, write that as PDDL. Written plainly from the
-//! specification, to compare another implementation with.
+//! Task files with soft rules: check a file, walk a plan on it, settle what that
+//! is worth, translate it into a classical task, write that as PDDL. Written
+//! plainly from the specification, to compare another implementation with.
 
 pub mod decode;
 pub mod encode;
-pub mod judge;
 pub mod meaning;
 pub mod pddl;
 pub mod random;
+pub mod report;
+pub mod settle;
 pub mod task;
 pub mod text;
 pub mod translate;
+pub mod walk;
 
 pub use decode::{check, decode, Sizes};
 pub use encode::encode;
-pub use judge::{judge, refused_text, report, verdict, Verdict};
 pub use meaning::run;
+pub use report::{refused_text, report};
+pub use settle::{settle, worth, Worth};
 pub use task::{Action, Clause, Condition, Effect, Kind, Literal, Preference, Task};
 pub use translate::{complete, translate, translated};
+pub use walk::{verdict, walk, Verdict};
 
 /// Why something is refused, and where: a row, a step, or 0.
 #[derive(Clone, Copy, PartialEq, Eq, Debug)]

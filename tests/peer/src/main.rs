@@ -1,7 +1,8 @@
 //! Program peer: the operations on files, and random cases.
 
-use peer::random::{case, MAX_FILE};
-use peer::{check, decode, judge, pddl, refused_text, report, translate, Verdict};
+use peer::random::{arguments, case, MAX_FILE};
+use peer::settle::is_met;
+use peer::{check, decode, pddl, refused_text, report, settle, translate, walk, Verdict};
 use std::collections::BTreeMap;
 use std::fs;
 
@@ -113,20 +114,25 @@ fn tally(first: u64, count: u64) -> String {
             Ok(_) => "check accepted".to_string(),
             Err(refusal) => format!("check refused {:2}", refusal.number),
         });
-        add(match judge(&case.file, &case.plan) {
-            Ok(Verdict::Solved { .. }) => "judge solved".to_string(),
-            Ok(Verdict::Stopped(_)) => "judge stopped".to_string(),
-            Ok(Verdict::GoalMissed) => "judge goal missed".to_string(),
-            Err(refusal) => format!("judge refused {:2}", refusal.number),
+        add(match walk(&case.file, &case.plan) {
+            Ok(Verdict::Solved { .. }) => "walk solved".to_string(),
+            Ok(Verdict::Stopped(_)) => "walk stopped".to_string(),
+            Ok(Verdict::GoalMissed) => "walk goal missed".to_string(),
+            Err(refusal) => format!("walk refused {:2}", refusal.number),
+        });
+        let (cost, met) = arguments(seed, &case.file);
+        add(match settle(&case.file, cost, met) {
+            Ok(_) => "settle given".to_string(),
+            Err(refusal) => format!("settle refused {:2}", refusal.number),
         });
         add(match translate(&case.file, case.room) {
             Ok(_) => "translate written".to_string(),
             Err(refusal) => format!("translate refused {:2}", refusal.number),
         });
-        if let Ok(Verdict::Solved { met, .. }) = judge(&case.file, &case.plan) {
-            let task = decode(&case.file).expect("judged, so accepted");
+        if let Ok(Verdict::Solved { met, .. }) = walk(&case.file, &case.plan) {
+            let task = decode(&case.file).expect("walked, so accepted");
             for (k, preference) in task.preferences.iter().enumerate() {
-                let outcome = if met >> k & 1 == 1 { "met" } else { "missed" };
+                let outcome = if is_met(met, k) { "met" } else { "missed" };
                 add(format!("preference {} {outcome}", preference.kind.name()));
             }
         }

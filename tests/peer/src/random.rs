@@ -36,6 +36,51 @@ pub fn case(seed: u64) -> Case {
     Case { file, plan, room }
 }
 
+/// A cost and a set of met preferences to settle on the file of a seed: often ones
+/// that are allowed, and often at a limit or just past it.
+pub fn arguments(seed: u64, file: &[u8]) -> (u64, u64) {
+    let r = &mut Random::new(!seed);
+    let preferences = match file.get(4..6) {
+        Some(two) => usize::from(two[0].min(63)),
+        None => r.below(17),
+    };
+    (cost(r), met_set(r, preferences))
+}
+
+fn cost(r: &mut Random) -> u64 {
+    let (small, any) = (r.below(20) as u64, r.draw());
+    match r.below(10) {
+        0..=3 => any % (MAX_COST + 1),
+        4 | 5 => small,
+        6 | 7 => r.pick(&[0, MAX_COST - 1, MAX_COST]),
+        // Past the limit, also by the bits that a narrower number would drop.
+        _ => {
+            let wide = (1 << r.between(32, 63)) + small;
+            r.pick(&[MAX_COST + 1, MAX_COST + small + 1, wide, u64::MAX, any])
+        }
+    }
+}
+
+fn met_set(r: &mut Random, preferences: usize) -> u64 {
+    let all = (1 << preferences) - 1;
+    let (some, any) = (r.draw() & all, r.draw());
+    match r.below(10) {
+        0..=5 => some,
+        6 | 7 => r.pick(&[0, all]),
+        // With a bit that is no preference's.
+        _ => {
+            let bit = r.between(preferences, 63);
+            r.pick(&[
+                some | 1 << bit,
+                some | 1 << preferences,
+                1 << bit,
+                u64::MAX,
+                any,
+            ])
+        }
+    }
+}
+
 /// A small source of random numbers (splitmix64).
 pub struct Random(u64);
 

@@ -7,6 +7,8 @@ pub const MAX_ROWS: usize = 12_000;
 /// The largest cost and the largest weight.
 pub const MAX_AMOUNT: u32 = 1_000_000;
 pub const MAX_STEPS: usize = 2_048;
+/// The largest cost that settle takes.
+pub const MAX_COST: u64 = 2_048_000_000;
 
 /// The marks of the rows. Marks 10 to 15 are those of `Kind`.
 pub mod mark {

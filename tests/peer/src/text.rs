@@ -1,9 +1,9 @@
 //! Plans as planners print them: a line `(aN)` for each step, and comment lines that begin with a semicolon.
 
 use crate::decode::check;
-use crate::judge::{judge, Verdict};
 use crate::random::Random;
 use crate::task::MAX_STEPS;
+use crate::walk::{walk, Verdict};
 use crate::{refuse, Refusal};
 
 /// The length of the longest text.
@@ -69,9 +69,9 @@ pub fn write(plan: &[u8], room: usize) -> Result<Vec<u8>, Refusal> {
 }
 
 /// The verdict on the plan in a text, or the refusal (1 to 6, 12, 10, 11).
-pub fn judge_text(file: &[u8], text: &[u8]) -> Result<Verdict, Refusal> {
+pub fn walk_text(file: &[u8], text: &[u8]) -> Result<Verdict, Refusal> {
     check(file)?;
-    judge(file, &parse(text)?)
+    walk(file, &parse(text)?)
 }
 
 /// A random text by seed: mostly steps and comments, now and then a damaged line, a long number or a long text.

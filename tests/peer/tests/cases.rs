@@ -1,7 +1,7 @@
 //! The random cases: they can be had again, and every answer comes up.
 
 use peer::encode::rows;
-use peer::random::case;
+use peer::random::{arguments, case, Case};
 use peer::*;
 use std::collections::BTreeSet;
 
@@ -9,6 +9,7 @@ use std::collections::BTreeSet;
 fn same_seed_same_case() {
     for seed in (0..200).chain([u64::MAX, 1 << 63]) {
         assert_eq!(case(seed), case(seed));
+        assert_eq!(arguments(seed, b""), arguments(seed, b""));
     }
     assert_ne!(case(1), case(2));
 }
@@ -35,42 +36,62 @@ fn files_and_trees_match() {
     }
 }
 
+fn refusal(refusal: Refusal) -> String {
+    format!("refused {}", refusal.number)
+}
+
+fn of_check(case: &Case) -> String {
+    let rows = case.file.get(6..8);
+    let rows = rows.map(|two| u16::from_le_bytes([two[0], two[1]]));
+    match check(&case.file) {
+        Ok(sizes) if sizes.rows == 12_000 => "most rows".to_string(),
+        Ok(_) => "accepted".to_string(),
+        Err(Refusal { number: 4, place }) if Some(place) == rows => "rows end inside".to_string(),
+        Err(why) => refusal(why),
+    }
+}
+
+fn of_walk(case: &Case) -> String {
+    match walk(&case.file, &case.plan) {
+        Ok(Verdict::Solved { .. }) if case.plan.len() == 2_048 => {
+            "solved with most steps".to_string()
+        }
+        Ok(Verdict::Solved { .. }) => "solved".to_string(),
+        Ok(Verdict::Stopped(_)) => "stopped".to_string(),
+        Ok(Verdict::GoalMissed) => "goal missed".to_string(),
+        Err(why) => refusal(why),
+    }
+}
+
+fn of_settle(seed: u64, case: &Case) -> String {
+    let (cost, met) = arguments(seed, &case.file);
+    match settle(&case.file, cost, met) {
+        Ok(_) => "settled".to_string(),
+        Err(why) => refusal(why),
+    }
+}
+
+fn of_translate(case: &Case) -> String {
+    match translate(&case.file, case.room) {
+        Ok(bytes) if bytes.len() == 60_008 => "longest".to_string(),
+        Ok(bytes) if bytes.len() == case.room => "just fits".to_string(),
+        Ok(_) => "translated".to_string(),
+        Err(why) => refusal(why),
+    }
+}
+
 #[test]
 fn every_answer_comes_up() {
     let mut answers: BTreeSet<String> = BTreeSet::new();
     for seed in 0..6_000 {
         let case = case(seed);
-        let rows = case
-            .file
-            .get(6..8)
-            .map(|two| u16::from_le_bytes([two[0], two[1]]));
-        match check(&case.file) {
-            Ok(sizes) if sizes.rows == 12_000 => answers.insert("most rows".to_string()),
-            Ok(_) => answers.insert("accepted".to_string()),
-            Err(refusal) if refusal.number == 4 && Some(refusal.place) == rows => {
-                answers.insert("rows end inside".to_string())
-            }
-            Err(refusal) => answers.insert(format!("refused {}", refusal.number)),
-        };
-        match judge(&case.file, &case.plan) {
-            Ok(Verdict::Solved { .. }) => {
-                answers.insert("solved".to_string());
-                if case.plan.len() == 2_048 {
-                    answers.insert("solved with most steps".to_string());
-                }
-            }
-            Ok(Verdict::Stopped(_)) => drop(answers.insert("stopped".to_string())),
-            Ok(Verdict::GoalMissed) => drop(answers.insert("goal missed".to_string())),
-            Err(refusal) => drop(answers.insert(format!("refused {}", refusal.number))),
-        };
-        match translate(&case.file, case.room) {
-            Ok(bytes) if bytes.len() == 60_008 => answers.insert("longest".to_string()),
-            Ok(bytes) if bytes.len() == case.room => answers.insert("just fits".to_string()),
-            Ok(_) => answers.insert("translated".to_string()),
-            Err(refusal) => answers.insert(format!("refused {}", refusal.number)),
-        };
+        answers.insert(of_check(&case));
+        answers.insert(of_walk(&case));
+        answers.insert(of_settle(seed, &case));
+        answers.insert(of_translate(&case));
     }
-    let mut wanted: Vec<String> = (1..=11).map(|number| format!("refused {number}")).collect();
+    let numbers = (1..=11).chain([15]);
+    let mut wanted: Vec<String> = numbers.map(|number| format!("refused {number}")).collect();
     for name in [
         "accepted",
         "most rows",
@@ -79,6 +100,7 @@ fn every_answer_comes_up() {
         "solved with most steps",
         "stopped",
         "goal missed",
+        "settled",
         "translated",
         "longest",
         "just fits",

@@ -9,7 +9,7 @@ use peer::*;
 const ROOM: usize = 60_008;
 
 #[test]
-fn belt_is_accepted_and_judged() {
+fn belt_is_accepted_walked_and_settled() {
     let task = belt();
     assert_eq!(task.len(), 98);
     assert_eq!(
@@ -22,12 +22,14 @@ fn belt_is_accepted_and_judged() {
         })
     );
     assert_eq!(
-        judge(&task, &[0]),
-        Ok(Verdict::Solved {
-            cost: 3,
+        walk(&task, &[0]),
+        Ok(Verdict::Solved { cost: 3, met: 0b10 })
+    );
+    assert_eq!(
+        settle(&task, 3, 0b10),
+        Ok(Worth {
             metric: 8,
-            utility: 4,
-            met: 0b10
+            utility: 4
         })
     );
     assert_eq!(
@@ -203,7 +205,7 @@ fn trackers_by_kind() {
 fn outcome(kind: Kind, phi: &str, psi: &str) -> bool {
     let truth = |text: &str| -> Vec<bool> { text.chars().map(|c| c == 'T').collect() };
     let (task, plan) = course(kind, &truth(phi), &truth(psi));
-    match judge(&encode(&task), &plan) {
+    match walk(&encode(&task), &plan) {
         Ok(Verdict::Solved { met, .. }) => met == 1,
         other => panic!("{other:?}"),
     }
@@ -227,30 +229,20 @@ fn lettered_examples() {
         0,
         "GOAL CLAUSE HOLDS 0 ACTION 0 EFFECT ADD 0 DELETE 0",
     );
-    let solved = Ok(Verdict::Solved {
-        cost: 0,
-        metric: 0,
-        utility: 0,
-        met: 0,
-    });
-    assert_eq!(judge(&both, &[0]), solved, "l");
+    let solved = Ok(Verdict::Solved { cost: 0, met: 0 });
+    assert_eq!(walk(&both, &[0]), solved, "l");
 }
 
 /// Deletes of all effects go out before the adds of any come in.
 #[test]
 fn adds_win_across_effects() {
-    let solved = Ok(Verdict::Solved {
-        cost: 0,
-        metric: 0,
-        utility: 0,
-        met: 0,
-    });
+    let solved = Ok(Verdict::Solved { cost: 0, met: 0 });
     for effects in [
         "EFFECT ADD 0 EFFECT DELETE 0",
         "EFFECT DELETE 0 EFFECT ADD 0",
     ] {
         let task = file(1, 1, 0, &format!("GOAL CLAUSE HOLDS 0 ACTION 0 {effects}"));
-        assert_eq!(judge(&task, &[0]), solved);
+        assert_eq!(walk(&task, &[0]), solved);
     }
     // The second effect reads the state before, so it doesn't fire.
     let chain = file(
@@ -259,7 +251,7 @@ fn adds_win_across_effects() {
         0,
         "GOAL CLAUSE LACKS 1 ACTION EFFECT ADD 0 EFFECT CLAUSE HOLDS 0 ADD 1",
     );
-    assert_eq!(judge(&chain, &[0]), solved);
+    assert_eq!(walk(&chain, &[0]), solved);
 }
 
 /// At most one run of φ: no state without φ between two with it.
@@ -285,16 +277,14 @@ fn edges_of_plans() {
     let task = encode(&bare_task(1, 1, 0));
     let solved = Verdict::Solved {
         cost: 2_048,
-        metric: 2_048,
-        utility: -2_048,
         met: 0,
     };
-    assert_eq!(judge(&task, &[0; 2_048]), Ok(solved));
-    assert_eq!(judge(&task, &[0; 2_049]), refused(10, 0));
-    assert_eq!(judge(&task, &[1; 2_049]), refused(10, 0));
+    assert_eq!(walk(&task, &[0; 2_048]), Ok(solved));
+    assert_eq!(walk(&task, &[0; 2_049]), refused(10, 0));
+    assert_eq!(walk(&task, &[1; 2_049]), refused(10, 0));
     let mut plan = [0; 2_048];
     plan[2_047] = 1;
-    assert_eq!(judge(&task, &plan), refused(11, 2_047));
+    assert_eq!(walk(&task, &plan), refused(11, 2_047));
 }
 
 #[test]

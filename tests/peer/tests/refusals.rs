@@ -232,16 +232,17 @@ fn first_faulty_row_decides() {
     assert_eq!(answer(1, 0, 0, "GOAL ACTION CLAUSE"), refused(4, 3));
 }
 
-/// Judge and translate give a task's own refusal first.
+/// Walk, settle and translate give a task's own refusal first.
 #[test]
 fn task_before_plan_and_translation() {
     let broken = file(127, 0, 0, "GOAL ACTION");
-    assert_eq!(judge(&broken, &[9; 3_000]), refused(6, 2));
+    assert_eq!(walk(&broken, &[9; 3_000]), refused(6, 2));
+    assert_eq!(settle(&broken, u64::MAX, u64::MAX), refused(6, 2));
     assert_eq!(translate(&broken, 0), refused(6, 2));
     let wide = file(127, 0, 0, "GOAL");
     assert_eq!(translate(&wide, 0), refused(7, 0));
     // An unknown step wins over one that doesn't apply before it.
     let stops = file(1, 1, 0, "GOAL ACTION CLAUSE HOLDS 0");
-    assert_eq!(judge(&stops, &[0, 0, 1]), refused(11, 2));
-    assert_eq!(judge(&stops, &[0, 0, 0]), Ok(Verdict::Stopped(0)));
+    assert_eq!(walk(&stops, &[0, 0, 1]), refused(11, 2));
+    assert_eq!(walk(&stops, &[0, 0, 0]), Ok(Verdict::Stopped(0)));
 }

@@ -1,6 +1,6 @@
 //! Plans as text: the forms of a line, the limits, and the way there and back.
 
-use peer::text::{judge_text, parse, read, text, write, MAX_TEXT};
+use peer::text::{parse, read, text, walk_text, write, MAX_TEXT};
 use peer::Refusal;
 
 fn refused(number: u8, place: u16) -> Result<Vec<u8>, Refusal> {
@@ -82,7 +82,7 @@ fn there_and_back() {
 #[test]
 fn a_faulty_file_comes_first() {
     assert_eq!(
-        judge_text(b"", b"("),
+        walk_text(b"", b"("),
         Err(Refusal {
             number: 1,
             place: 0

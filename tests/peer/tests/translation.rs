@@ -10,6 +10,14 @@ use peer::*;
 
 const ROOM: usize = 60_008;
 
+/// The metric of a plan that solves.
+fn metric(source: &Task, plan: &[u8]) -> Option<u128> {
+    match verdict(source, plan) {
+        Verdict::Solved { cost, met } => Some(u128::from(worth(source, cost, met).metric)),
+        _ => None,
+    }
+}
+
 /// The list of a plan of `steps` steps with one of its closing actions dropped, or
 /// with another action in its place: all others if few, else some of them, and
 /// always collect k for forgo k and forgo k for collect k.
@@ -43,9 +51,10 @@ fn completed_lists_of_random_cases() {
     let mut tried = 0;
     for seed in 0..12_000 {
         let case = case(seed);
-        let Ok(Verdict::Solved { metric, .. }) = judge(&case.file, &case.plan) else {
+        let Ok(Verdict::Solved { cost, met }) = walk(&case.file, &case.plan) else {
             continue;
         };
+        let metric = settle(&case.file, cost, met).expect("a walk's own").metric;
         let Ok(bytes) = translate(&case.file, ROOM) else {
             continue;
         };
@@ -70,7 +79,7 @@ fn plans_that_do_not_solve() {
     let mut tried = 0;
     for seed in 0..12_000 {
         let case = case(seed);
-        let verdict = judge(&case.file, &case.plan);
+        let verdict = walk(&case.file, &case.plan);
         if !matches!(verdict, Ok(Verdict::Stopped(_) | Verdict::GoalMissed)) {
             continue;
         }
@@ -105,7 +114,7 @@ fn all_courses() {
                 let psi: Vec<bool> = (0..length).map(|i| bits >> (length + i) & 1 == 1).collect();
                 let (source, plan) = course(kind, &phi, &psi);
                 let task = translated(&source, 12_000).unwrap();
-                let Verdict::Solved { metric, met, .. } = verdict(&source, &plan) else {
+                let Verdict::Solved { met, .. } = verdict(&source, &plan) else {
                     panic!()
                 };
                 let end = source.actions.len();
@@ -114,10 +123,8 @@ fn all_courses() {
                 let (collect, forgo) = (list(end + 1), list(end + 2));
                 assert_eq!(run(&task, &collect), (met == 1).then_some(0));
                 assert_eq!(run(&task, &forgo), (met == 0).then_some(1));
-                assert_eq!(
-                    run(&task, &complete(&source, &plan)),
-                    Some(u128::from(metric))
-                );
+                let cost = run(&task, &complete(&source, &plan));
+                assert_eq!(cost, metric(&source, &plan));
             }
         }
     }
@@ -160,11 +167,8 @@ fn solving_plans(source: &Task, task: &Task, steps: usize) -> usize {
     let mut count = 0;
     all_lists(source.actions.len(), steps, &mut |list| {
         let plan: Vec<u8> = list.iter().map(|&step| step as u8).collect();
-        if let Verdict::Solved { metric, .. } = verdict(source, &plan) {
-            assert_eq!(
-                run(task, &complete(source, &plan)),
-                Some(u128::from(metric))
-            );
+        if let Some(metric) = metric(source, &plan) {
+            assert_eq!(run(task, &complete(source, &plan)), Some(metric));
             count += 1;
         }
     });
@@ -180,11 +184,11 @@ fn look_at_solution(source: &Task, list: &[usize], cost: u128) {
         .filter(|&&n| n < below)
         .map(|&n| n as u8)
         .collect();
-    let Verdict::Solved { metric, .. } = verdict(source, &plan) else {
+    let Some(metric) = metric(source, &plan) else {
         panic!("the source part of {list:?} doesn't solve");
     };
     assert_eq!(complete(source, &plan), list);
-    assert_eq!(u128::from(metric), cost);
+    assert_eq!(metric, cost);
 }
 
 /// All lists over tiny tasks, each run from the beginning.

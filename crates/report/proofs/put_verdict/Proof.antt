@@ -5,8 +5,11 @@ use Rattle.report.proofs.put_verdict.Tie as tie
 enum-known-v : tie.Need-enum-known-v
 enum-known-v c = search needs
 
-put-worth-requires : tie.Need-put-worth-requires
-put-worth-requires c κs = search needs
+settle-requires : tie.Need-settle-requires
+settle-requires c κs = search needs
+
+put-settled-requires : tie.Need-put-settled-requires
+put-settled-requires c κs = search needs
 
 enum-known-v-2 : tie.Need-enum-known-v-2
 enum-known-v-2 c = search needs
@@ -29,7 +32,8 @@ same-length c = search needs
 returns : tie.Need-returns
 returns c =
     let p = c .before .before in
-    rw (p .before .before .before .v .given .1) (p .put-worth .ensures)
+    let s = p .before .before in
+    rw (s .before .before .v .given .1, ← s .settle .ensures) (p .put-settled .ensures)
 
 same-length-2 : tie.Need-same-length-2
 same-length-2 c = search needs
@@ -52,7 +56,8 @@ put-verdict-spec =
     tie.close
     (tie.spec
     enum-known-v
-    put-worth-requires
+    settle-requires
+    put-settled-requires
     enum-known-v-2
     put-stopped-requires
     enum-told

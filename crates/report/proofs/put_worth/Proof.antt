@@ -27,8 +27,8 @@ returns c =
     let p = m .before .before .before .before .before in
     let s = p .before .before .before .before in
     let a = s .before .before .before .before .before .args in
-    let utility = toZ-ofZ w64 (a .w .utility) (record { sfits = m .before .struct-told .given .1 .1 .0 .1 }) in
-    let lines = rowLines (bit (a .w .met)) 0 (paired (now (a .marks)) (now (a .values))) in
+    let utility = toZ-ofZ w64 (a .w .utility) (record { sfits = m .before .struct-told .given .1 .0 .1 }) in
+    let lines = rowLines (bit (a .s .met)) 0 (paired (now (a .marks)) (now (a .values))) in
     then (then {ys = lines} (s .put-solved .ensures .0) (p .put-rows .ensures .0)) (rw utility at (m .put-amounts .ensures))
 
 pub put-worth-spec : {M : Type 1} → statement M

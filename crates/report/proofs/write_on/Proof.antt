@@ -29,14 +29,14 @@ enum-known-c c = search needs
 enum-told : tie.Need-enum-told
 enum-told c = search needs
 
-slice-aggregate-write-judged : tie.Need-slice-aggregate-write-judged
-slice-aggregate-write-judged c = search needs
+slice-aggregate-write-walked : tie.Need-slice-aggregate-write-walked
+slice-aggregate-write-walked c = search needs
 
-slice-aggregate-write-judged-2 : tie.Need-slice-aggregate-write-judged-2
-slice-aggregate-write-judged-2 c = search needs
+slice-aggregate-write-walked-2 : tie.Need-slice-aggregate-write-walked-2
+slice-aggregate-write-walked-2 c = search needs
 
-write-judged-requires : tie.Need-write-judged-requires
-write-judged-requires c κs = search needs
+write-walked-requires : tie.Need-write-walked-requires
+write-walked-requires c κs = search needs
 
 same-length : tie.Need-same-length
 same-length c = search needs
@@ -47,32 +47,32 @@ returns c =
     let t = w .before .before .before .before in
     let k = t .before .before in
     let a = k .before .before .before .before .args in
-    on-refused (now (a .file)) (now (a .plan)) _ (k .before .before .before .before .pre) (now (a .out)) (w .write-judged .result)
-    (w .write-judged .last .1 .1 .1 .1 .0) _ _ (sym (k .check .ensures) ∙ ap checked (t .enum-told .given .1)) _ (w .write-judged .ensures .0)
+    on-refused (now (a .file)) (now (a .plan)) _ (k .before .before .before .before .pre) (now (a .out)) (w .write-walked .result)
+    (w .write-walked .last .1 .1 .1 .1 .1 .0) _ _ (sym (k .check .ensures) ∙ ap checked (t .enum-told .given .1)) _ (w .write-walked .ensures)
 
 add-middle : tie.Need-add-middle
 add-middle c = let l = parts (c .before .before) in search needs
 
-sub-write-judged : tie.Need-sub-write-judged
-sub-write-judged c = search needs
+sub-write-walked : tie.Need-sub-write-walked
+sub-write-walked c = search needs
 
-part-write-judged-start : tie.Need-part-write-judged-start
-part-write-judged-start c = search needs
+part-write-walked-start : tie.Need-part-write-walked-start
+part-write-walked-start c = search needs
 
-part-write-judged-end : tie.Need-part-write-judged-end
-part-write-judged-end c = let l = parts (c .before .before) in search needs
+part-write-walked-end : tie.Need-part-write-walked-end
+part-write-walked-end c = let l = parts (c .before .before) in search needs
 
-sub-write-judged-2 : tie.Need-sub-write-judged-2
-sub-write-judged-2 c = let l = parts (c .before .before .before) in search needs
+sub-write-walked-2 : tie.Need-sub-write-walked-2
+sub-write-walked-2 c = let l = parts (c .before .before .before) in search needs
 
-part-write-judged-start-2 : tie.Need-part-write-judged-start-2
-part-write-judged-start-2 c = let l = parts (c .before .before .before) in search needs
+part-write-walked-start-2 : tie.Need-part-write-walked-start-2
+part-write-walked-start-2 c = let l = parts (c .before .before .before) in search needs
 
-part-write-judged-end-2 : tie.Need-part-write-judged-end-2
-part-write-judged-end-2 c = search needs
+part-write-walked-end-2 : tie.Need-part-write-walked-end-2
+part-write-walked-end-2 c = search needs
 
-write-judged-requires-2 : tie.Need-write-judged-requires-2
-write-judged-requires-2 c κs =
+write-walked-requires-2 : tie.Need-write-walked-requires-2
+write-walked-requires-2 c κs =
     let l = parts (c .before .before .before .before .before) in
     (simp (length-take, length-drop) (omega arith), simp (length-take, length-drop) (omega arith))
 
@@ -85,8 +85,8 @@ returns-2 c =
     let d = w .before .before .before .before .before .before in
     let s = d .before .before .before .before .before .before in
     let a = s .args in
-    on-accepted (now (a .file)) (now (a .plan)) _ (s .pre) (now (a .out)) (w .write-judged2 .result)
-    (w .write-judged2 .last .1 .1 .1 .1 .0) (asSizes (d .c .given .0 .0)) (was-accepted d) (w .write-judged2 .ensures .0)
+    on-accepted (now (a .file)) (now (a .plan)) _ (s .pre) (now (a .out)) (w .write-walked2 .result)
+    (w .write-walked2 .last .1 .1 .1 .1 .1 .0) (asSizes (d .c .given .0 .0)) (was-accepted d) (w .write-walked2 .ensures)
 
 pub write-on-spec : {M : Type 1} → statement M
 write-on-spec =
@@ -95,18 +95,18 @@ write-on-spec =
     check-requires
     enum-known-c
     enum-told
-    slice-aggregate-write-judged
-    slice-aggregate-write-judged-2
-    write-judged-requires
+    slice-aggregate-write-walked
+    slice-aggregate-write-walked-2
+    write-walked-requires
     same-length
     returns
     add-middle
-    sub-write-judged
-    part-write-judged-start
-    part-write-judged-end
-    sub-write-judged-2
-    part-write-judged-start-2
-    part-write-judged-end-2
-    write-judged-requires-2
+    sub-write-walked
+    part-write-walked-start
+    part-write-walked-end
+    sub-write-walked-2
+    part-write-walked-start-2
+    part-write-walked-end-2
+    write-walked-requires-2
     same-length-2
     returns-2)

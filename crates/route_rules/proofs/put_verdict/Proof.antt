@@ -5,8 +5,8 @@ use Rattle.route_rules.proofs.put_verdict.Tie as tie
 enum-known-v : tie.Need-enum-known-v
 enum-known-v c = search needs
 
-put-worth-requires : tie.Need-put-worth-requires
-put-worth-requires c κs = search needs
+put-solution-requires : tie.Need-put-solution-requires
+put-solution-requires c κs = search needs
 
 enum-known-v-2 : tie.Need-enum-known-v-2
 enum-known-v-2 c = search needs
@@ -21,7 +21,7 @@ put-values-requires-2 : tie.Need-put-values-requires-2
 put-values-requires-2 c κs = search needs
 
 returns : tie.Need-returns
-returns c = rw (c .before .before .before .v .given .1) (c .put-worth .ensures)
+returns c = rw (c .before .before .before .v .given .1) (c .put-solution .ensures)
 
 returns-2 : tie.Need-returns-2
 returns-2 c = rw (c .before .before .before .v2 .given .1) (c .put-values .ensures)
@@ -34,7 +34,7 @@ put-verdict-spec =
     tie.close
     (tie.spec
     enum-known-v
-    put-worth-requires
+    put-solution-requires
     enum-known-v-2
     put-values-requires
     enum-told

@@ -1,8 +1,8 @@
 use mathlib.Core.Path.{ap, _∙_}
+use Prim.Native.Nat.{ℕ}
 use mir.Syntax.{w64}
 use mir.ValLaws.{toZ-ofZ}
-use Rattle.route_rules.specs.Numbers.{signed}
-use Rattle.route_rules.proofs.Bits.{solved-words}
+use Rattle.route_rules.specs.Numbers.{answered, signed}
 use borrow.Author.Needs.{needs}
 use Rattle.route_rules.proofs.put_worth.Statement.{statement}
 use Rattle.route_rules.proofs.put_worth.Tie as tie
@@ -16,9 +16,8 @@ put-values-requires c κs = search needs
 returns : tie.Need-returns
 returns c =
     let a = c .before .before .before .before .args in
-    let u = a .w .utility in
-    solved-words _ (a .w .cost) (a .w .metric) (a .w .met) (c .before .as-word .result) u (search needs)
-    (c .before .as-word .ensures ∙ ap signed (toZ-ofZ w64 u (search needs))) (c .put-values .ensures)
+    let w = c .before .as-word .ensures ∙ ap signed (toZ-ofZ w64 (a .w .utility) (search needs)) in
+    c .put-values .ensures ∙ ap (λ (x : ℕ). answered (a .w .metric) x 0 0 0 0 0) w
 
 pub put-worth-spec : {M : Type 1} → statement M
 put-worth-spec = tie.close (tie.spec as-word-requires put-values-requires returns)

@@ -3,9 +3,10 @@ use mathlib.Core.Path.{_≡_, subst}
 use Prim.Native.Nat.{ℕ, _+_, _*_, _-_, _≤_}
 use native.Mathlib.Omega.{arith}
 use denote.Ref.{now}
+use Rattle.task.specs.Lists.{numbers}
 use Rattle.text.specs.Area.{Wrote}
 use Rattle.text.proofs.Writing.{no-bytes, same-size}
-use Rattle.pddl_text.specs.Pddl.{spaced, factText, numbers}
+use Rattle.pddl_text.specs.Pddl.{spaced, factText}
 use Rattle.pddl_text.proofs.TextRows.{fact-more}
 use Rattle.pddl_text.proofs.texts.put_facts.Statement.{statement}
 use Rattle.pddl_text.proofs.texts.put_facts.Tie as tie

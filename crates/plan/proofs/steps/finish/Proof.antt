@@ -1,7 +1,5 @@
 use borrow.Author.Needs.{needs}
 use borrow.Author.Tests.{not-true, not-false}
-use mathlib.Core.Path.{subst}
-use Prim.Native.Nat.{ℕ, _^_, _<_}
 use denote.Ref.{now}
 use Rattle.plan.proofs.Finishing.{missed, solved-is}
 use Rattle.plan.proofs.steps.finish.Statement.{statement}
@@ -20,23 +18,16 @@ returns c = λ t R prefs there μ are.
     missed t (now (a .marks)) (now (a .values)) R (a .p) μ (a .goal) there (g .condition .result) (g .condition .ensures)
     (not-true _ (c .if1 .taken))
 
-total-requires : tie.Need-total-requires
-total-requires c κs = search needs
-
-worth-requires : tie.Need-worth-requires
-worth-requires c κs = search needs
+find-requires : tie.Need-find-requires
+find-requires c κs = search needs
 
 returns-2 : tie.Need-returns-2
 returns-2 c = λ t R prefs there μ are.
-    let n = c .before in
-    let g = n .before .before .before in
+    let g = c .before .before .before in
     let a = g .before .before .before .before .before .args in
     solved-is t (now (a .marks)) (now (a .values)) R (a .p) μ (a .goal) there (g .condition .result) (g .condition .ensures)
-    (not-false _ (n .before .if1 .left)) (a .at) prefs are (g .before .watch .result) (g .before .watch .ensures)
-    (n .total .result) (n .total .ensures .0) (c .worth .result) (c .worth .ensures .0)
-    (subst (λ (n : ℕ). n < 2 ^ 64) (c .worth .ensures .0 .3) (c .worth .ensures .1))
+    (not-false _ (c .before .if1 .left)) (a .at) prefs are (g .before .watch .result) (g .before .watch .ensures)
+    (c .find .result) (c .find .ensures) (search needs)
 
 pub finish-spec : {M : Type 1} → statement M
-finish-spec =
-    tie.close
-    (tie.spec watch-requires condition-requires returns total-requires worth-requires returns-2)
+finish-spec = tie.close (tie.spec watch-requires condition-requires returns find-requires returns-2)

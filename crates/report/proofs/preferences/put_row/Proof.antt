@@ -6,14 +6,17 @@ use borrow.Author.Needs.{needs}
 use Rattle.report.proofs.preferences.put_row.Statement.{statement}
 use Rattle.report.proofs.preferences.put_row.Tie as tie
 
+cast-is-met : tie.Need-cast-is-met
+cast-is-met c = search needs
+
 is-met-requires : tie.Need-is-met-requires
 is-met-requires c κs = search needs
 
 put-preference-requires : tie.Need-put-preference-requires
 put-preference-requires c κs = search needs
 
-add-t14 : tie.Need-add-t14
-add-t14 c = search needs
+add-t15 : tie.Need-add-t15
+add-t15 c = search needs
 
 same-length : tie.Need-same-length
 same-length c = search needs
@@ -42,9 +45,10 @@ pub put-row-spec : {M : Type 1} → statement M
 put-row-spec =
     tie.close
     (tie.spec
+    cast-is-met
     is-met-requires
     put-preference-requires
-    add-t14
+    add-t15
     same-length
     returns
     returns-2

@@ -1,0 +1,75 @@
+use borrow.Author.Needs.{needs}
+use mathlib.Core.Path.{refl, sym, ap, _∙_}
+use mathlib.Core.Bool.{true}
+use Prim.Native.Nat.{ℕ, _+_, _-_}
+use denote.Ref.{now}
+use lib.ListN.{length}
+use Rattle.task.specs.Rows.{valueAt}
+use Rattle.task.proofs.Reading.{goes-on, ends-at}
+use Rattle.state.specs.Member.{member}
+use Rattle.plan.specs.Counting.{counting, countAt}
+use Rattle.plan.specs.Met.{Met, found, asFound}
+use Rattle.plan.proofs.Meeting.{Finding}
+use Rattle.plan.proofs.met.find.Statement.{statement}
+use Rattle.plan.proofs.met.find.Tie as tie
+
+abbrev Inv-loop : tie.InvT-loop
+Inv-loop marks at set f₀ i₀ f i = Finding marks at (member set) f i
+
+abbrev μ-loop : tie.MeasureT-loop
+μ-loop marks at set f₀ i₀ f i = length marks - i
+
+none-requires : tie.Need-none-requires Inv-loop μ-loop
+none-requires c κs = search needs
+
+loop-holds : tie.Need-loop-holds Inv-loop μ-loop
+loop-holds c = record { rows-left = search needs; few = search needs; same = λ vs. rw (c .none .ensures) }
+
+shared-slice-read-find-row : tie.Need-shared-slice-read-find-row Inv-loop μ-loop
+shared-slice-read-find-row c = search needs
+
+find-row-requires : tie.Need-find-row-requires Inv-loop μ-loop
+find-row-requires c κs = search needs
+
+add-i : tie.Need-add-i Inv-loop μ-loop
+add-i c = search needs
+
+loop-less : tie.Need-loop-less Inv-loop μ-loop
+loop-less c = search needs
+
+loop-again : tie.Need-loop-again Inv-loop μ-loop
+loop-again c =
+    let l = c .before .before .before in
+    let a = l .before .before .before .args in
+    let one = found (member (a .set)) in
+    record {
+      rows-left = search needs;
+      few = search needs;
+      same = λ vs.
+          ap (λ (t : Met). countAt one t (now (a .marks)) vs (l .loop .i + 1)) (c .find-row .ensures .0 (valueAt vs (l .loop .i)))
+          ∙ sym (goes-on (counting one) (λ (m : ℕ). true) (λ (t : Met) (i : ℕ). t) (asFound (l .loop .f)) (now (a .marks)) vs (l .loop .i) (search needs) refl)
+          ∙ l .loop .inv .same vs;
+    }
+
+returns : tie.Need-returns Inv-loop μ-loop
+returns c = λ vs.
+    let l = c .before .before in
+    let a = l .before .before .before .args in
+    ap (λ (t : Met). t .met)
+    (sym (ends-at (counting (found (member (a .set)))) (λ (m : ℕ). true) (λ (t : Met) (i : ℕ). t) (asFound (l .loop .f)) (now (a .marks)) vs (l .loop .i) (search needs))
+    ∙ l .loop .inv .same vs)
+
+pub find-spec : {M : Type 1} → statement M
+find-spec =
+    tie.close
+    (tie.spec
+    Inv-loop
+    μ-loop
+    none-requires
+    loop-holds
+    shared-slice-read-find-row
+    find-row-requires
+    add-i
+    loop-less
+    loop-again
+    returns)

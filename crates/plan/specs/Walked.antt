@@ -1,0 +1,32 @@
+-- What walk answers on a task file and a plan: what judge gave, less metric and utility. Document 02, request 5.
+use mathlib.Core.Bool.{Bool}
+use mathlib.Core.List.{List}
+use Prim.Native.Nat.{ℕ}
+use Rattle.task.specs.Verdict
+use Rattle.task.specs.Verdict.{Verdict}
+use Rattle.plan.specs.Judged
+use Rattle.plan.specs.Judged.{Judged, judged}
+
+-- a verdict: solved has cost and the set of the met preferences' numbers; stopped has the first step that doesn't apply
+pub data Walk : Type 0 where
+  solved : ℕ → (ℕ → Bool) → Walk
+  stopped : ℕ → Walk
+  goal-missed : Walk
+
+-- a verdict, or a refusal with a number and a place
+pub data Walked : Type 0 where
+  given : Walk → Walked
+  refused : ℕ → ℕ → Walked
+
+-- less the amounts that settle gives
+abbrev pub unpriced : Verdict → Walk
+unpriced (Verdict.solved cost metric utility met) = solved cost met
+unpriced (Verdict.stopped i) = stopped i
+unpriced Verdict.goal-missed = goal-missed
+
+abbrev pub unsettled : Judged → Walked
+unsettled (Judged.given v) = given (unpriced v)
+unsettled (Judged.refused n i) = refused n i
+
+unfoldable pub walked : List ℕ → List ℕ → Walked
+walked b p = unsettled (judged b p)

@@ -1,0 +1,6 @@
+// Settles the costs and met preferences of the file `vectors`.
+use vectors::Family;
+
+fn main() {
+    vectors::run(Family::Amounts);
+}

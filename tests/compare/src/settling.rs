@@ -1,0 +1,130 @@
+//! Settled costs and met preferences: the library's worth beside the independent implementation's.
+
+use crate::library::{self, Verdict, Worth};
+use crate::tally::Tally;
+use crate::walking::same;
+use peer::task::{MAX_AMOUNT, MAX_COST};
+use peer::{Kind, Preference, Task};
+
+const ANSWERS: [&str; 8] = [
+    "refused 1",
+    "refused 2",
+    "refused 3",
+    "refused 4",
+    "refused 5",
+    "refused 6",
+    "refused 15",
+    "settled",
+];
+
+fn worth(worth: peer::Worth) -> Worth {
+    Worth {
+        metric: worth.metric,
+        utility: worth.utility,
+    }
+}
+
+/// The library's answer, held to the independent implementation's.
+fn settled(file: &[u8], cost: u64, met: u64) -> Result<&'static str, String> {
+    let answer = library::settle(file, cost, met);
+    let what = format!("settle of cost {cost} and met {met:#x}");
+    same(&what, answer, peer::settle(file, cost, met).map(worth))?;
+    Ok(match answer {
+        Ok(_) => "settled",
+        Err(refusal) => match refusal.number {
+            15 => "refused 15",
+            number => ANSWERS[number as usize - 1],
+        },
+    })
+}
+
+/// What the library walks it settles, and its report ends with what that is worth. Whether the plan solves.
+fn walked(file: &[u8], plan: &[u8]) -> Result<bool, String> {
+    let Ok(Verdict::Solved { cost, met }) = library::walk(file, plan) else {
+        return Ok(false);
+    };
+    settled(file, cost, met)?;
+    let worth =
+        library::settle(file, cost, met).map_err(|refusal| format!("a walk's own: {refusal:?}"))?;
+    let line = format!("\nmetric {} utility {}\n", worth.metric, worth.utility);
+    let (out, length) = library::report(file, plan, 2_048);
+    if !out[..length].ends_with(line.as_bytes()) {
+        return Err(format!("the report doesn't end with {line:?}"));
+    }
+    Ok(true)
+}
+
+pub fn compare(first: u64, count: u64) -> Result<(), String> {
+    let mut tally = Tally::new(&ANSWERS);
+    let mut solved = 0;
+    for seed in first..first + count {
+        let case = peer::random::case(seed);
+        let (cost, met) = peer::random::arguments(seed, &case.file);
+        let at = |why| format!("seed {seed}: {why}");
+        tally.count(settled(&case.file, cost, met).map_err(at)?);
+        solved += u64::from(walked(&case.file, &case.plan).map_err(at)?);
+    }
+    println!("walked and settled: {solved}");
+    tally.finish()
+}
+
+// ---- the edges
+
+/// A task with so many preferences, all of one weight or, where that is none, each of another.
+fn task(preferences: usize, weight: Option<u32>) -> Task {
+    let preference = |k| Preference {
+        kind: Kind::ALL[k % 6],
+        weight: weight.unwrap_or(1u32 << k),
+        phi: vec![],
+        psi: vec![],
+    };
+    Task {
+        facts: 1,
+        start: vec![],
+        goal: vec![],
+        actions: vec![],
+        preferences: (0..preferences).map(preference).collect(),
+    }
+}
+
+/// Costs on both sides of the limit, with each bit alone and beside all preferences.
+fn edge(file: &[u8], preferences: u32) -> Result<(), String> {
+    let all = (1 << preferences) - 1;
+    for cost in [
+        0,
+        1,
+        MAX_COST - 1,
+        MAX_COST,
+        MAX_COST + 1,
+        1 << 32,
+        u64::MAX,
+    ] {
+        for met in (0..64)
+            .flat_map(|bit| [1 << bit, all | 1 << bit])
+            .chain([0, all])
+        {
+            let wanted = match cost <= MAX_COST && met <= all {
+                true => "settled",
+                false => "refused 15",
+            };
+            let answer = settled(file, cost, met)?;
+            if answer != wanted {
+                return Err(format!(
+                    "cost {cost}, met {met:#x}: {answer}, and not {wanted}"
+                ));
+            }
+        }
+    }
+    Ok(())
+}
+
+pub fn edges() -> Result<(), String> {
+    for preferences in 0..=16 {
+        for weight in [Some(0), Some(MAX_AMOUNT), None] {
+            let file = peer::encode(&task(preferences, weight));
+            edge(&file, preferences as u32).map_err(|why| format!("P {preferences}: {why}"))?;
+        }
+    }
+    println!("edges of settle: as they should be");
+    Ok(())
+}
