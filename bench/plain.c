@@ -10,9 +10,10 @@
 #include <string.h>
 
 enum { ACTION = 1, EFFECT, CLAUSE, HOLDS, LACKS, ADD, DELETE, GOAL, START, ALWAYS, SOMETIME, AT_END, AT_MOST_ONCE,
-       SOMETIME_BEFORE, SOMETIME_AFTER, SECOND };
+       SOMETIME_BEFORE, SOMETIME_AFTER, SECOND, WITHIN, ALWAYS_WITHIN, STEPS };
 
 #define MAX_ROWS ROUTE_RULES_MAX_ROWS
+#define MAX_DEADLINE 15
 
 typedef struct { uint64_t word[2]; } State;
 
@@ -23,7 +24,10 @@ typedef struct {
     uint32_t facts, actions, preferences;
     uint32_t goal, first_action, first_preference; /* rows */
     uint32_t action[129];                          /* row of ACTION; behind the last: where the preferences begin */
-    struct { uint32_t open, second, next; } side[16]; /* row of the preference, of SECOND or next, and behind it */
+    struct {
+        uint32_t open, phi, second, next; /* row of the preference, of its first condition, of SECOND or next, and behind it */
+        uint32_t steps, d;                /* its deadline; the first of its facts D */
+    } side[16];
     uint32_t number; /* of a refusal */
     uint64_t place;
 } Task;
@@ -55,11 +59,17 @@ static inline int take(Task *t, uint32_t most)
     return 1;
 }
 
-static int need(Task *t, uint8_t mark)
+static int need(Task *t, uint8_t mark, uint32_t most)
 {
     if (!next_is(t, mark)) return refuse(t, ROUTE_RULES_MARK, t->at);
-    return take(t, 0);
+    return take(t, most);
 }
+
+static inline int opens(uint8_t mark) { return mark >= ALWAYS && mark <= ALWAYS_WITHIN && mark != SECOND; }
+
+static inline int has_steps(uint8_t kind) { return kind >= WITHIN; }
+
+static inline int has_second(uint8_t kind) { return kind == SOMETIME_BEFORE || kind == SOMETIME_AFTER || kind == ALWAYS_WITHIN; }
 
 static int read_condition(Task *t)
 {
@@ -91,13 +101,19 @@ static int read_action(Task *t)
 static int read_preference(Task *t)
 {
     uint32_t open = t->at;
-    if (!take(t, ROUTE_RULES_MAX_AMOUNT) || !read_condition(t)) return 0;
+    uint8_t kind = t->marks[open];
+    if (!take(t, ROUTE_RULES_MAX_AMOUNT)) return 0;
+    if (has_steps(kind) && !need(t, STEPS, MAX_DEADLINE)) return 0;
+    uint32_t phi = t->at;
+    if (!read_condition(t)) return 0;
     uint32_t second = t->at;
-    if (t->marks[open] >= SOMETIME_BEFORE && (!need(t, SECOND) || !read_condition(t))) return 0;
+    if (has_second(kind) && (!need(t, SECOND, 0) || !read_condition(t))) return 0;
     if (t->preferences < 16) {
         t->side[t->preferences].open = open;
+        t->side[t->preferences].phi = phi;
         t->side[t->preferences].second = second;
         t->side[t->preferences].next = t->at;
+        t->side[t->preferences].steps = has_steps(kind) ? value_at(t, open + 1) : 0;
     }
     t->preferences++;
     return 1;
@@ -110,13 +126,13 @@ static int read_rows(Task *t)
         if (!take(t, t->facts - 1)) return 0;
     }
     t->goal = t->at;
-    if (!need(t, GOAL) || !read_condition(t)) return 0;
+    if (!need(t, GOAL, 0) || !read_condition(t)) return 0;
     t->first_action = t->at;
     while (next_is(t, ACTION))
         if (!read_action(t)) return 0;
     t->first_preference = t->at;
     if (t->actions <= 128) t->action[t->actions] = t->at;
-    while (t->at < t->rows && t->marks[t->at] >= ALWAYS && t->marks[t->at] <= SOMETIME_AFTER)
+    while (t->at < t->rows && opens(t->marks[t->at]))
         if (!read_preference(t)) return 0;
     return t->at == t->rows || refuse(t, ROUTE_RULES_MARK, t->at);
 }
@@ -205,9 +221,9 @@ static State after(const Task *t, uint32_t at, uint32_t end, State s)
 }
 
 /* What is known of a preference after the states so far. */
-typedef struct { uint8_t s, b; } Monitor;
+typedef struct { uint8_t s, b, age; } Monitor;
 
-static inline void watch(Monitor *m, uint8_t kind, int last, int phi, int psi)
+static inline void watch(Monitor *m, uint8_t kind, uint32_t steps, int last, int phi, int psi)
 {
     switch (kind) {
     case ALWAYS: m->b |= !phi; break;
@@ -222,13 +238,28 @@ static inline void watch(Monitor *m, uint8_t kind, int last, int phi, int psi)
         m->b |= phi & !m->s;
         m->s |= psi;
         break;
-    default: m->b = (phi | m->b) & !psi;
+    case SOMETIME_AFTER: m->b = (phi | m->b) & !psi; break;
+    case WITHIN: /* age: the number of the state, up to one behind the deadline */
+        if (m->age > steps) break;
+        m->s |= phi;
+        m->age++;
+        break;
+    default: /* b: a φ waits for ψ; age: for how many states already; s: for too many */
+        if (psi && !m->s)
+            m->b = m->age = 0;
+        else if (!psi && (phi | m->b)) {
+            m->b = 1;
+            if (m->age < steps)
+                m->age++;
+            else
+                m->s = 1;
+        }
     }
 }
 
 static inline int good(Monitor m, uint8_t kind)
 {
-    return kind == SOMETIME || kind == AT_END ? m.s : kind == AT_MOST_ONCE ? m.s | !m.b : !m.b;
+    return kind == SOMETIME || kind == AT_END || kind == WITHIN ? m.s : kind == AT_MOST_ONCE ? m.s | !m.b : !m.b;
 }
 
 static int admitted(Task *t, const uint8_t *plan, size_t steps)
@@ -261,15 +292,15 @@ static void watch_all(const Task *t, Monitor *m, int last, State s)
     for (uint32_t k = 0; k < t->preferences; k++) {
         uint8_t kind = t->marks[t->side[k].open];
         if (kind == AT_END && !last) continue;
-        int psi = kind >= SOMETIME_BEFORE ? true_at(t, t->side[k].second + 1, s) : 1;
-        watch(&m[k], kind, last, true_at(t, t->side[k].open + 1, s), psi);
+        int psi = has_second(kind) ? true_at(t, t->side[k].second + 1, s) : 1;
+        watch(&m[k], kind, t->side[k].steps, last, true_at(t, t->side[k].phi, s), psi);
     }
 }
 
 uint32_t plain_walk(const uint8_t *file, size_t length, const uint8_t *plan, size_t steps, uint64_t answer[8])
 {
     Task t;
-    Monitor m[16] = {{0, 0}};
+    Monitor m[16] = {{0, 0, 0}};
     memset(answer, 0, 64);
     if (!check(&t, file, length) || !admitted(&t, plan, steps)) {
         answer[0] = t.place;
@@ -352,10 +383,10 @@ static void table_all(const Task *t, Tables *x)
     x->goal = table_condition(t, x, &at);
     for (uint32_t k = 0; k < t->actions; k++) table_action(t, x, k);
     for (uint32_t k = 0; k < t->preferences; k++) {
-        at = t->side[k].open + 1;
+        at = t->side[k].phi;
         x->phi[k] = table_condition(t, x, &at);
         at = t->side[k].second + 1;
-        if (t->marks[t->side[k].open] >= SOMETIME_BEFORE) x->psi[k] = table_condition(t, x, &at);
+        if (has_second(t->marks[t->side[k].open])) x->psi[k] = table_condition(t, x, &at);
     }
 }
 
@@ -375,8 +406,8 @@ static void watch_tables(const Task *t, const Tables *x, Monitor *m, int last, S
     for (uint32_t k = 0; k < t->preferences; k++) {
         uint8_t kind = t->marks[t->side[k].open];
         if (kind == AT_END && !last) continue;
-        int psi = kind >= SOMETIME_BEFORE ? clauses_true(x, x->psi[k], s) : 1;
-        watch(&m[k], kind, last, clauses_true(x, x->phi[k], s), psi);
+        int psi = has_second(kind) ? clauses_true(x, x->psi[k], s) : 1;
+        watch(&m[k], kind, t->side[k].steps, last, clauses_true(x, x->phi[k], s), psi);
     }
 }
 
@@ -399,7 +430,7 @@ uint32_t tuned_walk(const uint8_t *file, size_t length, const uint8_t *plan, siz
 {
     Task t;
     Tables x;
-    Monitor m[16] = {{0, 0}};
+    Monitor m[16] = {{0, 0, 0}};
     memset(answer, 0, 64);
     if (!check(&t, file, length) || !admitted(&t, plan, steps)) {
         answer[0] = t.place;
@@ -481,8 +512,9 @@ static inline void copy(Writer *w, uint32_t from, uint32_t to)
 /* What stands before the denied literals of a clause: holds s if `held`, and the rows from `from` up to `to`. */
 typedef struct { int held; uint32_t s, from, to; } Guard;
 
-/* An effect for each false clause of the condition from row `at` up to row `to`, behind a guard, which adds b. */
-static void put_false(Writer *w, uint32_t at, uint32_t to, Guard g, uint32_t b)
+/* An effect for each false clause of the condition from row `at` up to row `to`, behind a guard, which adds b, and `also` if that
+ * is not 0. */
+static void put_false(Writer *w, uint32_t at, uint32_t to, Guard g, uint32_t b, uint32_t also)
 {
     while (at < to) {
         put(w, EFFECT, 0);
@@ -491,35 +523,68 @@ static void put_false(Writer *w, uint32_t at, uint32_t to, Guard g, uint32_t b)
         for (at++; at < to && w->source->marks[at] != CLAUSE; at++)
             put_single(w, w->source->marks[at] == HOLDS ? LACKS : HOLDS, value_at(w->source, at));
         put(w, ADD, b);
+        if (also) put(w, ADD, also);
     }
+}
+
+static void put_within(Writer *w, uint32_t k)
+{
+    const Task *t = w->source;
+    uint32_t d = t->side[k].d, steps = t->side[k].steps;
+    put(w, EFFECT, 0);
+    put(w, ADD, d);
+    for (uint32_t j = 1; j <= steps; j++) {
+        put(w, EFFECT, 0);
+        put_single(w, HOLDS, d + j - 1);
+        put(w, ADD, d + j);
+    }
+    put(w, EFFECT, 0);
+    put_single(w, LACKS, d + steps);
+    copy(w, t->side[k].phi, t->side[k].second);
+    put(w, ADD, t->facts + 3 * k);
+}
+
+static void put_always_within(Writer *w, uint32_t k)
+{
+    const Task *t = w->source;
+    uint32_t phi = t->side[k].phi, second = t->side[k].second, next = t->side[k].next;
+    uint32_t d = t->side[k].d, steps = t->side[k].steps, s = t->facts + 3 * k, b = s + 1;
+    put_false(w, second + 1, next, (Guard){0, s, phi, second}, b, steps > 0 ? d : s);
+    for (uint32_t j = 1; j <= steps; j++)
+        put_false(w, second + 1, next, (Guard){1, d + j - 1, 0, 0}, j < steps ? d + j : s, 0);
+    put(w, EFFECT, 0);
+    put_single(w, LACKS, s);
+    copy(w, second + 1, next);
+    put(w, DELETE, b);
+    for (uint32_t j = 0; j < steps; j++) put(w, DELETE, d + j);
 }
 
 static void put_tracker(Writer *w, uint32_t k, int last)
 {
     const Task *t = w->source;
-    uint32_t open = t->side[k].open + 1, second = t->side[k].second, next = t->side[k].next;
+    uint32_t phi = t->side[k].phi, second = t->side[k].second, next = t->side[k].next;
     uint32_t s = t->facts + 3 * k, b = s + 1;
-    switch (t->marks[open - 1]) {
-    case ALWAYS: put_false(w, open, second, (Guard){0, s, 0, 0}, b); break;
+    switch (t->marks[t->side[k].open]) {
+    case ALWAYS: put_false(w, phi, second, (Guard){0, s, 0, 0}, b, 0); break;
     case AT_END:
         if (!last) break;
         /* fall through */
     case SOMETIME:
         put(w, EFFECT, 0);
-        copy(w, open, second);
+        copy(w, phi, second);
         put(w, ADD, s);
         break;
     case AT_MOST_ONCE:
         put(w, EFFECT, 0);
         put_single(w, LACKS, s);
         put_single(w, LACKS, b);
-        copy(w, open, second);
+        copy(w, phi, second);
         put(w, ADD, s);
-        put_false(w, open, second, (Guard){1, s, 0, 0}, b);
+        put_false(w, phi, second, (Guard){1, s, 0, 0}, b, 0);
         put(w, EFFECT, 0);
         put_single(w, HOLDS, s);
         put_single(w, HOLDS, b);
-        copy(w, open, second);
+        copy(w, phi, second);
         put(w, DELETE, s);
         break;
     case SOMETIME_BEFORE:
@@ -528,14 +593,17 @@ static void put_tracker(Writer *w, uint32_t k, int last)
         put(w, ADD, s);
         put(w, EFFECT, 0);
         put_single(w, LACKS, s);
-        copy(w, open, second);
+        copy(w, phi, second);
         put(w, ADD, b);
         break;
-    default:
-        put_false(w, second + 1, next, (Guard){0, s, open, second}, b);
+    case SOMETIME_AFTER:
+        put_false(w, second + 1, next, (Guard){0, s, phi, second}, b, 0);
         put(w, EFFECT, 0);
         copy(w, second + 1, next);
         put(w, DELETE, b);
+        break;
+    case WITHIN: put_within(w, k); break;
+    default: put_always_within(w, k);
     }
 }
 
@@ -554,16 +622,21 @@ static uint64_t clauses(const Task *t, uint32_t at, uint32_t to)
 /* How many rows the tracker of preference k has. */
 static uint64_t tracker_rows(const Task *t, uint32_t k, int last)
 {
-    uint32_t open = t->side[k].open + 1, second = t->side[k].second, next = t->side[k].next;
-    uint64_t phi = second - open, psi = next > second ? next - second - 1 : 0;
-    switch (t->marks[open - 1]) {
+    uint32_t first = t->side[k].phi, second = t->side[k].second, next = t->side[k].next;
+    uint64_t phi = second - first, psi = next > second ? next - second - 1 : 0, steps = t->side[k].steps;
+    switch (t->marks[t->side[k].open]) {
     /* of a denied condition, EFFECT and ADD of each clause, and two rows for a literal */
     case ALWAYS: return 2 * phi;
     case AT_END: return last ? phi + 2 : 0;
     case SOMETIME: return phi + 2;
-    case AT_MOST_ONCE: return 2 * phi + 2 * clauses(t, open, second) + 2 * (phi + 6);
+    case AT_MOST_ONCE: return 2 * phi + 2 * clauses(t, first, second) + 2 * (phi + 6);
     case SOMETIME_BEFORE: return psi + 2 + phi + 4;
-    default: return 2 * psi + phi * clauses(t, second + 1, next) + psi + 2;
+    case SOMETIME_AFTER: return 2 * psi + phi * clauses(t, second + 1, next) + psi + 2;
+    case WITHIN: return 2 + 4 * steps + phi + 4;
+    /* once with φ and two ADD rows, for each step with a literal, and the deletes */
+    default:
+        return 2 * psi + (phi + 1) * clauses(t, second + 1, next) + steps * (2 * psi + 2 * clauses(t, second + 1, next)) + psi +
+               4 + steps;
     }
 }
 
@@ -590,6 +663,7 @@ static void put_closing(Writer *w, uint32_t k, int collect)
     put_single(w, LACKS, s + 2);
     switch (t->marks[open]) {
     case SOMETIME:
+    case WITHIN:
     case AT_END: put_single(w, collect ? HOLDS : LACKS, s); break;
     case AT_MOST_ONCE:
         put_single(w, collect ? HOLDS : LACKS, s);
@@ -633,6 +707,17 @@ static void put_size(uint8_t *out, uint32_t size)
     out[1] = size >> 8;
 }
 
+/* Notes where the facts D of each preference begin, and answers how many facts the translation has. */
+static uint32_t number_facts(Task *t)
+{
+    uint32_t facts = t->facts + 3 * t->preferences + 2;
+    for (uint32_t k = 0; k < t->preferences; k++) {
+        t->side[k].d = facts;
+        facts += t->side[k].steps + (t->marks[t->side[k].open] == WITHIN);
+    }
+    return facts;
+}
+
 static uint32_t translate(const uint8_t *file, size_t length, uint8_t *out, size_t room, uint64_t answer[8], int once)
 {
     Task t;
@@ -641,12 +726,12 @@ static uint32_t translate(const uint8_t *file, size_t length, uint8_t *out, size
         answer[0] = t.place;
         return t.number;
     }
-    uint32_t normal = t.facts + 3 * t.preferences;
-    if (normal + 2 > 128 || t.actions + 2 * t.preferences + 1 > 128) return ROUTE_RULES_TOO_MANY;
+    uint32_t normal = t.facts + 3 * t.preferences, facts = number_facts(&t);
+    if (facts > 128 || t.actions + 2 * t.preferences + 1 > 128) return ROUTE_RULES_TOO_MANY;
     uint64_t rows = count_rows(&t);
     if (rows > MAX_ROWS) return ROUTE_RULES_TRANSLATION_ROWS;
     if (room < 8 + 5 * rows) return ROUTE_RULES_SHORT_OUTPUT;
-    put_size(out, normal + 2);
+    put_size(out, facts);
     put_size(out + 2, t.actions + 2 * t.preferences + 1);
     put_size(out + 4, 0);
     put_size(out + 6, rows);

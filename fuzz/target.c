@@ -117,14 +117,25 @@ static void try_walk(Area file, Area plan, int at_end)
     if (words[1] == ROUTE_RULES_SOLVED && try_settle(file, words[3], words[4], at_end) != 0) fail("a solution that is not settled");
 }
 
+/* How many facts the deadlines of an accepted file have in its translation: as many as their steps, and one more for within. */
+static uint64_t deadline_facts(const uint8_t *file, uint64_t rows)
+{
+    uint64_t count = 0;
+    for (uint64_t i = 0; i < rows; i++) {
+        uint8_t mark = file[8 + i];
+        count += mark == 19 ? file[8 + rows + 4 * i] : mark == 17;
+    }
+    return count;
+}
+
 /* A translation is accepted, and its sizes follow from the source's. */
 static void try_translation(Area file, const uint8_t *out, size_t length)
 {
     route_rules_checked from, to;
     if (route_rules_check(file.at, file.length, &from) != 0 || route_rules_check(out, length, &to) != 0)
         fail("a translation that is refused");
-    if (to.facts != from.facts + 3 * from.preferences + 2 || to.actions != from.actions + 2 * from.preferences + 1 ||
-        to.preferences != 0 || length != 8 + 5 * to.rows)
+    if (to.facts != from.facts + 3 * from.preferences + 2 + deadline_facts(file.at, from.rows) ||
+        to.actions != from.actions + 2 * from.preferences + 1 || to.preferences != 0 || length != 8 + 5 * to.rows)
         fail("a translation of other sizes");
 }
 
@@ -180,6 +191,7 @@ static uint32_t wide(uint8_t mark, uint8_t value)
     switch (mark) {
     case 2: case 3: case 8: case 16: return value == 255;
     case 4: case 5: case 6: case 7: case 9: return value;
+    case 19: return value % 17;
     default: return value * 4000u; /* over a million from 251 on */
     }
 }
@@ -199,9 +211,9 @@ static size_t make_file(Data *d, uint8_t *file)
     uint32_t sizes[4] = {1 + next(d) % 128, 0, 0, 0}, changed = next(d), repeat = next(d);
     uint32_t times = repeat % 16 == 15 ? 1 + repeat : 1;
     while (d->left > 1) {
-        uint8_t mark = next(d) % 18, value = next(d);
+        uint8_t mark = next(d) % 21, value = next(d);
         sizes[1] += mark == 1;
-        sizes[2] += mark >= 10 && mark <= 15;
+        sizes[2] += mark >= 10 && mark <= 18 && mark != 16;
         for (uint32_t n = mark == 4 || mark == 5 ? times : 1; n > 0 && sizes[3] < ROUTE_RULES_MAX_ROWS; n--) {
             marks[sizes[3]] = mark;
             values[sizes[3]++] = wide(mark, value);

@@ -21,6 +21,8 @@ WRONG = [
     ('FACTS a\n\nADD a b', 'line 3: too many words'),
     ('FACTS a\nACTION 1 go now', 'line 2: too many words'),
     ('FACTS a b\nFACTS a', 'line 2: a fact named twice, or by a number'),
+    ('FACTS a\nGOAL\nwithin 7 6', 'line 3: too many words'),
+    ('FACTS a\nGOAL\nwithin 7\nSTEPS a', 'line 4: unknown name a'),
 ]
 
 

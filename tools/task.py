@@ -6,7 +6,7 @@ tools/task.py show FILE [TEXT]      writes a task file as text, with the names t
 tools/task.py plan TEXT STEPS       writes the plan of a text: names or numbers of the actions of TEXT
 tools/task.py source TEXT PLANNED   writes the source part of what a planner prints for the translation, a line `(aN)` for each step
 
-A text has a row on each line: document 01's name of the mark, then its value; a value that is 0 may be left out. '#' starts a
+A text has a row on each line: the documents' name of the mark, then its value; a value that is 0 may be left out. '#' starts a
 comment. FACTS and their names, or FACTS and how many, come first; a fact is then named or numbered. Behind the cost of an
 ACTION a name for it may stand. Sizes are counted. Nothing else is looked at: whether it is a task is for check to say.
 """
@@ -15,13 +15,13 @@ import struct
 import sys
 
 MARKS = ['ACTION', 'EFFECT', 'CLAUSE', 'HOLDS', 'LACKS', 'ADD', 'DELETE', 'GOAL', 'START', 'always', 'sometime', 'at-end',
-         'at-most-once', 'sometime-before', 'sometime-after', 'SECOND']
+         'at-most-once', 'sometime-before', 'sometime-after', 'SECOND', 'within', 'always-within', 'STEPS']
 MARK = {name: mark for mark, name in enumerate(MARKS, 1)}
 OF_FACTS = ['HOLDS', 'LACKS', 'ADD', 'DELETE', 'START']
-PREFERENCES = MARKS[9:15]
+PREFERENCES = MARKS[9:15] + MARKS[16:18]
 STEP = re.compile(r'\(a(0|[1-9][0-9]*)\)')
 # How far the rows are set in; an EFFECT's condition stands deeper than a precondition.
-DEPTH = {'EFFECT': 1, 'CLAUSE': 1, 'HOLDS': 2, 'LACKS': 2, 'ADD': 2, 'DELETE': 2, 'SECOND': 1}
+DEPTH = {'EFFECT': 1, 'CLAUSE': 1, 'HOLDS': 2, 'LACKS': 2, 'ADD': 2, 'DELETE': 2, 'SECOND': 1, 'STEPS': 1}
 
 
 class Wrong(Exception):
@@ -126,7 +126,7 @@ def words_of(name, value, facts, actions):
         return [name, name_of(value, facts)]
     if name == 'ACTION':
         return [name, str(value)] + [given for given in actions[:1] if given]
-    return [name, str(value)] if value or name in PREFERENCES else [name]
+    return [name, str(value)] if value or name == 'STEPS' or name in PREFERENCES else [name]
 
 
 def show(data, text=None):

@@ -1,7 +1,7 @@
 //! The tasks and plans that are measured.
 
 use peer::random::{task_and_plan, Random, Shape, MAX_FILE};
-use peer::task::MAX_ROWS;
+use peer::task::{MAX_DEADLINE, MAX_ROWS};
 use peer::{
     encode, pddl, translate, translated, walk, Action, Clause, Condition, Effect, Kind, Literal,
     Preference, Task, Verdict,
@@ -58,16 +58,14 @@ pub fn middle() -> Input {
     let shape = Shape {
         facts: 60,
         actions: 40,
-        preferences: 8,
+        kinds: Kind::all(6).to_vec(),
         clauses: 3,
         literals: 3,
         effects: 3,
         steps: 200,
     };
     let fits = |task: &Task, plan: &[u8]| {
-        let has = |&kind: &Kind| task.preferences.iter().any(|p| p.kind == kind);
         plan.len() == 200
-            && Kind::ALL.iter().all(has)
             && matches!(walk(&encode(task), plan), Ok(Verdict::Solved { .. }))
             && translated(task, MAX_ROWS).is_some()
     };
@@ -129,33 +127,35 @@ fn task(actions: Vec<Action>, preferences: Vec<Preference>) -> Task {
     }
 }
 
-/// 16 preferences of all kinds with so many rows of conditions between them.
-fn preferences(rows: usize) -> Vec<Preference> {
-    let sides: usize = (0..16).map(|k| sides(kind(k))).sum();
+/// Preferences of these kinds with so many rows of conditions between them.
+fn preferences(kinds: &[Kind], rows: usize) -> Vec<Preference> {
     let mut left = rows;
-    let mut still = sides;
+    let mut still: usize = kinds.iter().map(|&kind| sides(kind)).sum();
     let mut share = || {
         let n = left / still;
         left -= n;
         still -= 1;
         condition(n)
     };
-    (0..16)
-        .map(|k| Preference {
-            kind: kind(k),
-            weight: 7,
-            phi: share(),
-            psi: if kind(k).has_second() {
-                share()
-            } else {
-                vec![]
-            },
-        })
-        .collect()
+    let preference = |&kind: &Kind| Preference {
+        kind,
+        weight: 7,
+        phi: share(),
+        psi: if kind.has_second() { share() } else { vec![] },
+    };
+    kinds.iter().map(preference).collect()
 }
 
-fn kind(k: usize) -> Kind {
-    Kind::ALL[k % 6]
+/// 16 preferences of the six kinds without a deadline.
+fn six_kinds() -> Vec<Kind> {
+    (0..16).map(|k| Kind::all(0)[k % 6]).collect()
+}
+
+/// So many preferences with a deadline, the latest.
+fn deadlines(count: usize) -> Vec<Kind> {
+    (0..count)
+        .map(|k| Kind::all(MAX_DEADLINE)[6 + k % 2])
+        .collect()
 }
 
 fn sides(kind: Kind) -> usize {
@@ -168,24 +168,45 @@ fn sides(kind: Kind) -> usize {
 
 /// A task of so many rows, nearly all in its preferences, none of which is decided early.
 pub fn in_preferences(rows: usize, steps: usize) -> Input {
-    let small = task(vec![action(0, 0), action(0, 1)], preferences(64)).rows();
-    let full = task(
-        vec![action(0, 0), action(0, 1)],
-        preferences(rows + 64 - small),
-    );
+    let name = format!("{rows} rows in preferences, {steps} steps");
+    in_conditions(&name, rows, steps, |n| preferences(&six_kinds(), n))
+}
+
+/// The same with deadlines: each always-within is open in every other state.
+pub fn in_deadlines(rows: usize, steps: usize) -> Input {
+    let name = format!("{rows} rows in deadlines, {steps} steps");
+    in_conditions(&name, rows, steps, |n| {
+        let mut preferences = preferences(&deadlines(16), n);
+        for preference in &mut preferences {
+            if preference.kind.has_second() {
+                preference.psi.push(vec![Literal {
+                    holds: true,
+                    fact: 0,
+                }]);
+            }
+        }
+        preferences
+    })
+}
+
+/// A task of so many rows with two actions and preferences that have as many rows as it takes; the steps take both by turns.
+fn in_conditions(
+    name: &str,
+    rows: usize,
+    steps: usize,
+    preferences: impl Fn(usize) -> Vec<Preference>,
+) -> Input {
+    let with = |n| task(vec![action(0, 0), action(0, 1)], preferences(n));
+    let full = with(rows + 64 - with(64).rows());
     assert_eq!(full.rows(), rows);
     let plan = (0..steps).map(|i| (i % 2) as u8).collect();
-    input(
-        &format!("{rows} rows in preferences, {steps} steps"),
-        &full,
-        plan,
-    )
+    input(name, &full, plan)
 }
 
 /// A task of so many rows, nearly all in the one action that every step takes.
 pub fn in_action(rows: usize, steps: usize) -> Input {
-    let small = task(vec![action(2, 0)], preferences(64)).rows();
-    let full = task(vec![action(rows + 2 - small, 0)], preferences(64));
+    let with = |n| task(vec![action(n, 0)], preferences(&six_kinds(), 64));
+    let full = with(rows + 2 - with(2).rows());
     assert_eq!(full.rows(), rows);
     input(
         &format!("{rows} rows in an action, {steps} steps"),
@@ -196,18 +217,30 @@ pub fn in_action(rows: usize, steps: usize) -> Input {
 
 /// A task of 128 actions, 46 rows each, and a plan of 2,048 steps by the actions named, in turn.
 pub fn many_actions(name: &str, taken: &[u8]) -> Input {
-    let full = task((0..128).map(|_| action(42, 0)).collect(), preferences(64));
+    let actions = (0..128).map(|_| action(42, 0)).collect();
+    let full = task(actions, preferences(&six_kinds(), 64));
     let plan = taken.iter().copied().cycle().take(2_048).collect();
     input(&format!("128 actions, 2048 steps by {name}"), &full, plan)
 }
 
 /// A task whose translation has so many rows, most of them in the trackers of its actions.
 pub fn in_trackers(rows: usize, actions: usize) -> Input {
+    let name = format!("{rows} rows written, {actions} actions");
+    in_trackers_of(&name, &six_kinds(), rows, actions)
+}
+
+/// The same with two of the latest deadlines.
+pub fn in_deadline_trackers(rows: usize, actions: usize) -> Input {
+    let name = format!("{rows} rows written, deadlines, {actions} actions");
+    in_trackers_of(&name, &deadlines(2), rows, actions)
+}
+
+fn in_trackers_of(name: &str, kinds: &[Kind], rows: usize, actions: usize) -> Input {
     let of = |clauses: usize, goal: usize| Task {
         goal: vec![clause(goal)],
         ..task(
             (0..actions).map(|k| action(8, k % 2)).collect(),
-            preferences(clauses),
+            preferences(kinds, clauses),
         )
     };
     let length = |task: &Task| translated(task, 2 * MAX_ROWS).map(|t| t.rows());
@@ -219,11 +252,7 @@ pub fn in_trackers(rows: usize, actions: usize) -> Input {
     let missing = rows - length(&of(clauses, 1)).expect("rows");
     let full = of(clauses, 1 + missing);
     assert_eq!(length(&full), Some(rows));
-    input(
-        &format!("{rows} rows written, {actions} actions"),
-        &full,
-        vec![],
-    )
+    input(name, &full, vec![])
 }
 
 /// A task whose translation has so many rows, nearly all of them copied.

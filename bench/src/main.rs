@@ -131,6 +131,7 @@ fn comparison() {
         inputs::in_preferences(12_000, 2_048),
         inputs::in_action(12_000, 2_048),
         inputs::many_actions("each in turn", &Vec::from_iter(0..128)),
+        inputs::in_deadlines(12_000, 2_048),
     ];
     for input in &walked {
         line("walk and settle", input, &walk_and_settle(input));
@@ -143,6 +144,7 @@ fn comparison() {
         inputs::belt(),
         inputs::middle(),
         inputs::in_trackers(12_000, 40),
+        inputs::in_deadline_trackers(12_000, 4),
         inputs::copied(12_000),
     ];
     for input in &translated {

@@ -11,7 +11,8 @@ import sys
 import tempfile
 
 sys.dont_write_bytecode = True
-from vectors import PREFERENCES, WITH_SECOND, check, file, record, spelled
+from vectors import MARKS, PREFERENCES, check, file, record, spelled
+from vectors import preference as preference_of
 
 ANSWERS = ['accepted', *(f'refused {number}' for number in range(1, 7))]
 BATCH = 1000
@@ -39,8 +40,7 @@ def action(r, f):
 
 
 def preference(r, f):
-    kind = r.choice(PREFERENCES)
-    return f' {kind} {r.randint(0, 1000000)}' + condition(r, f) + (' SECOND' + condition(r, f) if kind in WITH_SECOND else '')
+    return preference_of(r.choice(PREFERENCES), r.randint(0, 1000000), condition(r, f), condition(r, f), r.randint(0, 15))
 
 
 def good_rows(r, f):
@@ -57,9 +57,9 @@ def damage_rows(r, rows):
     mark, value = rows[i]
     how = r.choice(['mark', 'value', 'swap', 'drop', 'repeat', 'cut'])
     if how == 'mark':
-        rows[i] = r.choice([*range(18), 255]), value
+        rows[i] = r.choice(MARKS), value
     elif how == 'value':
-        rows[i] = mark, r.choice([0, 1, value + 1, 127, 128, 255, 256, 1000000, 1000001, 2 ** 24, 2 ** 32 - 1])
+        rows[i] = mark, r.choice([0, 1, value + 1, 15, 16, 127, 128, 255, 256, 1000000, 1000001, 2 ** 24, 2 ** 32 - 1])
     elif how == 'swap':
         rows[i], rows[j] = rows[j], rows[i]
     elif how == 'repeat':

@@ -1,5 +1,6 @@
 #!/usr/bin/env python3
-"""The test vectors of check: document 01's task file and its refusals 1 to 6, in an account of their own.
+"""The test vectors of check: the task file of document 01 and of document 02's sixth request, and its refusals 1 to 6, in an account
+of their own.
 
 tests/check/vectors.py           writes crates/check_vectors/data/vectors and crates/check_vectors/stdout
 tests/check/vectors.py --check   writes nothing, and fails where these two files are not what it makes
@@ -11,17 +12,18 @@ import sys
 
 HERE = os.path.dirname(os.path.abspath(__file__))
 
-# Document 01's names of the marks 1 to 16.
+# The documents' names of the marks 1 to 19.
 NAMES = ['ACTION', 'EFFECT', 'CLAUSE', 'HOLDS', 'LACKS', 'ADD', 'DELETE', 'GOAL', 'START', 'always', 'sometime', 'at-end',
-         'at-most-once', 'sometime-before', 'sometime-after', 'SECOND']
+         'at-most-once', 'sometime-before', 'sometime-after', 'SECOND', 'within', 'always-within', 'STEPS']
 NAME = dict(enumerate(NAMES, 1))
 MARK = {name: mark for mark, name in NAME.items()}
-PREFERENCES = NAMES[9:15]
-WITH_SECOND = ['sometime-before', 'sometime-after']
+WITH_STEPS = ['within', 'always-within']
+PREFERENCES = NAMES[9:15] + WITH_STEPS
+WITH_SECOND = ['sometime-before', 'sometime-after', 'always-within']
 OF_FACTS = ['HOLDS', 'LACKS', 'ADD', 'DELETE']
 
 
-# ---- the account: the answer to a file, read from document 01 sentence by sentence
+# ---- the account: the answer to a file, read from the documents sentence by sentence
 
 class Refused(Exception):
     """Number and place."""
@@ -39,6 +41,8 @@ class Rows:
     def allows(self, name, value):
         if name == 'ACTION' or name in PREFERENCES:
             return value <= 1000000
+        if name == 'STEPS':
+            return value <= 15
         if name == 'START':
             return self.last_start < value < self.facts
         return value < self.facts if name in OF_FACTS else value == 0
@@ -76,6 +80,8 @@ class Rows:
 
     def preference(self):
         kind = self.take(*PREFERENCES)
+        if kind in WITH_STEPS:
+            self.take('STEPS')
         self.condition()
         if kind in WITH_SECOND:
             self.take('SECOND')
@@ -118,7 +124,7 @@ def check(data):
 # ---- making files
 
 def spelled(text):
-    """Rows in document 01's words, 'GOAL CLAUSE HOLDS 1': a value left out is 0, and '#17' is the mark 17."""
+    """Rows in the documents' words, 'GOAL CLAUSE HOLDS 1': a value left out is 0, and '#17' is the mark 17."""
     rows = []
     for word in text.split():
         if word.isdigit():
@@ -143,13 +149,19 @@ def goal(n):
     return 'GOAL CLAUSE' + ' HOLDS 3' * (n - 2)
 
 
+def preference(kind, weight, phi='', psi='', steps=0):
+    """The rows of a preference in words. ψ and the steps are left out where the kind has none."""
+    deadline = f' STEPS {steps}' if kind in WITH_STEPS else ''
+    return f' {kind} {weight}{deadline} {phi}' + (f' SECOND {psi}' if kind in WITH_SECOND else '')
+
+
 # ---- the vectors: what each is for, how its line begins where that is written down here too, and the file
 
 BELT = ('START 1  GOAL CLAUSE LACKS 1  ACTION 3 EFFECT ADD 0 DELETE 1  ACTION 1 EFFECT ADD 1 DELETE 0 '
         'always 5 CLAUSE LACKS 1  sometime 7 CLAUSE HOLDS 0')
 LONG = ' CLAUSE HOLDS 0 LACKS 3 CLAUSE LACKS 1 '
-SIX_KINDS = f'START 0 START 3 GOAL {LONG}' + 2 * f'ACTION 9 {LONG} EFFECT {LONG} ADD 0 ADD 1 DELETE 2 DELETE 3 EFFECT {LONG}' + (
-    ''.join(f'{kind} 7 {LONG}' + (f'SECOND {LONG}' if kind in WITH_SECOND else '') for kind in PREFERENCES))
+ALL_KINDS = f'START 0 START 3 GOAL {LONG}' + 2 * f'ACTION 9 {LONG} EFFECT {LONG} ADD 0 ADD 1 DELETE 2 DELETE 3 EFFECT {LONG}' + (
+    ''.join(preference(kind, 7, LONG, LONG, 15) for kind in PREFERENCES))
 
 
 def accepted_tasks():
@@ -164,7 +176,12 @@ def accepted_tasks():
             ('HOLDS and LACKS of one fact', 'GOAL CLAUSE HOLDS 1 LACKS 1 CLAUSE LACKS 1 CLAUSE HOLDS 1'),
             ('a fact added twice, deleted twice, both', 'GOAL ACTION EFFECT ADD 1 ADD 1 DELETE 2 DELETE 2 EFFECT ADD 1 DELETE 1'),
             ('an action and a preference twice', 'GOAL ACTION 1 ACTION 1 always 1 always 1'),
-            ('all six kinds, every part in its longest form', SIX_KINDS)]:
+            ('all eight kinds, every part in its longest form', ALL_KINDS),
+            ('deadlines, empty conditions', 'GOAL within STEPS always-within STEPS SECOND within 1 STEPS 15'),
+            ('deadlines, φ empty', 'GOAL always-within STEPS 1 SECOND CLAUSE HOLDS 1'),
+            ('deadlines, ψ empty', 'GOAL always-within STEPS 2 CLAUSE HOLDS 1 SECOND'),
+            ('deadlines among the other kinds', 'GOAL always within STEPS 3 at-end always-within STEPS 4 SECOND sometime-after SECOND'),
+            ('16 deadlines', 'GOAL' + 8 * ' within 1000000 STEPS 15 always-within 1000000 STEPS 15 SECOND')]:
         yield what, 'accepted', file(text)
     yield 'a belt and a gate', 'accepted 2 2 2 18', file(BELT, F=2)
 
@@ -198,8 +215,11 @@ def lengths_and_sizes():
 def values():
     for name in ['ACTION', *PREFERENCES]:
         for value in [0, 65536, 1000000, 1000001, 2 ** 24, 2 ** 32 - 1]:
-            text = f'GOAL {name} {value}' + (' SECOND' if name in WITH_SECOND else '')
+            text = f'GOAL {name} {value}' if name == 'ACTION' else 'GOAL' + preference(name, value)
             yield f'{name} {value}', 'accepted' if value <= 1000000 else 'refused 5 1', file(text)
+    for name in WITH_STEPS:
+        for value in [0, 1, 8, 14, 15, 16, 17, 31, 256, 2 ** 32 - 1]:
+            yield f'{name}, STEPS {value}', 'accepted' if value <= 15 else 'refused 5 2', file('GOAL' + preference(name, 5, steps=value))
     for before, names in [('', 'START'), ('GOAL CLAUSE', 'HOLDS LACKS'), ('GOAL ACTION CLAUSE', 'HOLDS LACKS'),
                           ('GOAL ACTION EFFECT CLAUSE', 'HOLDS LACKS'), ('GOAL ACTION EFFECT', 'ADD DELETE'),
                           ('GOAL at-end CLAUSE', 'HOLDS LACKS'), ('GOAL sometime-after SECOND CLAUSE', 'HOLDS LACKS')]:
@@ -220,17 +240,47 @@ def values():
     yield 'START of all 128 facts, the last again', 'refused 5 128', file(every + ' START 127 GOAL', F=128)
 
 
+MARKS = [*range(21), 255]
+
+
+def limit(mark):
+    """The greatest value that a mark allows, F being 4."""
+    name = NAME.get(mark)
+    return 1000000 if name in ['ACTION', *PREFERENCES] else 3 if name in ['START', *OF_FACTS] else 15 if name == 'STEPS' else 0
+
+
+def with_condition(owner):
+    return [owner + more for more in ['', ' CLAUSE', ' CLAUSE HOLDS 1']]
+
+
 def contexts():
-    """Every context against every mark, with a value that the mark allows and with one that it does not."""
-    owners = ['GOAL', 'GOAL ACTION 5', 'GOAL ACTION 5 EFFECT', *(f'GOAL {kind} 5' for kind in PREFERENCES),
-              *(f'GOAL {kind} 5 SECOND' for kind in WITH_SECOND)]
-    conditions = [owner + more for owner in owners for more in ['', ' CLAUSE', ' CLAUSE HOLDS 1']]
+    """Every context without a deadline against every mark, with a value that the mark allows and with one that it does not."""
+    without = [kind for kind in PREFERENCES if kind not in WITH_STEPS]
+    owners = ['GOAL', 'GOAL ACTION 5', 'GOAL ACTION 5 EFFECT', *(f'GOAL {kind} 5' for kind in without),
+              *(f'GOAL {kind} 5 SECOND' for kind in without if kind in WITH_SECOND)]
+    conditions = [before for owner in owners for before in with_condition(owner)]
     for before in ['', 'START 0', *conditions, 'GOAL ACTION 5 EFFECT ADD 1', 'GOAL ACTION 5 EFFECT DELETE 1']:
-        for mark in [*range(18), 255]:
-            name = NAME.get(mark)
-            limit = 1000000 if name in ['ACTION', *PREFERENCES] else 3 if name in ['START', *OF_FACTS] else 0
-            for value in [limit, limit + 1]:
+        for mark in MARKS:
+            for value in [limit(mark), limit(mark) + 1]:
                 yield f'{before}, then mark {mark} with {value}', '', file(f'{before} #{mark} {value}')
+
+
+def contexts_of_deadlines():
+    """Their contexts against every mark, with a value that it does not allow: 5 says that it may come. Then rows out of order."""
+    owners = ['GOAL within 5 STEPS 15', 'GOAL always-within 5 STEPS 15', 'GOAL always-within 5 STEPS 15 SECOND']
+    conditions = [before for owner in owners for before in with_condition(owner)]
+    for before in ['GOAL within 5', 'GOAL always-within 5', *conditions]:
+        for mark in MARKS:
+            yield f'{before}, then mark {mark}, too great', '', file(f'{before} #{mark} {limit(mark) + 1}')
+    for text, row in [
+            ('GOAL within CLAUSE HOLDS 0 STEPS 1', 2), ('GOAL within SECOND', 2), ('GOAL within STEPS 1 STEPS 1', 3),
+            ('GOAL within STEPS 1 CLAUSE HOLDS 0 STEPS 1', 5), ('GOAL within STEPS 1 SECOND', 3),
+            ('GOAL within STEPS 1 CLAUSE HOLDS 0 SECOND', 5), ('GOAL within always-within STEPS 1 SECOND', 2),
+            ('GOAL always-within SECOND STEPS 1', 2), ('GOAL always-within STEPS 1 SECOND STEPS 1', 4),
+            ('GOAL always-within STEPS 1 SECOND SECOND', 4), ('GOAL always-within STEPS 1 always', 3),
+            ('GOAL always STEPS 1', 2), ('GOAL sometime-before STEPS 1 SECOND', 2), ('GOAL sometime-after SECOND STEPS 1', 3),
+            ('GOAL at-end CLAUSE HOLDS 0 STEPS 1', 4), ('STEPS 1 GOAL', 0), ('GOAL STEPS 1', 1), ('GOAL ACTION STEPS 1', 2)]:
+        yield text, f'refused 4 {row}', file(text)
 
 
 def order_of_causes():
@@ -242,7 +292,9 @@ def order_of_causes():
         yield what, answer, file(text)
     for text in ['', 'START 0', 'START 0 START 1', 'GOAL CLAUSE', goal(4) + ' CLAUSE', goal(299) + ' CLAUSE', 'GOAL ACTION CLAUSE',
                  'GOAL ACTION EFFECT CLAUSE', 'GOAL always CLAUSE', 'GOAL sometime-before', 'GOAL sometime-before CLAUSE',
-                 'GOAL sometime-after', 'GOAL sometime-after CLAUSE HOLDS 1', 'GOAL sometime-after SECOND CLAUSE']:
+                 'GOAL sometime-after', 'GOAL sometime-after CLAUSE HOLDS 1', 'GOAL sometime-after SECOND CLAUSE',
+                 'GOAL within', 'GOAL within STEPS 15 CLAUSE', 'GOAL always-within', 'GOAL always-within STEPS 15',
+                 'GOAL always-within STEPS 15 CLAUSE HOLDS 1', 'GOAL always-within STEPS 15 SECOND CLAUSE']:
         yield f'ends inside a task: {text[-50:]}', f'refused 4 {len(spelled(text))}', file(text)
         yield f'ends inside a task, before 6: {text[-50:]}', f'refused 4 {len(spelled(text))}', file(text, A=7, P=7)
 
@@ -256,13 +308,14 @@ def counts():
     for what, text, header in [
             ('129 actions', 'GOAL' + ' ACTION' * 129, dict(A=128)), ('257 actions', 'GOAL' + ' ACTION' * 257, dict(A=1)),
             ('17 preferences', 'GOAL' + ' at-end' * 17, dict(P=16)), ('272 preferences', 'GOAL' + ' at-end' * 272, dict(P=16)),
+            ('17 deadlines', 'GOAL' + ' within STEPS' * 17, dict(P=16)), ('one deadline', 'GOAL within STEPS', dict(P=0)),
             ('no action', 'GOAL', dict(A=128)), ('no preference', 'GOAL', dict(P=16)), ('300 rows', goal(300), dict(A=1))]:
         yield f'{what}, and {header}', f'refused 6 {len(spelled(text))}', file(text, **header)
 
 
 def vectors():
     """What each vector is for, the file, and the line that the program has to write."""
-    for family in [accepted_tasks, lengths_and_sizes, values, contexts, order_of_causes, counts]:
+    for family in [accepted_tasks, lengths_and_sizes, values, contexts, contexts_of_deadlines, order_of_causes, counts]:
         for what, answer, data in family():
             line = check(data)
             assert answer in ('', line, line.split()[0]), f'{what}: {line}, and not {answer}'

@@ -1,5 +1,5 @@
 #!/usr/bin/env python3
-"""The test vectors of program judge: task files and plans, and the texts that document 01 wants for them.
+"""The test vectors of program judge: task files and plans, and the texts that documents 01 and 02 want for them.
 
 tests/judge/vectors.py           writes crates/judge_vectors/data/vectors and crates/judge_vectors/stdout
 tests/judge/vectors.py --check   writes nothing, and fails where these two files are not what it makes
@@ -25,8 +25,8 @@ import sys
 
 HERE = os.path.dirname(os.path.abspath(__file__))
 ACCOUNT = runpy.run_path(os.path.join(HERE, '../check/vectors.py'))
-check, file, record, store = ACCOUNT['check'], ACCOUNT['file'], ACCOUNT['record'], ACCOUNT['store']
-NAME, PREFERENCES, WITH_SECOND, BELT = (ACCOUNT[name] for name in ['NAME', 'PREFERENCES', 'WITH_SECOND', 'BELT'])
+check, file, preference, record, store = (ACCOUNT[name] for name in ['check', 'file', 'preference', 'record', 'store'])
+NAME, PREFERENCES, WITH_STEPS, BELT = (ACCOUNT[name] for name in ['NAME', 'PREFERENCES', 'WITH_STEPS', 'BELT'])
 
 
 # ---- the texts
@@ -61,7 +61,8 @@ def task_facts(data, t=''):
             yield f'condition({t}{condition}).'
         says = {'START': f'start({t}{value}).', 'ACTION': f'action({t}{a},{value}).', 'preference': f'preference({t}{k},"{name}",{value}).',
                 'ADD': f'gives({t}{a},{e},holds,{value}).', 'DELETE': f'gives({t}{a},{e},lacks,{value}).', 'CLAUSE': f'clause({t}{condition},{c}).',
-                'HOLDS': f'literal({t}{condition},{c},holds,{value}).', 'LACKS': f'literal({t}{condition},{c},lacks,{value}).'}
+                'HOLDS': f'literal({t}{condition},{c},holds,{value}).', 'LACKS': f'literal({t}{condition},{c},lacks,{value}).',
+                'STEPS': f'deadline({t}{k},{value}).'}
         yield says.get(row, '')
 
 
@@ -102,7 +103,7 @@ def verdict(atoms, data, plan):
 # between the lines, or its first line, or that line's first word, or the outcomes of all preferences
 
 MOST = 1000000
-PHI, PHI_PSI = 'CLAUSE HOLDS 0', 'CLAUSE HOLDS 0 SECOND CLAUSE HOLDS 1'
+PHI, PSI, PHI_PSI = 'CLAUSE HOLDS 0', 'CLAUSE HOLDS 1', 'CLAUSE HOLDS 0 SECOND CLAUSE HOLDS 1'
 SETTERS = 'ACTION 1 EFFECT DELETE 0 DELETE 1 ACTION 2 EFFECT ADD 0 DELETE 1 ACTION 3 EFFECT ADD 1 DELETE 0 ACTION 4 EFFECT ADD 0 ADD 1 '
 
 
@@ -121,7 +122,7 @@ def belt():
 
 
 def kinds():
-    """The kinds on traces picked by hand, document 01's (a) to (j) among them, and then on all short traces."""
+    """The kinds without a deadline on traces picked by hand, document 01's (a) to (j) among them, and then on all short traces."""
     for kind, met, missed in [
             ('always', 'f ff fff fffffff', '- -- --- -ff f-f ff- f-- --f fffff-'),
             ('sometime', 'f f-- -f- --f ff- fff -----f', '- -- ---'),
@@ -130,13 +131,48 @@ def kinds():
             ('sometime-before', '- p -p --- pf p-f pb -pf -pb p-b pff pfpf pp--f', 'f b f- b- -f -b fp bf ff -fp -bf fpf bpf fpb -f-p'),
             ('sometime-after', '- p b -- -b b- fp bp fb pb --p b-- f-p ffp bbp fpb fb- fpfp fp-- pbb-', 'f f- -f ff pf bf fpf fbf f-- pf- ppf fpfpf b-f-')]:
         for trace in met.split() + missed.split():
-            task_and_plan = traced(trace, f'{kind} 5 ' + (PHI_PSI if kind in WITH_SECOND else PHI))
-            yield f'{kind} {trace}', *task_and_plan, 'met' if trace in met.split() else 'missed'
+            yield f'{kind} {trace}', *traced(trace, preference(kind, 5, PHI, PSI)), 'met' if trace in met.split() else 'missed'
     four = f'always 1 {PHI} sometime 2 {PHI} at-end 4 {PHI} at-most-once 8 {PHI}'
     two = f'sometime-before 1 {PHI_PSI} sometime-after 2 {PHI_PSI}'
     for what, letters, most, preferences in [('four kinds', '-f', 5, four), ('two kinds', '-fpb', 4, two)]:
         for trace in itertools.chain(*(itertools.product(letters, repeat=states) for states in range(1, most + 1))):
             yield f'{what} on all traces, ' + ''.join(trace), *traced(trace, preferences), ''
+
+
+def deadlines():
+    """The kinds with a deadline on traces picked by hand, and then on all short traces."""
+    for kind, steps, met, missed in [
+            ('within', 0, 'f f- ff', '- -f --f'), ('within', 1, 'f f-- -f -f- ff', '- -- --f --ff'),
+            ('within', 2, '--f -f- f--f', '- -- --- ---f ---ff'), ('within', 3, 'f ---f', '---- ----f'),
+            ('within', 15, f'f --f {"-" * 15}f {"-" * 15}f-', f'- --- {"-" * 16} {"-" * 16}f {"-" * 20}f'),
+            ('always-within', 0, '- p b bb pb -b- bpb', 'f f- fp fb bf pf fpf bfb'),
+            ('always-within', 1, 'fp fb -fp bfp fp-- fpfp fpfb', 'f ff pf f-p ffp fpf -f- f--p fp-f bf-p'),
+            ('always-within', 2, 'fp f-p ffp fpf-p f-pf-b', 'f f- fff ff-p f--p f-pf pf--p f--pppp'),
+            ('always-within', 3, 'f--p fffp fffpffb', 'f-- f---p ffffp fffpff f----'),
+            ('always-within', 15, f'f{"-" * 14}p {"f" * 15}p {"f" * 15}b', f'f pf pf--- f{"-" * 15}p {"f" * 16}p')]:
+        for trace in met.split() + missed.split():
+            answer = 'met' if trace in met.split() else 'missed'
+            yield f'{kind} {steps} {trace}', *traced(trace, preference(kind, 5, PHI, PSI, steps)), answer
+    ten = ''.join(preference(kind, 1 << steps, PHI, PSI, steps) for steps in [0, 1, 2, 3, 15] for kind in WITH_STEPS)
+    for letters, lengths in [('-fpb', [1, 2, 3]), ('-fp', [4]), ('-f', [5])]:
+        for trace in itertools.chain(*(itertools.product(letters, repeat=states) for states in lengths)):
+            yield 'deadlines on all traces, ' + ''.join(trace), *traced(trace, ten), ''
+
+
+def long_deadlines():
+    """The answers are those of within 14, always-within 14, within 15 and always-within 15."""
+    four = ''.join(preference(kind, 5, PHI, PSI, steps) for steps in [14, 15] for kind in WITH_STEPS)
+    for what, trace, answer in [
+            ('2,049 states, φ in the last alone', '-' * 2048 + 'f', 'missed missed missed missed'),
+            ('2,049 states, φ in 15 alone', '-' * 15 + 'f' + '-' * 2033, 'missed missed met missed'),
+            ('2,049 states, φ in 2,033, ψ in the last', '-' * 2033 + 'f' + '-' * 14 + 'p', 'missed missed missed met'),
+            ('2,049 states, φ in 0, ψ in the last', 'f' + '-' * 2047 + 'p', 'met missed met missed'),
+            ('2,049 states, ψ in each 16th, φ in all others', ('f' * 15 + 'p') * 128 + '-', 'met missed met met'),
+            ('2,049 states, ψ in each 16th, φ in the last too', ('f' * 15 + 'p') * 128 + 'f', 'met missed met missed'),
+            ('260 states, φ in 256 and 257', '-' * 256 + 'ff--', 'missed missed missed missed'),
+            ('272 states, φ in 0 and 255, ψ in 1 and 270', 'fp' + '-' * 253 + 'f' + '-' * 14 + 'p-', 'met missed met met'),
+            ('257 states, φ in 0, ψ in 256', 'f' + '-' * 255 + 'p', 'met missed met missed')]:
+        yield what, *traced(trace, four), answer
 
 
 def stopped_and_missed():
@@ -178,6 +214,10 @@ def empty_conditions():
         yield f'sometime-after with empty ψ, {trace}', *traced(trace, 'sometime-after 9 CLAUSE HOLDS 0 SECOND'), 'met'
     for trace, answer in [('-', 'missed'), ('p', 'met'), ('-p', 'met'), ('p-', 'missed'), ('f-b', 'met'), ('b-f', 'missed')]:
         yield f'sometime-after with empty φ, {trace}', *traced(trace, 'sometime-after 9 SECOND CLAUSE HOLDS 1'), answer
+    for trace, answer in [('-', 'missed'), ('p', 'met'), ('-p', 'met'), ('p-', 'missed'), ('p-p', 'met'), ('p--p', 'missed'), ('-b-b', 'met')]:
+        yield f'always-within 1 with empty φ, {trace}', *traced(trace, preference('always-within', 9, '', PSI, 1)), answer
+        yield f'within 0 with empty φ, {trace}', *traced(trace, preference('within', 9)), 'met'
+        yield f'always-within 0 with empty ψ, {trace}', *traced(trace, preference('always-within', 9, PHI)), 'met'
 
 
 def conditions():
@@ -278,8 +318,9 @@ def refused():
     for what, data, answer in [
             ('no byte', b'', '1 0'), ('7 bytes', task[:7], '1 0'), ('F 0', file('GOAL', F=0), '2 0'), ('A 129', file('GOAL', A=129), '2 0'),
             ('P 17', file('GOAL', P=17), '2 0'), ('one byte short', task[:-1], '3 0'), ('one byte long', task + b'\0', '3 0'),
-            ('N 0', file(''), '4 0'), ('an unknown mark', file('GOAL #17'), '4 1'), ('ends in a clause', file('GOAL ACTION CLAUSE'), '4 3'),
-            ('no SECOND', file('GOAL sometime-after'), '4 2'), ('a fact too high', file('GOAL CLAUSE HOLDS 4'), '5 2'),
+            ('N 0', file(''), '4 0'), ('an unknown mark', file('GOAL #20'), '4 1'), ('ends in a clause', file('GOAL ACTION CLAUSE'), '4 3'),
+            ('no SECOND', file('GOAL sometime-after'), '4 2'), ('no STEPS', file('GOAL within'), '4 2'), ('STEPS 16', file('GOAL within STEPS 16'), '5 2'),
+            ('a fact too high', file('GOAL CLAUSE HOLDS 4'), '5 2'),
             ('START not rising', file('START 1 START 1 GOAL'), '5 1'), ('a weight too high', file('GOAL always 1000001'), '5 1'),
             ('an action too many', file('GOAL ACTION', A=0), '6 2'), ('a preference too few', file('GOAL', P=1), '6 1')]:
         for plan in [[], [255], [0] * 2049]:
@@ -308,22 +349,22 @@ def random_tasks(count=200, seed=2009):
     def action():
         return f' ACTION {one_of([0, 1, 2, 5, 9, MOST])}' + condition([0, 0, 0, 1], [3]) + some([1, 2, 3, 4], effect)
 
-    def preference():
-        kind, phi, psi = one_of(PREFERENCES), condition([0, 1, 1, 1, 1, 2], [1, 1, 2]), condition([0, 1, 1, 1, 1, 2], [1, 1, 2])
-        return f' {kind} {one_of([0, 1, 4, 7, 30, MOST])}' + phi + (' SECOND' + psi if kind in WITH_SECOND else '')
+    def rule():
+        phi, psi = (condition([0, 1, 1, 1, 1, 2], [1, 1, 2]) for _ in range(2))
+        return preference(one_of(PREFERENCES), one_of([0, 1, 4, 7, 30, MOST]), phi, psi, one_of([0, 1, 1, 2, 2, 3, 5, 15]))
 
     for number in range(count):
         used = one_of([[0, 1], [0, 1, 2], [0, 1, 2, 3], [0, 63, 64, 127]])
         starts = ''.join(f'START {f} ' for f in used if r.random() < 0.4)
         goal_and_actions = 'GOAL' + condition([0, 0, 0, 1], [2, 3]) + some([2, 3, 4], action)
-        data = file(starts + goal_and_actions + some([1, 2, 3, 4, 6], preference), F=used[-1] + 1)
+        data = file(starts + goal_and_actions + some([1, 2, 3, 4, 6], rule), F=used[-1] + 1)
         yield f'random {number}', data, [one_of(range(data[2])) for _ in range(one_of([0, 1, 2, 4, 6, 8, 10, 12]))], ''
 
 
 def vectors():
     """What each vector is for, the task file, the plan, and the text."""
     families = [belt, kinds, stopped_and_missed, facts_of_both_words, empty_conditions, conditions, effects, amounts, long_plans, refused,
-                random_tasks]
+                random_tasks, deadlines, long_deadlines]
     made = [(what, data, bytes(plan), answer) for family in families for what, data, plan, answer in family()]
     texts = {t: refusal(data, plan) for t, (_, data, plan, _) in enumerate(made)}
     atoms = {t: {} for t in texts if not texts[t]}

@@ -36,6 +36,7 @@ REFUSED = [
     ('a preference too few', dict(compiled=file('GOAL', P=1), **old), 'refused 6 1\n'),
     ('preferences', dict(compiled=belt), 'refused 13 0\n'),
     ('preferences, and old texts', dict(compiled=belt, **old), 'refused 13 0\n'),
+    ('a preference with a deadline', dict(compiled=file('GOAL within STEPS 1'), **old), 'refused 13 0\n'),
     ('preferences, and folders for texts', {'compiled': belt, 'domain.pddl': FOLDER, 'problem.pddl': FOLDER}, 'refused 13 0\n'),
 ]
 

@@ -25,7 +25,7 @@ import sys
 HERE = os.path.dirname(os.path.abspath(__file__))
 ACCOUNT = runpy.run_path(os.path.join(HERE, '../check/vectors.py'))
 check, file, goal, record, store = (ACCOUNT[name] for name in ['check', 'file', 'goal', 'record', 'store'])
-PREFERENCES, WITH_SECOND, BELT = (ACCOUNT[name] for name in ['PREFERENCES', 'WITH_SECOND', 'BELT'])
+PREFERENCES, WITH_STEPS, BELT = (ACCOUNT[name] for name in ['PREFERENCES', 'WITH_STEPS', 'BELT'])
 JUDGE = runpy.run_path(os.path.join(HERE, '../judge/vectors.py'))
 rows, derived = JUDGE['rows'], JUDGE['derived']
 
@@ -79,12 +79,12 @@ ACTIONS = f'ACTION 1000000 {LONG} EFFECT {LONG} ADD 1 DELETE 2 ACTION 9'  # thei
 
 
 def preference(kind, weight, condition=LONG):
-    return f' {kind} {weight} {condition}' + (f' SECOND {condition}' if kind in WITH_SECOND else '')
+    return ACCOUNT['preference'](kind, weight, condition, condition, 15)  # its steps are no weight
 
 
-def task(each, condition=LONG):
+def task(each, condition=LONG, kinds=PREFERENCES):
     """A task with a preference of each of these weights, the kinds by turns."""
-    preferences = (preference(PREFERENCES[k % 6], weight, condition) for k, weight in enumerate(each))
+    preferences = (preference(kinds[k % len(kinds)], weight, condition) for k, weight in enumerate(each))
     return file(f'START 2 GOAL {condition} {ACTIONS}' + ''.join(preferences))
 
 
@@ -99,17 +99,20 @@ def belt():
 
 
 def kinds():
-    """Each kind alone, with short conditions and long ones; then all six, every set of them met."""
+    """Each kind alone, with short conditions and long ones; then six kinds, and deadlines, every set of them met."""
     for kind in PREFERENCES:
         for what, condition in [('empty', ''), ('short', 'CLAUSE HOLDS 0'), ('long', LONG)]:
             data = file(f'GOAL {ACTIONS}' + preference(kind, 5, condition))
             yield f'{kind}, {what}, met', data, 7, 1, 'metric 7 utility -2'
             yield f'{kind}, {what}, missed', data, 7, 0, 'metric 12 utility -7'
             yield f'{kind}, {what}, and another bit', data, 7, 2, 'refused 15 0'
-    six = task([1, 10, 100, 1000, 10000, 100000])
+    six, deadlines = task([1, 10, 100, 1000, 10000, 100000]), task([1, 10, 100, 1000], kinds=WITH_STEPS)
     for met in range(64):
         gained = int(f'{met:b}')  # the weights are the places of a decimal number
         yield f'six kinds, met {met:06b}', six, 0, met, f'metric {111111 - gained} utility {gained}'
+    for met in range(16):
+        gained = int(f'{met:b}')
+        yield f'deadlines, met {met:04b}', deadlines, 0, met, f'metric {1111 - gained} utility {gained}'
 
 
 def numbers():
@@ -178,6 +181,8 @@ def no_plan():
             ('both of two that exclude each other', 'GOAL at-end 4 CLAUSE HOLDS 0 at-end 2 CLAUSE LACKS 0', 0, 3, 'metric 0 utility 6'),
             ('128 actions of the greatest cost', 'GOAL' + f' ACTION {WEIGHT}' * 128 + ' sometime 3', 1, 1, 'metric 1 utility 2'),
             ('128 START rows', ' '.join(f'START {f}' for f in range(128)) + ' GOAL at-end 3', 1, 0, 'metric 4 utility -1'),
+            ('within 0 a fact that lacks, met', 'GOAL within 4 STEPS 0 CLAUSE HOLDS 0', 0, 1, 'metric 0 utility 4'),
+            ('deadlines of 15, weights of 0', 'GOAL within 0 STEPS 15 always-within 0 STEPS 15 SECOND', 1, 1, 'metric 1 utility -1'),
             ('12,000 rows', f'{goal(11982)}{" ACTION 9" * 2}' + ' at-end 3' * 16, 1, 3, 'metric 43 utility 5')]:
         yield what, file(text, F=128), cost, met, answer
 
@@ -188,8 +193,9 @@ def refused():
     for what, data, answer in [
             ('no byte', b'', '1 0'), ('7 bytes', good[:7], '1 0'), ('F 0', file('GOAL', F=0), '2 0'), ('A 129', file('GOAL', A=129), '2 0'),
             ('P 17', file('GOAL' + ' at-end' * 17), '2 0'), ('N 12,001', file('GOAL', N=12001), '2 0'), ('one byte short', good[:-1], '3 0'),
-            ('one byte long', good + b'\0', '3 0'), ('N 0', file(''), '4 0'), ('an unknown mark', file('GOAL always 5 #17'), '4 2'),
-            ('no SECOND', file('GOAL sometime-after 5'), '4 2'), ('a weight too high', file('GOAL always 1000001'), '5 1'),
+            ('one byte long', good + b'\0', '3 0'), ('N 0', file(''), '4 0'), ('an unknown mark', file('GOAL always 5 #20'), '4 2'),
+            ('no SECOND', file('GOAL sometime-after 5'), '4 2'), ('no STEPS', file('GOAL within 5'), '4 2'),
+            ('STEPS 16', file('GOAL within 5 STEPS 16'), '5 2'), ('a weight too high', file('GOAL always 1000001'), '5 1'),
             ('a fact too high', file('GOAL always 5 CLAUSE HOLDS 4'), '5 3'), ('START not rising', file('START 1 START 1 GOAL'), '5 1'),
             ('a preference too few', file('GOAL always 5', P=2), '6 2'), ('a preference too many', file('GOAL always 5', P=0), '6 2'),
             ('an action too many', file('GOAL ACTION always 5', A=0), '6 3')]:

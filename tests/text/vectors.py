@@ -75,6 +75,8 @@ many = file('GOAL' + ''.join(f' ACTION {a + 1}' for a in range(128)))  # action 
 one = file('GOAL ACTION 1')
 ladder = file('START 0 GOAL CLAUSE HOLDS 2 ACTION 1 CLAUSE HOLDS 0 EFFECT ADD 1 DELETE 0 ACTION 2 CLAUSE HOLDS 1 EFFECT ADD 2 DELETE 1 '
               'ACTION 4 EFFECT DELETE 2 sometime 8 CLAUSE HOLDS 1 at-end 16 CLAUSE HOLDS 0', F=3)
+timed = file('START 0 GOAL ACTION 1 EFFECT DELETE 0 ACTION 2 within 8 STEPS 1 CLAUSE LACKS 0 '
+             'always-within 16 STEPS 2 CLAUSE HOLDS 0 SECOND CLAUSE LACKS 0', F=1)
 
 
 def empty_and_comments():
@@ -220,7 +222,7 @@ def refused_tasks():
     for what, data, answer in [
             ('no byte', b'', '1 0'), ('7 bytes', belt[:7], '1 0'), ('F 0', file('GOAL', F=0), '2 0'),
             ('one byte more', belt + b'\0', '3 0'),
-            ('an unknown mark', file('GOAL #17'), '4 1'), ('ends in a clause', file('GOAL ACTION CLAUSE'), '4 3'),
+            ('an unknown mark', file('GOAL #20'), '4 1'), ('ends in a clause', file('GOAL ACTION CLAUSE'), '4 3'),
             ('a fact too high', file('GOAL CLAUSE HOLDS 4'), '5 2'), ('an action too many', file('GOAL ACTION', A=0), '6 2')]:
         for form, text, first in [
                 ('no byte', b'', 'read 0'), ('a step', b'(a0)\n', 'read 1'), ('an unknown step', b'(a300)\n', 'read 1'),
@@ -254,7 +256,11 @@ def verdicts():
             ('44 is known, 300 is not', many, b'(a44)\n(a300)\n', 'read 2|(a44)|(a255)|refused 11 1'),
             ('0 is known, 256 is not', one, b'(a0)\n(a256)\n', 'read 2|(a0)|(a255)|refused 11 1'),
             ('A 0, a step', file('GOAL'), b'(a0)\n', 'read 1|(a0)|refused 11 0'),
-            ('A 0, no step', file('GOAL'), b';\n', 'read 0|solved cost 0 metric 0')]:
+            ('A 0, no step', file('GOAL'), b';\n', 'read 0|solved cost 0 metric 0'),
+            ('deadlines met, comments are no steps', timed, b';\n;\n;\n(a0)\n', 'read 1|(a0)|solved cost 1 metric 1'),
+            ('one deadline met', timed, b'(a1)\n;\n(a0)\n', 'read 2|(a1)|(a0)|solved cost 3 metric 11'),
+            ('no deadline met', timed, b'(a1)\n(a1)\n(a0)\n', 'read 3|(a1)|(a1)|(a0)|solved cost 5 metric 29'),
+            ('no step, deadlines missed', timed, b'', 'read 0|solved cost 0 metric 24')]:
         yield what, data, text, answer
 
 

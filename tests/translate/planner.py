@@ -3,8 +3,8 @@
 
 tests/translate/planner.py PROGRAM [COUNT [SEED]]     PROGRAM is target/bin/translate
 
-The planner is two logic programs run by gringo and clasp (Debian packages of these names). source.lp plans on the task, by document
-01's meanings of the preferences, with at most HORIZON steps. classical.lp knows nothing of preferences, and plans on the bytes that
+The planner is two logic programs run by gringo and clasp (Debian packages of these names). source.lp plans on the task, by the
+documents' meanings of the preferences, with at most HORIZON steps. classical.lp knows nothing of preferences, and plans on the bytes that
 translate wrote, with 1 + P steps more: end, and one to close each preference. Then, for the cheapest list and for the dearest:
 - the least (greatest) cost of the translation is the least (greatest) metric of the task, or neither has a solution;
 - the list on the translation is source steps, then end, then collect or forgo of each preference in order;
@@ -23,8 +23,7 @@ import sys
 
 HERE = os.path.dirname(os.path.abspath(__file__))
 ACCOUNT = runpy.run_path(os.path.join(HERE, '../check/vectors.py'))
-check, file, BELT = ACCOUNT['check'], ACCOUNT['file'], ACCOUNT['BELT']
-PREFERENCES, WITH_SECOND = ACCOUNT['PREFERENCES'], ACCOUNT['WITH_SECOND']
+check, file, preference, BELT, PREFERENCES = (ACCOUNT[name] for name in ['check', 'file', 'preference', 'BELT', 'PREFERENCES'])
 JUDGE = runpy.run_path(os.path.join(HERE, '../judge/vectors.py'))
 rows, task_facts = JUDGE['rows'], JUDGE['task_facts']
 run = runpy.run_path(os.path.join(HERE, '../programs.py'))['run']
@@ -67,13 +66,13 @@ def random_task(r):
     def action(g):
         return f' ACTION {r.choice([0, 1, 1, 2, 3])}' + condition(0, 0, 0, 1) + change(g) + some([0, 1, 2, 2], effect)
 
-    def preference():
-        kind, phi, psi = r.choice(PREFERENCES), condition(0, 1, 1, 1, 1, 2), condition(0, 1, 1, 1, 1, 2)
-        return f' {kind} {r.randint(0, 9)}' + phi + (' SECOND' + psi if kind in WITH_SECOND else '')
+    def rule():
+        phi, psi = (condition(0, 1, 1, 1, 1, 2) for _ in range(2))
+        return preference(r.choice(PREFERENCES), r.randint(0, 9), phi, psi, r.choice([0, 1, 1, 2, 2, 3, 4, 15]))
 
     starts = ''.join(f' START {fact}' for fact in opening)
     goal = ' GOAL' + some([0, 1, 1, 2], lambda: ask(r.randrange(a), True) if r.random() < 0.8 else condition(1))
-    return file(starts + goal + ''.join(map(action, range(a))) + some([0, 1, 2, 3, 3], preference), F=f)
+    return file(starts + goal + ''.join(map(action, range(a))) + some([0, 1, 2, 3, 3], rule), F=f)
 
 
 def words(data):
@@ -114,6 +113,12 @@ def plan(program, data, horizon, sign, steps=None):
 
 # ---- a task and its translation
 
+def added_facts(data):
+    """How many facts the translation of a task has more: three a preference, two, and those of deadlines."""
+    kinds = [name for name, _ in rows(data) if name in PREFERENCES]
+    return 3 * len(kinds) + 2 + kinds.count('within') + sum(value for name, value in rows(data) if name == 'STEPS')
+
+
 def difference(program, data):
     """What is wrong with the translation of a task, or nothing; and the lists found on the translation, by the names in SIGNS."""
     found = {}
@@ -122,7 +127,7 @@ def difference(program, data):
         return f'translate prints {printed + errors!r}', found
     f, a, p, _ = struct.unpack_from('<4H', data)
     compiled = files.get('compiled', b'')
-    line, sizes = check(compiled), f'accepted {f + 3 * p + 2} {a + 2 * p + 1} 0 '
+    line, sizes = check(compiled), f'accepted {f + added_facts(data)} {a + 2 * p + 1} 0 '
     if not line.startswith(sizes):
         return f'the translation is {line}, and not {sizes}...', found
     for name, sign in SIGNS.items():

@@ -30,8 +30,37 @@ REFUSED = [
     ('one byte more than the longest task', dict(task=longest + b'\0', compiled=old), 'refused 3 0\n'),
     ('a million bytes', dict(task=longest + bytes(1000000)), 'refused 3 0\n'),
     ('129 facts', dict(task=file('GOAL', F=127), compiled=old), 'refused 7 0\n'),
+    ('129 facts, 16 of them of a deadline', dict(task=file('GOAL within STEPS 15', F=108), compiled=old), 'refused 7 0\n'),
     ('the longest task', dict(task=longest, compiled=old), 'refused 8 0\n'),
 ]
+
+
+# ---- deadlines, their trackers row by row
+
+PHI, PSI = 'CLAUSE HOLDS 0', 'CLAUSE HOLDS 1 LACKS 0 CLAUSE HOLDS 1'
+NOT_0, NOT_1 = 'CLAUSE LACKS 1 CLAUSE HOLDS 0', 'CLAUSE LACKS 1'  # each clause of ψ denied
+# Two facts, S 2, B 3, C 4, normal 5, ended 6, D1 7, D2 8. A preference, its trackers, what collect and forgo ask, and all facts.
+DEADLINES = [
+    (f'within 9 STEPS 0 {PHI}', f'EFFECT ADD 7 EFFECT CLAUSE LACKS 7 {PHI} ADD 2', ('HOLDS 2', 'LACKS 2'), 8),
+    (f'within 9 STEPS 1 {PHI}', f'EFFECT ADD 7 EFFECT CLAUSE HOLDS 7 ADD 8 EFFECT CLAUSE LACKS 8 {PHI} ADD 2', ('HOLDS 2', 'LACKS 2'), 9),
+    (f'always-within 9 STEPS 0 {PHI} SECOND {PSI}',
+     f'EFFECT {PHI} {NOT_0} ADD 3 ADD 2 EFFECT {PHI} {NOT_1} ADD 3 ADD 2 EFFECT CLAUSE LACKS 2 {PSI} DELETE 3', ('LACKS 3', 'HOLDS 3'), 7),
+    (f'always-within 9 STEPS 1 {PHI} SECOND {PSI}',
+     f'EFFECT {PHI} {NOT_0} ADD 3 ADD 7 EFFECT {PHI} {NOT_1} ADD 3 ADD 7 '
+     f'EFFECT CLAUSE HOLDS 7 {NOT_0} ADD 2 EFFECT CLAUSE HOLDS 7 {NOT_1} ADD 2 '
+     f'EFFECT CLAUSE LACKS 2 {PSI} DELETE 3 DELETE 7', ('LACKS 3', 'HOLDS 3'), 8),
+    (f'always-within 9 STEPS 2 SECOND {NOT_1}',
+     'EFFECT CLAUSE HOLDS 1 ADD 3 ADD 7 EFFECT CLAUSE HOLDS 7 CLAUSE HOLDS 1 ADD 8 EFFECT CLAUSE HOLDS 8 CLAUSE HOLDS 1 ADD 2 '
+     f'EFFECT CLAUSE LACKS 2 {NOT_1} DELETE 3 DELETE 7 DELETE 8', ('LACKS 3', 'HOLDS 3'), 9),
+]
+
+
+def with_deadline(trackers, met, missed, facts):
+    """The translation of a task with an action of cost 4 and one preference."""
+    return file(f'START 5 GOAL CLAUSE HOLDS 6 CLAUSE HOLDS 4 ACTION 4 CLAUSE HOLDS 5 {trackers} '
+                f'ACTION 0 CLAUSE HOLDS 5 EFFECT ADD 6 DELETE 5 {trackers} '
+                f'ACTION 0 CLAUSE HOLDS 6 CLAUSE LACKS 4 CLAUSE {met} EFFECT ADD 4 '
+                f'ACTION 9 CLAUSE HOLDS 6 CLAUSE LACKS 4 CLAUSE {missed} EFFECT ADD 4', F=facts)
 
 
 def main(program):
@@ -49,10 +78,18 @@ def main(program):
     for longer in [old, compiled, bytes(100000)]:
         if run(program, dict(task=belt, compiled=longer)) != ('', '', made):
             sys.exit(f'the belt, over a compiled of {len(longer)} bytes')
+    for preference, trackers, closings, facts in DEADLINES:
+        task = file(f'GOAL ACTION 4 {preference}', F=2)
+        got = run(program, dict(task=task))
+        if got != ('', '', dict(task=task, compiled=with_deadline(trackers, *closings, facts))):
+            sys.exit(f'{preference}: {got}')
+    widest = run(program, dict(task=file('GOAL within STEPS 15 always-within STEPS 15 SECOND', F=89)))
+    if widest[:2] != ('', '') or widest[2]['compiled'][0] != 128:
+        sys.exit('128 facts, 31 of them of deadlines')
     most = run(program, dict(task=file(goal(11991))))
     if most[:2] != ('', '') or len(most[2]['compiled']) != 60008:
         sys.exit('the longest translation')
-    print(f'program translate: {len(REFUSED) + 5} cases as they should be')
+    print(f'program translate: {len(REFUSED) + len(DEADLINES) + 6} cases as they should be')
 
 
 if __name__ == '__main__':

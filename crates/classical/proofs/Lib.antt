@@ -1,5 +1,7 @@
 -- The trackers
 pub mod Conditions
+pub mod Adding
+pub mod Deadlines
 pub mod Trackers
 pub mod AllTrackers
 -- The translated task beside its source

@@ -12,7 +12,7 @@ use Rattle.task.specs.Marks.{CLAUSE, LACKS}
 use Rattle.task.specs.File.{paired}
 use Rattle.task.specs.Rows.{valueAt, between, Stops}
 use Rattle.task.proofs.Tests.{as-true, not-both, both-true, all-map}
-use Rattle.task.proofs.Back.{literal-passes}
+use Rattle.task.proofs.Passing.{literal-passes}
 use Rattle.task.proofs.Reading.{passes, mark-at, value-at}
 use Rattle.task.proofs.Positions.{drop-next}
 use Rattle.text.specs.Ascii.{ascii}

@@ -9,7 +9,7 @@ use Rattle.task.specs.Marks.{ACTION, DELETE}
 use Rattle.task.specs.Task.{Action, Row, row, conditionRows, effectRows, actionRows}
 use Rattle.task.specs.File.{paired}
 use Rattle.task.specs.Rows.{valueAt, between}
-use Rattle.task.proofs.Back.{stepRows}
+use Rattle.task.proofs.Passing.{stepRows}
 use Rattle.task.proofs.Reading.{value-at}
 use Rattle.task.proofs.Positions.{drop-next, drop-behind, effects-stop}
 use Rattle.text.specs.Ascii.{ascii}

@@ -10,7 +10,7 @@ use Rattle.task.specs.Task.{Preference, Task, Row, row, kindMark, preferenceRow
 use Rattle.task.specs.File.{paired, isPreference}
 use Rattle.task.specs.Rows.{run, runAt}
 use Rattle.task.proofs.Tests.{tests, noneOf, without, as-true, as-false}
-use Rattle.task.proofs.Back.{sideRows, sides-pass}
+use Rattle.task.proofs.Passing.{sideRows, sides-pass}
 use Rattle.task.proofs.Positions.{kind-preference, front, front-no-preference}
 use Rattle.task.proofs.Reading.{passes, fold, fold-append, run-stop, run-through}
 use Rattle.plan.specs.Counting.{counting, countAt}
@@ -39,7 +39,7 @@ module _ {W : Type 0} (one : W → Row → W) where
       ∙ ap (λ (u : W). fold (counting one) u (concatMap preferenceRows qs))
       (ap (λ (b : Bool). fold (counting one) (cond b w′ w) (sideRows q))
       (as-true (isPreference (openingRow q)) (kind-preference (q .kind) (q .weight)))
-      ∙ others w′ (sideRows q) (sides-pass (without isPreference) (λ v. tt) (λ v. tt) (λ v. tt) (λ v. tt) q))
+      ∙ others w′ (sideRows q) (sides-pass (without isPreference) (λ v. tt) (λ v. tt) (λ v. tt) (λ v. tt) (λ v. tt) q))
       ∙ all-counted w′ qs
 
   rows-folded : (w : W) (ms vs : List ℕ) (at : ℕ) (ys : List Row) → drop at (paired ms vs) ≡ ys → countAt one w ms vs at ≡ fold (counting one) w ys

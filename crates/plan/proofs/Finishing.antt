@@ -25,6 +25,7 @@ use Rattle.plan.specs.Walked.{solved, goal-missed}
 use Rattle.plan.specs.Counting.{countAt}
 use Rattle.plan.specs.Met.{noneMet, found}
 use Rattle.plan.specs.Steps.{isGood, solvedBy, lastVerdict, MonitorsAre}
+use Rattle.plan.specs.declared.monitors.Monitor as Monitors
 use Rattle.plan.specs.declared.steps.Position.{Position}
 use Rattle.plan.proofs.TaskRead.{goal-read}
 use Rattle.plan.proofs.Meeting.{met-is}
@@ -43,17 +44,17 @@ module _ (t : Task) (ms vs : List ℕ) (R : Reads t ms vs) (p : Position) (μ : 
   abbrev μ′ : Preference → Monitor
   μ′ q = step (q .kind) true (μ q) (seen q σ)
 
-  module _ (true-one : e .holds ≡ true) (at : ℕ) (prefs : PreferencesAt t ms vs at) (are : MonitorsAre t p μ)
-      (set : State) (watched : Watched ms vs at true σ (member (p .set)) (member set))
-      (found-ones : State) (says : (vs : List ℕ) → member found-ones ≡ countAt (found (member set)) noneMet ms vs at .met)
+  module _ (true-one : e .holds ≡ true) (at : ℕ) (prefs : PreferencesAt t ms vs at) (l : List Monitors.Monitor) (are : MonitorsAre t l μ)
+      (l′ : List Monitors.Monitor) (watched : Watched ms vs at true σ l l′)
+      (found-ones : State) (says : (vs : List ℕ) → member found-ones ≡ countAt (found l′) noneMet ms vs at .met)
       (fits : found-ones .low < 2 ^ 64) where
-    few : length (t .preferences) ≤ 64
-    few = omega (arith, R .few-preferences)
+    few : length (t .preferences) ≤ 16
+    few = R .few-preferences
 
     spelled : T (all preferenceSpellable (t .preferences))
     spelled = let s = R .spelling in search tests
 
-    have-seen : (j : ℕ) → j < length (t .preferences) → monitorAt (member set) j ≡ μ′ (preferenceAt t j)
+    have-seen : (j : ℕ) → j < length (t .preferences) → monitorAt l′ j ≡ μ′ (preferenceAt t j)
     have-seen j h =
         watched (t .preferences) prefs spelled few j h
         ∙ ap (λ (x : Monitor). step (preferenceAt t j .kind) true x (seen (preferenceAt t j) σ)) (are j h)
@@ -62,7 +63,7 @@ module _ (t : Task) (ms vs : List ℕ) (R : Reads t ms vs) (p : Position) (μ : 
     outcomes = map (isGood μ′) (t .preferences)
 
     found-is : (x : ℕ) → member found-ones x ≡ getD outcomes x false
-    found-is x = ap (λ (f : Facts). f x) (says vs) ∙ met-is (member set) μ′ ms vs at (t .preferences) prefs few have-seen x
+    found-is x = ap (λ (f : Facts). f x) (says vs) ∙ met-is l′ μ′ ms vs at (t .preferences) prefs few have-seen x
 
     -- the met preferences are the low word's bits, and it has no others
     bits : (x : ℕ) → bit (found-ones .low) x ≡ getD outcomes x false

@@ -1,6 +1,5 @@
 -- One monitor, and the monitors of all preferences
 pub mod ByMark
-pub mod Bits
 pub mod SidesRead
 pub mod Watching
 -- The preferences counted: those that are met, and their weights

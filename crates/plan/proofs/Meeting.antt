@@ -13,23 +13,24 @@ use Rattle.task.specs.Task.{Preference, kindMark, preferenceRows}
 use Rattle.task.specs.File.{paired, kindOf}
 use Rattle.task.specs.Meaning.{State as Facts, noPreference}
 use Rattle.task.specs.Monitor.{Monitor, good}
-use Rattle.task.proofs.Back.{kind-back}
 use Rattle.state.specs.Member.{single, union}
 use Rattle.plan.specs.Monitors.{monitorAt}
 use Rattle.plan.specs.Counting.{countAt}
 use Rattle.plan.specs.Met.{Met, noneMet, found, asFound}
+use Rattle.plan.specs.declared.monitors.Monitor as Monitors
 use Rattle.plan.specs.declared.met.Found.{Found}
+use Rattle.plan.proofs.ByMark.{good-by-mark}
 use Rattle.plan.proofs.Counting.{countAll, preferences-counted}
 
 -- what holds before row i is read
-pub record Finding (ms : List ℕ) (at : ℕ) (f : Facts) (r : Found) (i : ℕ) : Type 0 where
+pub record Finding (ms : List ℕ) (at : ℕ) (f : List Monitors.Monitor) (r : Found) (i : ℕ) : Type 0 where
   pub rows-left : i ≤ length ms
   pub few : r .number ≤ i
   pub same : (vs : List ℕ) → countAt (found f) (asFound r) ms vs i ≡ countAt (found f) noneMet ms vs at
 
 -- Preference by preference, with monitors μ
 
-module _ (f : Facts) (μ : Preference → Monitor) where
+module _ (f : List Monitors.Monitor) (μ : Preference → Monitor) where
   abbrev ok : Preference → Bool
   ok q = good (q .kind) (μ q)
 
@@ -53,8 +54,8 @@ module _ (f : Facts) (μ : Preference → Monitor) where
   by-monitors : (t : Met) (qs : List Preference) → MonitorsFrom (t .number) qs → countAll (found f) t qs ≡ addAll t qs
   by-monitors t [] m = refl
   by-monitors t (q ∷ qs) m =
-      let e : good (kindOf (kindMark (q .kind))) (monitorAt f (t .number)) ≡ ok q =
-      ap₂ good (kind-back (q .kind)) (ap (monitorAt f) (sym (add-zero (t .number))) ∙ m 0 (omega arith)) in
+      let e : good (kindOf (kindMark (q .kind)) 0) (monitorAt f (t .number)) ≡ ok q =
+      good-by-mark (q .kind) 0 (monitorAt f (t .number)) ∙ ap (good (q .kind)) (ap (monitorAt f) (sym (add-zero (t .number))) ∙ m 0 (omega arith)) in
       ap (λ (b : Bool). countAll (found f) (one t b) qs) e
       ∙ by-monitors (one t (ok q)) qs
       (λ j h. ap (λ (n : ℕ). monitorAt f (n + j)) (one-number t (ok q)) ∙ ap (monitorAt f) (shift (t .number) j) ∙ m (suc j) (omega arith))
@@ -106,7 +107,7 @@ module _ (f : Facts) (μ : Preference → Monitor) where
       put few false = sym (or-false (t .met x))
 
   pub met-is : (ms vs : List ℕ) (at : ℕ) (qs : List Preference) → drop at (paired ms vs) ≡ concatMap preferenceRows qs
-      → length qs ≤ 64 → ((j : ℕ) → j < length qs → monitorAt f j ≡ μ (getD qs j noPreference))
+      → length qs ≤ 16 → ((j : ℕ) → j < length qs → monitorAt f j ≡ μ (getD qs j noPreference))
       → (x : ℕ) → countAt (found f) noneMet ms vs at .met x ≡ getD (map ok qs) x false
   met-is ms vs at qs e few m x =
       ap (λ (t : Met). t .met x) (preferences-counted (found f) noneMet ms vs at qs e ∙ by-monitors noneMet qs (λ j h. ap (monitorAt f) (zero-add j) ∙ m j h))

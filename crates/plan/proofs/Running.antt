@@ -15,13 +15,15 @@ use Rattle.task.specs.Meaning.{State as Facts, isTrue, opening, after, actionAt
 use Rattle.task.specs.Monitor.{Monitor, fresh, step}
 use Rattle.task.specs.Verdict
 use Rattle.task.specs.Verdict.{stepsApplied, metSet, verdict}
-use Rattle.task.proofs.Tests.{all-at}
+use Rattle.task.proofs.Tests.{tests, all-at}
 use Rattle.task.proofs.Watched.{stepAll, watchAll, good-watched}
-use Rattle.state.specs.Member.{member, empty}
-use Rattle.plan.specs.Monitors.{monitorAt}
+use Rattle.state.specs.Member.{member}
+use Rattle.plan.specs.Reads.{Reads, PreferencesAt}
+use Rattle.plan.specs.Monitors.{monitorAt, Watched}
 use Rattle.plan.specs.Walked.{Walk, solved, stopped, goal-missed, unpriced}
 use Rattle.plan.specs.Places.{AllBelow, Layout}
 use Rattle.plan.specs.Steps.{Leads, solvedBy, lastVerdict, MonitorsAre}
+use Rattle.plan.specs.declared.monitors.Monitor as Monitors
 use Rattle.plan.specs.declared.steps.Position.{Position}
 
 -- the verdict on the steps from step i on, in state σ, with monitors μ and cost c so far
@@ -71,17 +73,17 @@ from-the-opening t p =
 
 -- The loop over the steps
 
--- position p stands before step i, with some monitors
-pub record Stands (t : Task) (plan : List ℕ) (p : Position) (i : ℕ) : Type 0 where
+-- position p and the monitors l stand before step i
+pub record Stands (t : Task) (plan : List ℕ) (p : Position) (l : List Monitors.Monitor) (i : ℕ) : Type 0 where
   pub monitors : Preference → Monitor
-  pub are : MonitorsAre t p monitors
+  pub are : MonitorsAre t l monitors
   pub same : verdictFrom t (member (p .state)) monitors (p .cost) i (drop i plan) ≡ unpriced (verdict t plan)
 
 -- what holds before step i
-pub record Running (ms vs : List ℕ) (at goal : ℕ) (starts : List ℕ) (σ : Facts) (plan : List ℕ) (p : Position) (i : ℕ) : Type 0 where
+pub record Running (ms vs : List ℕ) (at goal : ℕ) (starts : List ℕ) (σ : Facts) (plan : List ℕ) (p : Position) (l : List Monitors.Monitor) (i : ℕ) : Type 0 where
   pub steps-left : i ≤ length plan
   pub little : p .cost ≤ i * 4294967296
-  pub stands : (t : Task) → Layout t ms vs at goal starts → σ ≡ opening t → Stands t plan p i
+  pub stands : (t : Task) → Layout t ms vs at goal starts → σ ≡ opening t → Stands t plan p l i
 
 -- each step of a plan of steps below n
 pub known : (n : ℕ) (plan : List ℕ) → AllBelow n plan → (i : ℕ) → i < length plan → (k : ℕ) → k ≡ getD plan i 0 → k < n
@@ -89,14 +91,14 @@ known n plan all-known i h k read =
     subst⁻¹ (λ (j : ℕ). j < n) read (ltb→lt (getD plan i 0) n (all-at (λ (j : ℕ). ltb j n) plan i 0 all-known h))
 
 module _ (t : Task) (plan : List ℕ) where
-  pub begins : (p : Position) → member (p .state) ≡ opening t → member (p .set) ≡ empty → p .cost ≡ 0 → Stands t plan p 0
-  begins p s m c = record {
+  pub begins : (p : Position) (l : List Monitors.Monitor) → member (p .state) ≡ opening t → ((k : ℕ) → monitorAt l k ≡ fresh) → p .cost ≡ 0 → Stands t plan p l 0
+  begins p l s m c = record {
     monitors = λ q. fresh;
-    are = λ j h. ap (λ (f : Facts). monitorAt f j) m;
+    are = λ j h. m j;
     same = ap₂ (λ (f : Facts) (n : ℕ). verdictFrom t f (λ (q : Preference). fresh) n 0 plan) s c ∙ from-the-opening t plan;
   }
 
-  module _ (p : Position) (i : ℕ) (s : Stands t plan p i) where
+  module _ (p : Position) (l : List Monitors.Monitor) (i : ℕ) (s : Stands t plan p l i) where
     pub ends : length plan ≤ i → lastVerdict t (member (p .state)) (s .monitors) (p .cost) ≡ unpriced (verdict t plan)
     ends h =
         ap (verdictFrom t (member (p .state)) (s .monitors) (p .cost) i) (sym (drop-of-length-le plan {i = i} h)) ∙ s .same
@@ -113,12 +115,13 @@ module _ (t : Task) (plan : List ℕ) where
       pub stops : applies t (member (p .state)) k ≡ false → stopped i ≡ unpriced (verdict t plan)
       stops e = rw e at here
 
-      pub goes-on : (q : Position) → Leads t k p q → Stands t plan q (i + 1)
-      goes-on q l = record {
+      pub goes-on : (q : Position) → Leads t k p q → (ms vs : List ℕ) (at : ℕ) → Reads t ms vs → PreferencesAt t ms vs at
+          → (l′ : List Monitors.Monitor) → Watched ms vs at false (member (p .state)) l l′ → Stands t plan q l′ (i + 1)
+      goes-on q leads ms vs at R prefs l′ watched = record {
         monitors = stepAll false (s .monitors) (member (p .state));
-        are = λ j b. l .monitors j b
+        are = λ j b. watched (t .preferences) prefs (let s = R .spelling in search tests) (R .few-preferences) j b
             ∙ ap (λ (m : Monitor). step (preferenceAt t j .kind) false m (seen (preferenceAt t j) (member (p .state)))) (s .are j b);
         same =
-            (λ z. verdictFrom t (l .state z) (stepAll false (s .monitors) (member (p .state))) (l .cost z) (i + 1) (drop (add-one i z) plan))
-            ∙ (rw (l .applying) at here);
+            (λ z. verdictFrom t (leads .state z) (stepAll false (s .monitors) (member (p .state))) (leads .cost z) (i + 1) (drop (add-one i z) plan))
+            ∙ (rw (leads .applying) at here);
       }

@@ -20,8 +20,7 @@ use Rattle.state.specs.declared.conditions.Evaluated.{Evaluated}
 use Rattle.state.specs.declared.effects.Applied.{Applied}
 use Rattle.state.specs.declared.State.{State}
 use Rattle.plan.specs.Places.{actionRow}
-use Rattle.plan.specs.Monitors.{Watched}
-use Rattle.plan.specs.Reads.{Reads, PreferencesAt}
+use Rattle.plan.specs.Reads.{Reads}
 use Rattle.plan.specs.Steps.{Leads}
 use Rattle.plan.specs.declared.steps.Position.{Position}
 use Rattle.plan.proofs.TaskRead.{at, cost-read, precondition-read, effects-read}
@@ -46,20 +45,12 @@ module _ (t : Task) (ms vs : List ℕ) (R : Reads t ms vs) (k : ℕ) (h : k < le
     reached : member (a .state) ≡ applyAt σ none ms vs (e .next) .state
     reached = ap (λ (r : Result). r .state) moved
 
-    pub led : (set : State) (c : ℕ) → i < length ms → c ≡ p .cost + valueAt vs i → (j : ℕ) → PreferencesAt t ms vs j
-        → Watched ms vs j false σ (member (p .set)) (member set) → Leads t k p (record { state = a .state; set = set; cost = c })
-    led set c within cost j prefs watched = record {
+    pub led : (c : ℕ) → i < length ms → c ≡ p .cost + valueAt vs i → Leads t k p (record { state = a .state; cost = c })
+    led c within cost = record {
       applying = sym applying ∙ true-one;
       state =
           reached
           ∙ ap (λ (n : ℕ). applyAt σ none ms vs n .state) (ap (λ (x : Evaluated). x .next) whole)
           ∙ effects-read t ms vs R k h σ;
       cost = cost ∙ ap (λ (n : ℕ). p .cost + n) (ap (valueAt vs) there ∙ cost-read t ms vs R k h (subst (λ (n : ℕ). n < length ms) there within));
-      monitors = watched (t .preferences) prefs spelled few;
     }
-      where
-        spelled : T (all preferenceSpellable (t .preferences))
-        spelled = let s = R .spelling in search tests
-
-        few : length (t .preferences) ≤ 64
-        few = omega (arith, R .few-preferences)

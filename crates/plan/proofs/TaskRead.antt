@@ -13,7 +13,8 @@ use Rattle.task.proofs.Tests.{upTo-map}
 use Rattle.task.proofs.Bytes.{marks-paired}
 use Rattle.task.proofs.Reading.{value-at}
 use Rattle.task.proofs.WellFormed.{start-below, effects-below}
-use Rattle.task.proofs.Back.{fromGoal, task-grouped, stepRows}
+use Rattle.task.proofs.Passing.{stepRows}
+use Rattle.task.proofs.Back.{fromGoal, task-grouped}
 use Rattle.task.proofs.Positions.{drop-next, drop-behind, tailRows, tail-stops, effects-stop, goal-behind, preferences-behind}
 use Rattle.state.specs.Member.{empty}
 use Rattle.state.specs.Conditions.{inCondition, start, evaluateAt}

@@ -1,48 +1,68 @@
 -- The loop over the preferences: one monitor after the other sees the state.
 use mathlib.Core.Path.{_≡_, refl, sym, ap, _∙_, subst, subst⁻¹}
 use mathlib.Core.Bool.{Bool, true, false, cond}
-use mathlib.Core.List.{List, _∷_}
-use Prim.Native.Nat.{ℕ, suc, _+_, _≤_, _<_}
+use mathlib.Core.List.{List, [], _∷_}
+use Prim.Native.Nat.{ℕ, zero, suc, _+_, _≤_, _<_}
 use native.Mathlib.Numerals.{add-one}
 use native.Mathlib.Omega.{arith}
 use lib.Dec.{T, eqb, ltb}
-use lib.ListN.{length, drop, getD, drop-of-length-le}
-use lib.Seq.{drop-cons}
+use lib.ListN.{length, drop, getD, set, drop-of-length-le}
+use lib.Seq.{drop-cons, getD-set-same, getD-set-other}
 use borrow.Author.Tests.{ne-eqb, ltb-true, ltb-false, eqb-true, eqb-false}
 use Rattle.task.specs.Lists.{all, concatMap, nonEmpty}
 use Rattle.task.specs.Task.{Preference, Row, preferenceRows}
 use Rattle.task.specs.File.{paired, kindOf}
+use Rattle.task.specs.Rows.{stepsAt}
 use Rattle.task.specs.Spelling.{preferenceSpellable}
 use Rattle.task.specs.Meaning.{State as Facts, isTrue, seen, noPreference}
 use Rattle.task.specs.Monitor.{Monitor, step}
-use Rattle.task.proofs.Tests.{all-at}
-use Rattle.task.proofs.Back.{kind-back}
+use Rattle.task.proofs.Tests.{tests, all-at}
 use Rattle.task.proofs.Reading.{row-at, row-end}
 use Rattle.task.proofs.Positions.{drop-behind}
+use Rattle.task.proofs.Steps.{kind-at}
+use Rattle.plan.specs.declared.monitors.Monitor as Monitors
 use Rattle.plan.specs.declared.monitors.Sides.{Sides}
-use Rattle.plan.specs.Monitors.{monitorAt, Sees, Watched}
-use Rattle.plan.proofs.SidesRead.{mark-is}
+use Rattle.plan.specs.Monitors.{asMonitor, blank, monitorAt, Sides-of, Sees, Watched}
+
+-- so many fresh ones
+abbrev blanks : ℕ → List Monitors.Monitor
+blanks zero = []
+blanks (suc n) = blank ∷ blanks n
+
+pub blank-at : (n k : ℕ) → getD (blanks n) k blank ≡ blank
+blank-at zero k = refl
+blank-at (suc n) zero = refl
+blank-at (suc n) (suc k) = blank-at n k
+
+-- one of them put into a list
+pub monitor-put : (l : List Monitors.Monitor) (k : ℕ) → k < length l → (m : Monitors.Monitor) (x : Monitor) → asMonitor m ≡ x
+    → (j : ℕ) → monitorAt (set l k m) j ≡ cond (eqb j k) x (monitorAt l j)
+monitor-put l k h m x e j = go (eqb j k) refl
+  where
+    go : (b : Bool) → eqb j k ≡ b → monitorAt (set l k m) j ≡ cond b x (monitorAt l j)
+    go true p = ap (λ (n : ℕ). monitorAt (set l k m) n) (eqb-true j k p) ∙ ap asMonitor (getD-set-same l k m blank h) ∙ e
+    go false p = ap asMonitor (getD-set-other l k j m blank (eqb-false j k p))
 
 -- k monitors have seen σ, and the next preference stands at row i
-pub record Seen-by (ms vs : List ℕ) (last : Bool) (σ before : Facts) (qs : List Preference) (now : Facts) (k i : ℕ) : Type 0 where
+pub record Seen-by (ms vs : List ℕ) (last : Bool) (σ : Facts) (before : List Monitors.Monitor) (qs : List Preference) (now : List Monitors.Monitor) (k i : ℕ) : Type 0 where
   pub within : k ≤ length qs
   pub rest : drop i (paired ms vs) ≡ concatMap preferenceRows (drop k qs)
   pub done : (j : ℕ) → j < k
       → monitorAt now j ≡ step (getD qs j noPreference .kind) last (monitorAt before j) (seen (getD qs j noPreference) σ)
-  pub still : (j : ℕ) → k ≤ j → j < 64 → monitorAt now j ≡ monitorAt before j
+  pub still : (j : ℕ) → k ≤ j → monitorAt now j ≡ monitorAt before j
 
 -- what holds before row i is read
-pub record Watching (ms vs : List ℕ) (at : ℕ) (last : Bool) (σ before now : Facts) (k i : ℕ) : Type 0 where
+pub record Watching (ms vs : List ℕ) (at : ℕ) (last : Bool) (σ : Facts) (before now : List Monitors.Monitor) (k i : ℕ) : Type 0 where
   pub few : k + at ≤ i
   pub so-far : (qs : List Preference) → drop at (paired ms vs) ≡ concatMap preferenceRows qs → T (all preferenceSpellable qs)
-      → length qs ≤ 64 → Seen-by ms vs last σ before qs now k i
+      → length qs ≤ 16 → Seen-by ms vs last σ before qs now k i
 
-module _ (ms vs : List ℕ) (at : ℕ) (last : Bool) (σ before : Facts) where
+module _ (ms vs : List ℕ) (at : ℕ) (last : Bool) (σ : Facts) (before : List Monitors.Monitor) where
   pub begins : Watching ms vs at last σ before before 0 at
   begins = record {
     few = omega arith;
     so-far = λ qs e ok many.
-        record { within = omega arith; rest = e; done = λ j h. absurd (omega arith); still = λ j lo h. refl };
+        record { within = omega arith; rest = e; done = λ j h. absurd (omega arith); still = λ j lo. refl };
   }
 
   some-left : (k i : ℕ) (qs : List Preference) → i < length ms → drop i (paired ms vs) ≡ concatMap preferenceRows (drop k qs) → k < length qs
@@ -63,10 +83,14 @@ module _ (ms vs : List ℕ) (at : ℕ) (last : Bool) (σ before : Facts) where
           (sym (row-end ms vs i h) ∙ e ∙ ap (concatMap preferenceRows) (drop-cons qs k noPreference (ltb-true k (length qs) p))) tt)
       go false p = ltb-false k (length qs) p
 
-  module _ (now then : Facts) (k i : ℕ) (h : i < length ms) (r : Sides) (sees : Sees ms vs i σ r) (x : Monitor)
-      (stepped : x ≡ step (kindOf (getD ms i 0)) last (monitorAt now k) (record { φ = r .phi; ψ = r .psi }))
-      (put : k < 64 → (j : ℕ) → j < 64 → monitorAt then j ≡ cond (eqb j k) x (monitorAt now j)) where
-    one-more : (qs : List Preference) → T (all preferenceSpellable qs) → length qs ≤ 64
+  module _ (now then : List Monitors.Monitor) (k i : ℕ) (h : i < length ms) (r : Sides) (sees : Sees ms vs i σ r) (steps : r .steps ≡ stepsAt ms vs i)
+      (put : k < 16 → (j : ℕ) → monitorAt then j
+      ≡ cond (eqb j k) (step (kindOf (getD ms i 0) (r .steps)) last (monitorAt now k) (record { φ = r .phi; ψ = r .psi })) (monitorAt now j)) where
+    -- what is put at place k
+    abbrev x : Monitor
+    x = step (kindOf (getD ms i 0) (r .steps)) last (monitorAt now k) (record { φ = r .phi; ψ = r .psi })
+
+    one-more : (qs : List Preference) → T (all preferenceSpellable qs) → length qs ≤ 16
         → Seen-by ms vs last σ before qs now k i → Seen-by ms vs last σ before qs then (k + 1) (r .next)
     one-more qs ok many s =
         let left : k < length qs = some-left k i qs h (s .rest) in
@@ -75,32 +99,31 @@ module _ (ms vs : List ℕ) (at : ℕ) (last : Bool) (σ before : Facts) where
         let e : drop i (paired ms vs) ≡ concatMap preferenceRows (q ∷ more) =
         s .rest ∙ ap (concatMap preferenceRows) (drop-cons qs k noPreference left) in
         let fine : T (preferenceSpellable q) = all-at preferenceSpellable qs k noPreference ok left in
-        let read : r ≡ record { phi = isTrue σ (q .first); psi = isTrue σ (q .second); next = i + length (preferenceRows q) } =
-        sees q more e fine in
-        let kind : kindOf (getD ms i 0) ≡ q .kind = ap kindOf (mark-is ms vs σ i h q more e fine) ∙ kind-back (q .kind) in
+        let read : Sides-of q i σ r = sees q more e fine in
+        let kind : kindOf (getD ms i 0) (r .steps) ≡ q .kind = ap (kindOf (getD ms i 0)) steps ∙ kind-at ms vs i q (concatMap preferenceRows more) e h (search tests) in
         let mine : x ≡ step (q .kind) last (monitorAt before k) (seen q σ) =
-        stepped ∙ (λ z. step (kind z) last (s .still k (omega arith) (omega arith) z) (record { φ = read z .phi; ψ = read z .psi })) in
+        λ z. step (kind z) last (s .still k (omega arith) z) (record { φ = read .phi z; ψ = read .psi z }) in
         record {
           within = omega arith;
-          rest = ap (λ (n : ℕ). drop n (paired ms vs)) (ap (λ (y : Sides). y .next) read)
+          rest = ap (λ (n : ℕ). drop n (paired ms vs)) (read .next)
               ∙ drop-behind i (paired ms vs) (preferenceRows q) (concatMap preferenceRows more) e
               ∙ ap (λ (n : ℕ). concatMap preferenceRows (drop n qs)) (sym (add-one k));
           done = λ j l. by-number qs s mine left many j l (eqb j k) refl;
-          still = λ j lo l. put (omega arith) j l ∙ ap (λ (b : Bool). cond b x (monitorAt now j)) (ne-eqb j k (λ p. omega arith)) ∙ s .still j (omega arith) l;
+          still = λ j lo. put (omega arith) j ∙ ap (λ (b : Bool). cond b x (monitorAt now j)) (ne-eqb j k (λ p. omega arith)) ∙ s .still j (omega arith);
         }
       where
         by-number : (qs : List Preference) → Seen-by ms vs last σ before qs now k i
             → x ≡ step (getD qs k noPreference .kind) last (monitorAt before k) (seen (getD qs k noPreference) σ)
-            → k < length qs → length qs ≤ 64 → (j : ℕ) → j < k + 1 → (b : Bool) → eqb j k ≡ b
+            → k < length qs → length qs ≤ 16 → (j : ℕ) → j < k + 1 → (b : Bool) → eqb j k ≡ b
             → monitorAt then j ≡ step (getD qs j noPreference .kind) last (monitorAt before j) (seen (getD qs j noPreference) σ)
         by-number qs s mine left many j l true p =
             let same : j ≡ k = eqb-true j k p in
-            put (omega arith) j (omega arith) ∙ ap (λ (b : Bool). cond b x (monitorAt now j)) p
+            put (omega arith) j ∙ ap (λ (b : Bool). cond b x (monitorAt now j)) p
             ∙ mine
             ∙ ap (λ (n : ℕ). step (getD qs n noPreference .kind) last (monitorAt before n) (seen (getD qs n noPreference) σ)) (sym same)
         by-number qs s mine left many j l false p =
             let other : j ≡ k → ⊥ = eqb-false j k p in
-            put (omega arith) j (omega arith) ∙ ap (λ (b : Bool). cond b x (monitorAt now j)) p ∙ s .done j (omega arith)
+            put (omega arith) j ∙ ap (λ (b : Bool). cond b x (monitorAt now j)) p ∙ s .done j (omega arith)
 
     pub goes-on : i < r .next → Watching ms vs at last σ before now k i → Watching ms vs at last σ before then (k + 1) (r .next)
     goes-on later w = record {
@@ -108,7 +131,7 @@ module _ (ms vs : List ℕ) (at : ℕ) (last : Bool) (σ before : Facts) where
       so-far = λ qs e ok many. one-more qs ok many (w .so-far qs e ok many);
     }
 
-  pub ends : (now : Facts) (k i : ℕ) → length ms ≤ i → Watching ms vs at last σ before now k i → Watched ms vs at last σ before now
+  pub ends : (now : List Monitors.Monitor) (k i : ℕ) → length ms ≤ i → Watching ms vs at last σ before now k i → Watched ms vs at last σ before now
   ends now k i h w qs e ok many j l =
       let s : Seen-by ms vs last σ before qs now k i = w .so-far qs e ok many in
       s .done j (omega (arith, none-left k i qs h (s .rest)))

@@ -1,5 +1,6 @@
 -- The met preferences, by monitors that have seen all states.
 use mathlib.Core.Bool.{cond}
+use mathlib.Core.List.{List}
 use Prim.Native.Nat.{ℕ, _+_}
 use Rattle.task.specs.Task.{Row}
 use Rattle.task.specs.File.{kindOf}
@@ -7,6 +8,7 @@ use Rattle.task.specs.Meaning.{State as Facts}
 use Rattle.task.specs.Monitor.{good}
 use Rattle.state.specs.Member.{member, empty, single, union}
 use Rattle.plan.specs.Monitors.{monitorAt}
+use Rattle.plan.specs.declared.monitors.Monitor.{Monitor}
 use Rattle.plan.specs.declared.met.Found.{Found}
 
 -- so many preferences, and those of them that are met
@@ -18,9 +20,10 @@ abbrev pub noneMet : Met
 noneMet = record { number = 0; met = empty }
 
 -- one preference more, by the row that opens it
-abbrev pub found : Facts → Met → Row → Met
-found f t x =
-    cond (good (kindOf (x .mark)) (monitorAt f (t .number)))
+-- (whether a monitor is good does not hang on its steps)
+abbrev pub found : List Monitor → Met → Row → Met
+found ms t x =
+    cond (good (kindOf (x .mark) 0) (monitorAt ms (t .number)))
     (record { number = t .number + 1; met = union (t .met) (single (t .number)) })
     (record { number = t .number + 1; met = t .met })
 

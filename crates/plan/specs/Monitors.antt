@@ -1,11 +1,12 @@
--- The monitors of a task's preferences in one set of facts, and what one more state does to them.
+-- The monitors of a task's preferences, and what one more state does to them.
 use mathlib.Core.Path.{_≡_}
-use mathlib.Core.Bool.{Bool}
+use mathlib.Core.Bool.{Bool, false, cond, _&&_, _||_}
 use mathlib.Core.List.{List, _∷_}
 use Prim.Native.Nat.{ℕ, _+_, _≤_, _<_}
-use lib.Dec.{T}
+use lib.Dec.{T, leb, eqb}
 use lib.ListN.{length, drop, getD}
 use Rattle.task.specs.Lists.{all, concatMap}
+use Rattle.task.specs.Marks.{SOMETIME-BEFORE, SOMETIME-AFTER, WITHIN, ALWAYS-WITHIN}
 use Rattle.task.specs.Task.{Preference, preferenceRows}
 use Rattle.task.specs.File.{paired}
 use Rattle.task.specs.Spelling.{preferenceSpellable}
@@ -16,21 +17,39 @@ use Rattle.plan.specs.declared.monitors.Monitor.{Monitor}
 use Rattle.plan.specs.declared.monitors.Sides.{Sides}
 
 abbrev pub asMonitor : Monitor → Monitor.Monitor
-asMonitor m = record { S = m .s; B = m .b }
+asMonitor m = record { S = m .s; B = m .b; age = m .age }
 
--- monitor k of a set: S is fact k, B fact 64 + k
-abbrev pub monitorAt : Facts → ℕ → Monitor.Monitor
-monitorAt f k = record { S = f k; B = f (64 + k) }
+-- a monitor that has seen no state
+abbrev pub blank : Monitor
+blank = record { s = false; b = false; age = 0 }
 
--- r has the two sides of the preference that row i opens, where preferences stand from there on
+-- monitor k of a list
+abbrev pub monitorAt : List Monitor → ℕ → Monitor.Monitor
+monitorAt l k = asMonitor (getD l k blank)
+
+-- By a preference's mark
+
+-- how many rows stand before φ
+abbrev pub headRows : ℕ → ℕ
+headRows m = cond (leb WITHIN m && leb m ALWAYS-WITHIN) 2 1
+
+abbrev pub isTwoSided : ℕ → Bool
+isTwoSided m = leb SOMETIME-BEFORE m && leb m SOMETIME-AFTER || eqb m ALWAYS-WITHIN
+
+-- r has the sides of q, which row i opens, in state σ
+pub record Sides-of (q : Preference) (i : ℕ) (σ : Facts) (r : Sides) : Type 0 where
+  pub phi : r .phi ≡ isTrue σ (q .first)
+  pub psi : r .psi ≡ isTrue σ (q .second)
+  pub next : r .next ≡ i + length (preferenceRows q)
+
+-- of the preference that row i opens, where preferences stand from there on
 abbrev pub Sees : List ℕ → List ℕ → ℕ → Facts → Sides → Type 0
 Sees ms vs i σ r =
-    (q : Preference) (qs : List Preference) → drop i (paired ms vs) ≡ concatMap preferenceRows (q ∷ qs) → T (preferenceSpellable q)
-    → r ≡ record { phi = isTrue σ (q .first); psi = isTrue σ (q .second); next = i + length (preferenceRows q) }
+    (q : Preference) (qs : List Preference) → drop i (paired ms vs) ≡ concatMap preferenceRows (q ∷ qs) → T (preferenceSpellable q) → Sides-of q i σ r
 
 -- each monitor of the preferences that stand from row i on has seen σ
-abbrev pub Watched : List ℕ → List ℕ → ℕ → Bool → Facts → Facts → Facts → Type 0
+abbrev pub Watched : List ℕ → List ℕ → ℕ → Bool → Facts → List Monitor → List Monitor → Type 0
 Watched ms vs i last σ before after =
-    (qs : List Preference) → drop i (paired ms vs) ≡ concatMap preferenceRows qs → T (all preferenceSpellable qs) → length qs ≤ 64
+    (qs : List Preference) → drop i (paired ms vs) ≡ concatMap preferenceRows qs → T (all preferenceSpellable qs) → length qs ≤ 16
     → (j : ℕ) → j < length qs
     → monitorAt after j ≡ step (getD qs j noPreference .kind) last (monitorAt before j) (seen (getD qs j noPreference) σ)

@@ -15,6 +15,7 @@ use Rattle.plan.specs.Monitors.{monitorAt}
 use Rattle.plan.specs.Reads.{Reads, PreferencesAt}
 use Rattle.plan.specs.Places.{actionRow, Layout}
 use Rattle.plan.specs.declared.Verdict.{Verdict}
+use Rattle.plan.specs.declared.monitors.Monitor as Monitors
 use Rattle.plan.specs.declared.steps.Position.{Position}
 use Rattle.plan.specs.declared.steps.Moved.{Moved}
 use Rattle.plan.specs.declared.steps.Moved.the-variants.{To, Stopped}
@@ -24,9 +25,6 @@ pub record Leads (t : Task) (k : ℕ) (p q : Position) : Type 0 where
   pub applying : applies t (member (p .state)) k ≡ true
   pub state : member (q .state) ≡ after (member (p .state)) (actionAt t k)
   pub cost : q .cost ≡ p .cost + actionAt t k .cost
-  pub monitors : (j : ℕ) → j < length (t .preferences)
-      → monitorAt (member (q .set)) j
-      ≡ step (preferenceAt t j .kind) false (monitorAt (member (p .set)) j) (seen (preferenceAt t j) (member (p .state)))
 
 abbrev pub Moving : Task → ℕ → Position → Moved → Type 0
 Moving t k p (To q) = Leads t k p q
@@ -38,10 +36,10 @@ CostsLittle p (To q) = q .cost < p .cost + 4294967296
 CostsLittle p Stopped = Unit {0}
 
 -- a step by the action that row i opens
-abbrev pub Moves : List ℕ → List ℕ → ℕ → ℕ → Position → Moved → Type 0
-Moves ms vs at i p r =
+abbrev pub Moves : List ℕ → List ℕ → ℕ → Position → Moved → Type 0
+Moves ms vs i p r =
     CostsLittle p r
-    × ((t : Task) → Reads t ms vs → PreferencesAt t ms vs at → (k : ℕ) → k < length (t .actions) → i ≡ actionRow t k → Moving t k p r)
+    × ((t : Task) → Reads t ms vs → (k : ℕ) → k < length (t .actions) → i ≡ actionRow t k → Moving t k p r)
 
 -- a preference is met, by monitors that have seen all states
 abbrev pub isGood : (Preference → Monitor) → Preference → Bool
@@ -56,13 +54,13 @@ abbrev pub lastVerdict : Task → Facts → (Preference → Monitor) → ℕ →
 lastVerdict t σ μ c =
     cond (isTrue σ (t .goal)) (solvedBy t (λ (q : Preference). step (q .kind) true (μ q) (seen q σ)) c) goal-missed
 
-abbrev pub MonitorsAre : Task → Position → (Preference → Monitor) → Type 0
-MonitorsAre t p μ = (j : ℕ) → j < length (t .preferences) → monitorAt (member (p .set)) j ≡ μ (preferenceAt t j)
+abbrev pub MonitorsAre : Task → List Monitors.Monitor → (Preference → Monitor) → Type 0
+MonitorsAre t l μ = (j : ℕ) → j < length (t .preferences) → monitorAt l j ≡ μ (preferenceAt t j)
 
-abbrev pub Finishes : List ℕ → List ℕ → ℕ → ℕ → Position → Verdict → Type 0
-Finishes ms vs at goal p r =
+abbrev pub Finishes : List ℕ → List ℕ → ℕ → ℕ → Position → List Monitors.Monitor → Verdict → Type 0
+Finishes ms vs at goal p l r =
     (t : Task) → Reads t ms vs → PreferencesAt t ms vs at → goal ≡ length (t .start) + 1
-    → (μ : Preference → Monitor) → MonitorsAre t p μ → asVerdict r ≡ lastVerdict t (member (p .state)) μ (p .cost)
+    → (μ : Preference → Monitor) → MonitorsAre t l μ → asVerdict r ≡ lastVerdict t (member (p .state)) μ (p .cost)
 
 -- a plan followed from state σ on
 abbrev pub Follows : List ℕ → List ℕ → ℕ → ℕ → List ℕ → Facts → List ℕ → Verdict → Type 0

@@ -9,7 +9,6 @@ ghost use Rattle.plan.specs.Settled.{argumentsAllowed};
 ghost use Rattle.plan.specs.Counting.{counting, countAt};
 ghost use Rattle.plan.specs.Amounts.{nothing, weighed, asWeights};
 use super::Worth;
-use task::marks;
 use task::rows;
 
 // No plan of 2,048 steps costs more.
@@ -59,9 +58,10 @@ fn weigh_row(t: Weights, mark: u8, value: u32, met: u64) -> Weights
     ensures { λ r. ⌜ asWeights r ≡ counting (weighed (bit met)) (asWeights t) (row mark value) ⌝ }
     ensures { λ r. ⌜ (r .number ≤ t .number + 1) × (r .gained ≤ t .gained + value) × (r .lost ≤ t .lost + value) ⌝ }
 {
-    match mark {
-        marks::ALWAYS..=marks::SOMETIME_AFTER => weigh_one(t, value, met),
-        _ => t,
+    if task::is_preference(mark) {
+        weigh_one(t, value, met)
+    } else {
+        t
     }
 }
 

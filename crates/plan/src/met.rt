@@ -8,8 +8,8 @@ ghost use Rattle.state.specs.Member.{member};
 ghost use Rattle.plan.specs.Counting.{counting, countAt};
 ghost use Rattle.plan.specs.Met.{noneMet, found, asFound};
 use super::monitors;
+use super::monitors::Monitor;
 use state::State;
-use task::marks;
 
 // So many preferences, and those of them that are met.
 pub struct Found {
@@ -18,14 +18,14 @@ pub struct Found {
 }
 
 // One preference more.
-fn find_one(f: Found, mark: u8, set: State) -> Found
+fn find_one(f: Found, mark: u8, ms: [Monitor; 16]) -> Found
     requires { ⌜ f .number < 65535 ⌝ }
-    ensures { λ r. ⌜ ((v : ℕ) → asFound r ≡ found (member set) (asFound f) (row mark v)) ⌝ }
+    ensures { λ r. ⌜ ((v : ℕ) → asFound r ≡ found ms (asFound f) (row mark v)) ⌝ }
     ensures { λ r. ⌜ r .number ≤ f .number + 1 ⌝ }
 {
     let k = f.number;
     let met = f.met;
-    if monitors::is_good(mark, monitors::monitor_at(set, k)) {
+    if monitors::is_good(mark, monitors::monitor_at(ms, k)) {
         Found {
             number: k + 1,
             met: state::with(met, k),
@@ -36,21 +36,22 @@ fn find_one(f: Found, mark: u8, set: State) -> Found
 }
 
 // One row more: each that opens a preference counts.
-fn find_row(f: Found, mark: u8, set: State) -> Found
+fn find_row(f: Found, mark: u8, ms: [Monitor; 16]) -> Found
     requires { ⌜ f .number < 65535 ⌝ }
-    ensures { λ r. ⌜ ((v : ℕ) → asFound r ≡ counting (found (member set)) (asFound f) (row mark v)) ⌝ }
+    ensures { λ r. ⌜ ((v : ℕ) → asFound r ≡ counting (found ms) (asFound f) (row mark v)) ⌝ }
     ensures { λ r. ⌜ r .number ≤ f .number + 1 ⌝ }
 {
-    match mark {
-        marks::ALWAYS..=marks::SOMETIME_AFTER => find_one(f, mark, set),
-        _ => f,
+    if task::is_preference(mark) {
+        find_one(f, mark, ms)
+    } else {
+        f
     }
 }
 
 // The met preferences of those that stand from row `at` on. The rows' values don't matter.
-pub fn find(marks: &[u8], at: usize, set: State) -> State
+pub fn find(marks: &[u8], at: usize, ms: [Monitor; 16]) -> State
     requires { ⌜ (length (now marks) ≤ 12000) × (at ≤ length (now marks)) ⌝ }
-    ensures { λ r. ⌜ ((vs : List ℕ) → member r ≡ countAt (found (member set)) noneMet (now (marks .entry)) vs at .met) ⌝ }
+    ensures { λ r. ⌜ ((vs : List ℕ) → member r ≡ countAt (found ms) noneMet (now (marks .entry)) vs at .met) ⌝ }
 {
     let mut f = Found {
         number: 0,
@@ -58,7 +59,7 @@ pub fn find(marks: &[u8], at: usize, set: State) -> State
     };
     let mut i = at;
     while i < marks.len() {
-        f = find_row(f, marks[i], set);
+        f = find_row(f, marks[i], ms);
         i += 1;
     }
     f.met

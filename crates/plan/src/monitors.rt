@@ -1,137 +1,241 @@
-// The monitors of a task's preferences: what two facts S and B of each know of the states seen so far.
+// The monitors of a task's preferences: what the facts S, B and D1, D2, … of each know of the states seen so far.
 ghost use mathlib.Core.Path.{_≡_};
-ghost use mathlib.Core.Bool.{cond};
+ghost use mathlib.Core.Bool.{Bool, cond};
 ghost use Prim.Native.Nat.{ℕ, _*_, _+_, _≤_, _<_};
-ghost use lib.Dec.{eqb};
+ghost use lib.Dec.{leb, eqb};
 ghost use lib.ListN.{length};
 ghost use Rattle.task.specs.File.{kindOf};
-ghost use Rattle.task.specs.Monitor.{step, good};
+ghost use Rattle.task.specs.Task.{always-within};
+ghost use Rattle.task.specs.Monitor.{fresh, older, nextAge, step, good};
+ghost use Rattle.task.specs.Rows.{stepsAt};
 ghost use Rattle.state.specs.Member.{member};
-ghost use Rattle.plan.specs.Monitors.{asMonitor, monitorAt, Sees, Watched};
+ghost use Rattle.plan.specs.Monitors.{asMonitor, monitorAt, headRows, isTwoSided, Sees, Watched};
 use state::State;
 use state::conditions;
 use task::marks;
+use task::rows;
 
+// D of j holds where j is at most the age.
 pub struct Monitor {
     pub s: bool,
     pub b: bool,
+    pub age: u8,
 }
 
-// φ and ψ of a preference in a state, and the row behind the preference.
+// φ and ψ of a preference in a state, its steps where it has them, and the row behind the preference.
 pub struct Sides {
     pub phi: bool,
     pub psi: bool,
+    pub steps: u8,
     pub next: usize,
 }
 
-// A monitor after one more state; last says that it is the last.
-fn stepped(mark: u8, last: bool, m: Monitor, phi: bool, psi: bool) -> Monitor
-    ensures { λ r. ⌜ asMonitor r ≡ step (kindOf mark) last (asMonitor m) (record { φ = phi; ψ = psi }) ⌝ }
+// The monitors before the first state. Preference k has monitor k.
+pub fn fresh() -> [Monitor; 16]
+    ensures { λ r. ⌜ ((k : ℕ) → monitorAt r k ≡ fresh) ⌝ }
+{
+    let m = Monitor {
+        s: false,
+        b: false,
+        age: 0,
+    };
+    [m; 16]
+}
+
+// One state more, up to one more than the steps.
+fn older(steps: u8, age: u8) -> u8
+    requires { ⌜ steps < 16 ⌝ }
+    ensures { λ r. ⌜ r ≡ older steps age ⌝ }
+{
+    if age <= steps { age + 1 } else { age }
+}
+
+// How long a state with φ has waited for ψ, after one more state.
+fn waited(steps: u8, m: Monitor, phi: bool, psi: bool) -> u8
+    requires { ⌜ steps < 16 ⌝ }
+    ensures { λ r. ⌜ r ≡ nextAge (always-within steps) (m .s) (m .age) phi psi ⌝ }
+{
+    if psi {
+        return if m.s { m.age } else { 0 };
+    }
+    if phi | (1 <= m.age) {
+        older(steps, m.age)
+    } else {
+        0
+    }
+}
+
+// Whether time is up: φ has just come where there are no steps, or has waited for them all.
+fn is_due(steps: u8, age: u8, phi: bool) -> bool
+    ensures { λ r. ⌜ r ≡ cond (eqb steps 0) phi (leb steps age) ⌝ }
+{
+    if steps == 0 { phi } else { steps <= age }
+}
+
+// The monitor of always-within after one more state.
+fn waiting(steps: u8, m: Monitor, phi: bool, psi: bool) -> Monitor
+    requires { ⌜ steps < 16 ⌝ }
+    ensures { λ r. ⌜ ((last : Bool) → asMonitor r ≡ step (always-within steps) last (asMonitor m) (record { φ = phi; ψ = psi })) ⌝ }
 {
     let s = m.s;
     let b = m.b;
+    let due = is_due(steps, m.age, phi);
+    let age = waited(steps, m, phi, psi);
+    Monitor {
+        s: due & !psi | s,
+        b: phi & !psi | b & !(!s & psi),
+        age,
+    }
+}
+
+// A monitor after one more state; last says that it is the last.
+fn stepped(mark: u8, steps: u8, last: bool, m: Monitor, phi: bool, psi: bool) -> Monitor
+    requires { ⌜ steps < 16 ⌝ }
+    ensures { λ r. ⌜ asMonitor r ≡ step (kindOf mark steps) last (asMonitor m) (record { φ = phi; ψ = psi }) ⌝ }
+{
+    let s = m.s;
+    let b = m.b;
+    let age = m.age;
     match mark {
-        marks::ALWAYS => Monitor { s, b: !phi | b },
-        marks::SOMETIME => Monitor { s: phi | s, b },
+        marks::ALWAYS => Monitor {
+            s,
+            b: !phi | b,
+            age,
+        },
+        marks::SOMETIME => Monitor { s: phi | s, b, age },
         marks::AT_END => Monitor {
             s: last & phi | s,
             b,
+            age,
         },
         marks::AT_MOST_ONCE => Monitor {
             s: !s & (!b & phi) | s & !(s & (b & phi)),
             b: s & !phi | b,
+            age,
         },
         marks::SOMETIME_BEFORE => Monitor {
             s: psi | s,
             b: !s & phi | b,
+            age,
         },
-        _ => Monitor {
+        marks::SOMETIME_AFTER => Monitor {
             s,
             b: phi & !psi | b & !psi,
+            age,
         },
+        marks::WITHIN => Monitor {
+            s: (age <= steps) & phi | s,
+            b,
+            age: older(steps, age),
+        },
+        _ => waiting(steps, m, phi, psi),
     }
 }
 
 // Whether a monitor that has seen all states says that its preference is met.
 pub fn is_good(mark: u8, m: Monitor) -> bool
-    ensures { λ r. ⌜ r ≡ good (kindOf mark) (asMonitor m) ⌝ }
+    ensures { λ r. ⌜ ((t : ℕ) → r ≡ good (kindOf mark t) (asMonitor m)) ⌝ }
 {
     match mark {
-        marks::SOMETIME => m.s,
-        marks::AT_END => m.s,
+        marks::SOMETIME | marks::AT_END | marks::WITHIN => m.s,
         marks::AT_MOST_ONCE => m.s | !m.b,
         _ => !m.b,
     }
 }
 
-// Monitor k: S is fact k of the set, B fact 64 + k.
-pub fn monitor_at(set: State, k: u32) -> Monitor
-    requires { ⌜ k < 65536 ⌝ }
-    ensures { λ r. ⌜ asMonitor r ≡ monitorAt (member set) k ⌝ }
+// Monitor k; there is none from 16 on.
+pub fn monitor_at(ms: [Monitor; 16], k: u32) -> Monitor
+    ensures { λ r. ⌜ asMonitor r ≡ monitorAt ms k ⌝ }
 {
-    Monitor {
-        s: state::holds(set, k),
-        b: state::holds(set, 64 + k),
+    let i = k as usize;
+    if 16 <= i {
+        return Monitor {
+            s: false,
+            b: false,
+            age: 0,
+        };
+    }
+    ms[i]
+}
+
+// Monitor k after one more state, the others as they were; there is none from 16 on.
+fn step_one(ms: [Monitor; 16], k: usize, mark: u8, last: bool, q: Sides) -> [Monitor; 16]
+    requires { ⌜ q .steps < 16 ⌝ }
+    ensures { λ r. ⌜ (k < 16 → (j : ℕ) → monitorAt r j ≡ cond (eqb j k) (step (kindOf mark (q .steps)) last (monitorAt ms k) (record { φ = q .phi; ψ = q .psi })) (monitorAt ms j)) ⌝ }
+{
+    if 16 <= k {
+        return ms;
+    }
+    let mut next = ms;
+    next[k] = stepped(mark, q.steps, last, ms[k], q.phi, q.psi);
+    next
+}
+
+// How many rows stand before φ: the one that opens the preference, and STEPS where the kind has it.
+fn head_rows(mark: u8) -> usize
+    ensures { λ r. ⌜ r ≡ headRows mark ⌝ }
+{
+    match mark {
+        marks::WITHIN..=marks::ALWAYS_WITHIN => 2,
+        _ => 1,
     }
 }
 
-fn put_fact(set: State, n: u32, on: bool) -> State
-    ensures { λ r. ⌜ ((m : ℕ) → m < 128 → member r m ≡ cond (eqb m n) on (member set m)) ⌝ }
+// Whether the kind has ψ.
+fn is_two_sided(mark: u8) -> bool
+    ensures { λ r. ⌜ r ≡ isTwoSided mark ⌝ }
 {
-    if on {
-        state::with(set, n)
-    } else {
-        state::without(set, n)
+    match mark {
+        marks::SOMETIME_BEFORE..=marks::SOMETIME_AFTER | marks::ALWAYS_WITHIN => true,
+        _ => false,
     }
 }
 
-fn put_monitor(set: State, k: u32, m: Monitor) -> State
-    requires { ⌜ k < 65536 ⌝ }
-    ensures { λ r. ⌜ (k < 64 → (j : ℕ) → j < 64 → monitorAt (member r) j ≡ cond (eqb j k) (asMonitor m) (monitorAt (member set) j)) ⌝ }
-{
-    put_fact(put_fact(set, k, m.s), 64 + k, m.b)
-}
-
-// φ and ψ of the preference that row i opens, in state s.
+// The sides of the preference that row i opens, in state s.
 fn read_sides(marks: &[u8], values: &[u8], i: usize, s: State) -> Sides
     requires { ⌜ (4 * length (now marks) ≤ length (now values)) × (length (now marks) ≤ 12000) × (i < length (now marks)) ⌝ }
-    ensures { λ r. ⌜ i < r .next ⌝ }
+    ensures { λ r. ⌜ (i < r .next) × (r .steps ≡ stepsAt (now (marks .entry)) (now (values .entry)) i) × (r .steps < 16) ⌝ }
     ensures { λ r. ⌜ Sees (now (marks .entry)) (now (values .entry)) i (member s) r ⌝ }
 {
     let mark = marks[i];
-    let first = conditions::condition(marks, values, i + 1, s);
-    match mark {
-        marks::SOMETIME_BEFORE..=marks::SOMETIME_AFTER => {
-            let second = conditions::condition(marks, values, first.next + 1, s);
-            Sides {
-                phi: first.holds,
-                psi: second.holds,
-                next: second.next,
-            }
-        }
-        _ => Sides {
+    let steps = rows::steps_at(marks, values, i);
+    let first = conditions::condition(marks, values, i + head_rows(mark), s);
+    if !is_two_sided(mark) {
+        return Sides {
             phi: first.holds,
             psi: true,
+            steps,
             next: first.next,
-        },
+        };
+    }
+    let second = conditions::condition(marks, values, first.next + 1, s);
+    Sides {
+        phi: first.holds,
+        psi: second.holds,
+        steps,
+        next: second.next,
     }
 }
 
 // The monitors after state s, of the preferences that stand from row `at` on.
-pub fn watch(marks: &[u8], values: &[u8], at: usize, s: State, set: State, last: bool) -> State
+pub fn watch(
+    marks: &[u8],
+    values: &[u8],
+    at: usize,
+    s: State,
+    before: [Monitor; 16],
+    last: bool,
+) -> [Monitor; 16]
     requires { ⌜ (4 * length (now marks) ≤ length (now values)) × (length (now marks) ≤ 12000) ⌝ }
-    ensures { λ r. ⌜ Watched (now (marks .entry)) (now (values .entry)) at last (member s) (member set) (member r) ⌝ }
+    ensures { λ r. ⌜ Watched (now (marks .entry)) (now (values .entry)) at last (member s) before r ⌝ }
 {
-    let mut m = set;
+    let mut m = before;
     let mut k = 0;
     let mut i = at;
     while i < marks.len() {
         let q = read_sides(marks, values, i, s);
-        m = put_monitor(
-            m,
-            k,
-            stepped(marks[i], last, monitor_at(m, k), q.phi, q.psi),
-        );
+        let next = step_one(m, k, marks[i], last, q);
+        m = next;
         k += 1;
         i = q.next;
     }

@@ -9,6 +9,7 @@ use super::Solution;
 use super::Verdict;
 use super::met;
 use super::monitors;
+use super::monitors::Monitor;
 use super::places;
 use state::State;
 use state::conditions;
@@ -16,10 +17,9 @@ use state::effects;
 use state::opening;
 use task::rows;
 
-// Where a plan has come to: the state, the monitors that have seen those before it, and the cost.
+// Where a plan has come to: the state, and the cost.
 pub struct Position {
     pub state: State,
-    pub set: State,
     pub cost: u64,
 }
 
@@ -35,13 +35,12 @@ pub fn wide(k: u8) -> usize
     k as usize
 }
 
-// One step by the action that row `from` opens; the preferences stand from row `at` on.
-fn step(marks: &[u8], values: &[u8], at: usize, from: usize, p: Position) -> Moved
+// One step by the action that row `from` opens.
+fn step(marks: &[u8], values: &[u8], from: usize, p: Position) -> Moved
     requires { ⌜ (4 * length (now marks) ≤ length (now values)) × (length (now marks) ≤ 12000) × (from < length (now marks)) × (p .cost < 2 ^ 62) ⌝ }
-    ensures { λ r. ⌜ Moves (now (marks .entry)) (now (values .entry)) at from p r ⌝ }
+    ensures { λ r. ⌜ Moves (now (marks .entry)) (now (values .entry)) from p r ⌝ }
 {
     let s = p.state;
-    let set = monitors::watch(marks, values, at, s, p.set, false);
     let pre = conditions::condition(marks, values, from + 1, s);
     if !pre.holds {
         return Moved::Stopped;
@@ -50,23 +49,30 @@ fn step(marks: &[u8], values: &[u8], at: usize, from: usize, p: Position) -> Mov
     let state = next.state;
     Moved::To(Position {
         state,
-        set,
         cost: p.cost + (rows::value_at(values, from) as u64),
     })
 }
 
-// The verdict behind the last step; the goal's condition stands from row `goal` on.
-fn finish(marks: &[u8], values: &[u8], at: usize, goal: usize, p: Position) -> Verdict
+// The verdict behind the last step, by monitors that have seen the states before it; the preferences stand from row `at` on,
+// the goal's condition from row `goal` on.
+fn finish(
+    marks: &[u8],
+    values: &[u8],
+    at: usize,
+    goal: usize,
+    p: Position,
+    ms: [Monitor; 16],
+) -> Verdict
     requires { ⌜ (4 * length (now marks) ≤ length (now values)) × (length (now marks) ≤ 12000) × (p .cost < 2 ^ 62) × (at ≤ length (now marks)) ⌝ }
-    ensures { λ r. ⌜ Finishes (now (marks .entry)) (now (values .entry)) at goal p r ⌝ }
+    ensures { λ r. ⌜ Finishes (now (marks .entry)) (now (values .entry)) at goal p ms r ⌝ }
 {
     let s = p.state;
-    let set = monitors::watch(marks, values, at, s, p.set, true);
+    let last = monitors::watch(marks, values, at, s, ms, true);
     let g = conditions::condition(marks, values, goal, s);
     if !g.holds {
         return Verdict::GoalMissed;
     }
-    let found = met::find(marks, at, set);
+    let found = met::find(marks, at, last);
     Verdict::Solved(Solution {
         cost: p.cost,
         met: found.low,
@@ -88,21 +94,20 @@ fn follow(
     requires { ⌜ AllBelow (length (now marks)) (now starts) × AllBelow (length (now starts)) (now plan) ⌝ }
     ensures { λ r. ⌜ Follows (now (marks .entry)) (now (values .entry)) at goal (now (starts .entry)) (member state) (now (plan .entry)) r ⌝ }
 {
-    let mut p = Position {
-        state,
-        set: state::none(),
-        cost: 0,
-    };
+    let mut p = Position { state, cost: 0 };
+    let mut ms = monitors::fresh();
     let mut i = 0;
     while i < plan.len() {
-        let moved = step(marks, values, at, starts[wide(plan[i])], p);
+        let next = monitors::watch(marks, values, at, p.state, ms, false);
+        ms = next;
+        let moved = step(marks, values, starts[wide(plan[i])], p);
         let Moved::To(q) = moved else {
             return Verdict::Stopped(i);
         };
         p = q;
         i += 1;
     }
-    finish(marks, values, at, goal, p)
+    finish(marks, values, at, goal, p, ms)
 }
 
 // The verdict on a plan of known steps.

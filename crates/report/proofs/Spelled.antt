@@ -5,16 +5,27 @@ use mathlib.Core.List.{List, [], _∷_, _++_}
 use Prim.Native.Nat.{ℕ, _+_}
 use lib.Dec.{T}
 use Rattle.task.specs.Lists.{concatMap, concatFrom}
-use Rattle.task.specs.Task.{Kind, Preference, Task}
+use Rattle.task.specs.Task.{Kind, always, sometime, at-end, at-most-once, sometime-before, sometime-after, within, always-within, Preference, Task}
 use Rattle.task.specs.Task.{Row, row, kindMark, preferenceRows, taskRows}
-use Rattle.task.specs.File.{isPreference}
+use Rattle.task.specs.File.{isPreference, kindOf}
 use Rattle.task.proofs.Tests.{tests, noneOf, without, as-true, as-false}
-use Rattle.task.proofs.Back.{kind-back, sideRows, sides-pass}
+use Rattle.task.proofs.Passing.{sideRows, sides-pass}
 use Rattle.task.proofs.Positions.{kind-preference, front, front-no-preference}
 use Rattle.plan.specs.Judged.{Judged, given, refused}
 use Rattle.task.specs.Verdict.{solved, stopped, goal-missed}
-use Rattle.report.specs.Report.{preferenceLine, solvedLine, amountsLine, preferenceLines, reportOf}
+use Rattle.report.specs.Report.{kindWord, preferenceLine, solvedLine, amountsLine, preferenceLines, reportOf}
 use Rattle.report.specs.Rows.{rowLine, rowLines, reportOfRows}
+
+-- the word of a kind does not hang on its steps
+word-by-mark : (k : Kind) → kindWord (kindOf (kindMark k) 0) ≡ kindWord k
+word-by-mark always = refl
+word-by-mark sometime = refl
+word-by-mark at-end = refl
+word-by-mark at-most-once = refl
+word-by-mark sometime-before = refl
+word-by-mark sometime-after = refl
+word-by-mark (within t) = refl
+word-by-mark (always-within t) = refl
 
 module _ (met : ℕ → Bool) where
   no-lines : (k : ℕ) (xs ys : List Row) → T (noneOf isPreference xs) → rowLines met k (xs ++ ys) ≡ rowLines met k ys
@@ -25,8 +36,8 @@ module _ (met : ℕ → Bool) where
   -- the row that opens preference k
   opening-line : (k : ℕ) (kind : Kind) (w : ℕ) (xs : List Row)
       → rowLines met k (row (kindMark kind) w ∷ xs) ≡ preferenceLine k kind w (met k) ++ rowLines met (k + 1) xs
-  unfolding rowLine rowLines
-  opening-line k kind w xs = rw (as-true (isPreference (row (kindMark kind) w)) (kind-preference kind w), kind-back kind)
+  unfolding rowLine rowLines preferenceLine
+  opening-line k kind w xs = rw (as-true (isPreference (row (kindMark kind) w)) (kind-preference kind w), word-by-mark kind)
 
   abbrev lineOf : ℕ → Preference → List ℕ
   lineOf k p = preferenceLine k (p .kind) (p .weight) (met k)
@@ -37,7 +48,7 @@ module _ (met : ℕ → Bool) where
   all-lines k (q ∷ qs) =
       opening-line k (q .kind) (q .weight) (sideRows q ++ concatMap preferenceRows qs)
       ∙ ap (λ (l : List ℕ). lineOf k q ++ l) (no-lines (k + 1) (sideRows q) (concatMap preferenceRows qs)
-      (sides-pass (without isPreference) (λ v. tt) (λ v. tt) (λ v. tt) (λ v. tt) q)
+      (sides-pass (without isPreference) (λ v. tt) (λ v. tt) (λ v. tt) (λ v. tt) (λ v. tt) q)
       ∙ all-lines (k + 1) qs)
 
   pub task-lines : (t : Task) → rowLines met 0 (taskRows t) ≡ preferenceLines t met

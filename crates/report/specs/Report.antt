@@ -1,11 +1,11 @@
--- The text of a judged plan: document 01, 'A belt and a gate'.
+-- The text of a judged plan: document 01, 'A belt and a gate', and request 6.
 use mathlib.Core.Bool.{Bool, true, false}
 use mathlib.Core.List.{List, _++_}
 use Prim.Native.Nat.{ℕ, suc}
 use lib.IntN.{ℤ, pos, negsuc}
 use lib.ListN.{length}
 use Rattle.task.specs.Lists.{concatFrom}
-use Rattle.task.specs.Task.{Kind, always, sometime, at-end, at-most-once, sometime-before, sometime-after, Preference, Task}
+use Rattle.task.specs.Task.{Kind, always, sometime, at-end, at-most-once, sometime-before, sometime-after, within, always-within, Preference, Task}
 use Rattle.task.specs.File.{taskOf}
 use Rattle.task.specs.Verdict.{Verdict, solved, stopped, goal-missed}
 use Rattle.plan.specs.Judged.{Judged, given, refused, judged}
@@ -20,6 +20,8 @@ kindWord at-end = ascii "at-end"
 kindWord at-most-once = ascii "at-most-once"
 kindWord sometime-before = ascii "sometime-before"
 kindWord sometime-after = ascii "sometime-after"
+kindWord (within t) = ascii "within"
+kindWord (always-within t) = ascii "always-within"
 
 abbrev pub outcomeWord : Bool → List ℕ
 outcomeWord true = ascii "met"

@@ -9,9 +9,9 @@ use Rattle.task.specs.Verdict.{Verdict}
 use Rattle.plan.specs.Judged.{Judged}
 use Rattle.report.specs.Report.{preferenceLine, verdictText, textWith}
 
--- a row that opens preference k has a line, any other row has none
+-- a row that opens preference k has a line, any other row has none; the steps have no place in it
 unfoldable pub rowLine : (ℕ → Bool) → ℕ → Row → List ℕ
-rowLine met k x = cond (isPreference x) (preferenceLine k (kindOf (x .mark)) (x .value) (met k)) []
+rowLine met k x = cond (isPreference x) (preferenceLine k (kindOf (x .mark) 0) (x .value) (met k)) []
 
 -- the lines of rows before which k preferences stand
 unfoldable pub rowLines : (ℕ → Bool) → ℕ → List Row → List ℕ

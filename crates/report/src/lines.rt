@@ -10,7 +10,7 @@ use task::marks;
 // Writes the kind that a mark opens.
 fn put_kind(out: &mut [u8], at: usize, mark: u8) -> usize
     requires { ⌜ at + 15 < 2 ^ 64 ⌝ }
-    ensures { λ r. ⌜ Wrote (now (out .entry)) at (kindWord (kindOf mark)) r (now (out .exit)) ⌝ }
+    ensures { λ r. ⌜ Wrote (now (out .entry)) at (kindWord (kindOf mark 0)) r (now (out .exit)) ⌝ }
     ensures { λ r. ⌜ r ≤ at + 15 ⌝ }
 {
     match mark {
@@ -19,7 +19,9 @@ fn put_kind(out: &mut [u8], at: usize, mark: u8) -> usize
         marks::AT_END => text::put_word(out, at, b"at-end"),
         marks::AT_MOST_ONCE => text::put_word(out, at, b"at-most-once"),
         marks::SOMETIME_BEFORE => text::put_word(out, at, b"sometime-before"),
-        _ => text::put_word(out, at, b"sometime-after"),
+        marks::SOMETIME_AFTER => text::put_word(out, at, b"sometime-after"),
+        marks::WITHIN => text::put_word(out, at, b"within"),
+        _ => text::put_word(out, at, b"always-within"),
     }
 }
 
@@ -45,7 +47,7 @@ pub fn put_preference(
     met: bool,
 ) -> usize
     requires { ⌜ at + 65 < 2 ^ 64 ⌝ }
-    ensures { λ r. ⌜ Wrote (now (out .entry)) at (preferenceLine k (kindOf mark) weight met) r (now (out .exit)) ⌝ }
+    ensures { λ r. ⌜ Wrote (now (out .entry)) at (preferenceLine k (kindOf mark 0) weight met) r (now (out .exit)) ⌝ }
     ensures { λ r. ⌜ r ≤ at + 65 ⌝ }
 {
     let a = text::put_decimal(&mut *out, at, k as u64);

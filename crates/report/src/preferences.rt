@@ -9,7 +9,6 @@ ghost use Rattle.task.specs.Check.{count};
 ghost use Rattle.text.specs.Area.{Wrote};
 ghost use Rattle.report.specs.Rows.{rowLine, rowLines};
 use super::lines;
-use task::marks;
 use task::rows;
 
 // Where the next line goes, and the number of the next preference.
@@ -26,12 +25,12 @@ fn put_row(out: &mut [u8], next: Next, mark: u8, value: u32, met: u64) -> Next
 {
     let at = next.at;
     let k = next.number;
-    match mark {
-        marks::ALWAYS..=marks::SOMETIME_AFTER => Next {
-            at: lines::put_preference(out, at, k, mark, value, plan::is_met(met, k as u32)),
-            number: k + 1,
-        },
-        _ => next,
+    if !task::is_preference(mark) {
+        return next;
+    }
+    Next {
+        at: lines::put_preference(out, at, k, mark, value, plan::is_met(met, k as u32)),
+        number: k + 1,
     }
 }
 

@@ -1,18 +1,19 @@
 -- Where the parts of a task stand among its rows, and what stands behind each.
 use mathlib.Core.Path.{_≡_, refl, sym, ap, _∙_}
-use mathlib.Core.Bool.{Bool, false}
+use mathlib.Core.Bool.{Bool, false, not}
 use mathlib.Core.List.{List, [], _∷_, _++_, map, append-nil}
 use Prim.Native.Nat.{ℕ, _+_}
 use lib.Dec.{T}
 use lib.ListN.{length, drop, length-map}
 use lib.Seq.{drop-drop, drop-at}
 use Rattle.task.specs.Lists.{concatMap, upTo}
-use Rattle.task.specs.Marks.{ACTION, EFFECT, GOAL, START, ALWAYS, SOMETIME, AT-END, AT-MOST-ONCE, SOMETIME-BEFORE, SOMETIME-AFTER}
-use Rattle.task.specs.Task.{Kind, always, sometime, at-end, at-most-once, sometime-before, sometime-after, Effect, Action, Preference, Task, Row, row, kindMark, conditionRows, effectRows, actionRows, preferenceRows, taskRows}
+use Rattle.task.specs.Marks.{ACTION, EFFECT, GOAL, START}
+use Rattle.task.specs.Task.{Kind, Effect, Action, Preference, Task, Row, row, kindMark, conditionRows, effectRows, actionRows, preferenceRows, taskRows}
 use Rattle.task.specs.File.{isPreference}
 use Rattle.task.specs.Rows.{Stops}
 use Rattle.task.proofs.Tests.{tests, noneOf, without, all-both, all-map, all-concat, upTo-none, as-true, as-false}
-use Rattle.task.proofs.Back.{fromGoal, task-grouped, condition-passes, effects-pass, kind-passes}
+use Rattle.task.proofs.Passing.{condition-passes, effects-pass, kindMarks, kind-passes}
+use Rattle.task.proofs.Back.{fromGoal, task-grouped}
 
 -- Rows behind other rows
 
@@ -32,14 +33,8 @@ behind-drop rows n ys (xs, e, l) = ap (drop n) e ∙ drop-at xs ys n l
 -- What may stand behind a condition, and behind effects
 
 -- no mark that opens a preference passes the test
-pub past-kinds : (p : ℕ → Bool) → T (noneOf p (ALWAYS ∷ SOMETIME ∷ AT-END ∷ AT-MOST-ONCE ∷ SOMETIME-BEFORE ∷ SOMETIME-AFTER ∷ []))
-    → (k : Kind) → p (kindMark k) ≡ false
-past-kinds p t always = as-false (p ALWAYS) (search tests)
-past-kinds p t sometime = as-false (p SOMETIME) (search tests)
-past-kinds p t at-end = as-false (p AT-END) (search tests)
-past-kinds p t at-most-once = as-false (p AT-MOST-ONCE) (search tests)
-past-kinds p t sometime-before = as-false (p SOMETIME-BEFORE) (search tests depth 10)
-past-kinds p t sometime-after = as-false (p SOMETIME-AFTER) (search tests depth 10)
+pub past-kinds : (p : ℕ → Bool) → T (noneOf p kindMarks) → (k : Kind) → p (kindMark k) ≡ false
+past-kinds p t k = as-false (p (kindMark k)) (kind-passes (λ (x : Row). not (p (x .mark))) (λ v. t) k 0)
 
 abbrev pub tailRows : List Action → List Preference → List Row
 tailRows l qs = concatMap actionRows l ++ concatMap preferenceRows qs
@@ -89,7 +84,7 @@ front-no-preference t =
     (all-concat (without isPreference) actionRows action-no-preference (t .actions))
 
 pub kind-preference : (k : Kind) (v : ℕ) → T (isPreference (row (kindMark k) v))
-kind-preference k v = kind-passes isPreference (λ v. tt) (λ v. tt) (λ v. tt) (λ v. tt) (λ v. tt) (λ v. tt) k v
+kind-preference k v = kind-passes isPreference (λ v. tt) k v
 
 up-to-preferences : (qs : List Preference) → upTo isPreference (concatMap preferenceRows qs) ≡ []
 up-to-preferences [] = refl

@@ -4,38 +4,42 @@ use mathlib.Core.Bool.{Bool, true, false, cond}
 use mathlib.Core.List.{List, [], _∷_, _++_, map, append-assoc, append-nil}
 use Prim.Native.Nat.{ℕ, zero, suc, _+_, _*_, _-_, _≤_, _<_}
 use native.Mathlib.Omega.{arith}
-use lib.Dec.{eqb}
+use lib.Dec.{T, eqb}
 use lib.ListN.{length, drop, getD, length-drop, length-append}
 use borrow.Author.Tests.{ne-eqb, eq-eqb}
 use Rattle.task.specs.Lists.{all, one, concatMap, concatFrom}
 use Rattle.task.specs.Marks.{ACTION, EFFECT, CLAUSE, HOLDS, LACKS, DELETE}
-use Rattle.task.specs.Task.{always, sometime-before, sometime-after, Condition, Action, Preference}
+use Rattle.task.specs.Task.{always, sometime-before, sometime-after, always-within, Condition, Action, Preference}
 use Rattle.task.specs.Task.{Row, row, clauseRows, conditionRows, effectRows, actionRows, preferenceRows}
 use Rattle.task.specs.File.{paired, kindOf}
-use Rattle.task.specs.Rows.{between, valueAt}
-use Rattle.task.proofs.Back.{effects-pass, kind-back}
+use Rattle.task.specs.Rows.{between, valueAt, stepsAt}
+use Rattle.task.specs.Spelling.{kindSpellable}
+use Rattle.task.proofs.Passing.{effects-pass}
 use Rattle.task.proofs.Bytes.{length-paired}
-use Rattle.task.proofs.Reading.{row-at, mark-at, passes}
+use Rattle.task.proofs.Reading.{row-at, passes}
 use Rattle.task.proofs.Positions.{drop-next, drop-behind, tailRows, tail-stops, effects-stop, past-kinds}
+use Rattle.task.proofs.Steps.{kind-at}
 use Rattle.classical.specs.Translation.{holdsFact, lacksFact, alone, factS, factB, factC, normal, ended, metClause, allTrackers, sourceAction, endAction}
 use Rattle.classical.specs.Translation.{closing, collect, forgo, closings, allClosed}
-use Rattle.translation.specs.Writer.{Wrote, part}
-use Rattle.translation.specs.Places.{endAt, Starts}
-use Rattle.translation.specs.Rows.{singleRows}
-use Rattle.translation.specs.Parts.{allTrackerRows, sourceRows, endRows, missed, closingRows, preferenceClosings, closedRows}
-use Rattle.translation.proofs.Putting.{Onward, then, wrote-none, wrote-full, as-rows}
-use Rattle.translation.proofs.Ends.{end-behind, part-is, condition-between}
-use Rattle.translation.proofs.TrackerRows.{concat-from, rows-append, effects-append}
+use Rattle.trackers.specs.Writer.{Wrote, part}
+use Rattle.trackers.specs.Places.{endAt, Starts}
+use Rattle.trackers.specs.Rows.{singleRows}
+use Rattle.trackers.specs.Trackers.{allTrackerRows}
+use Rattle.translation.specs.Parts.{sourceRows, endRows, missed, closingRows, preferenceClosings, closedRows}
+use Rattle.trackers.proofs.Putting.{Onward, then, wrote-none, wrote-full, as-rows}
+use Rattle.trackers.proofs.Ends.{end-behind, part-is, condition-between}
+use Rattle.trackers.proofs.TrackerRows.{concat-from, rows-append, effects-append}
 
 -- The met clause by a mark
 
-pub met-lacks : (m s b : ℕ) → (m ≡ 11 → ⊥) → (m ≡ 12 → ⊥) → (m ≡ 13 → ⊥) → metClause s b (kindOf m) ≡ one (lacksFact b)
-met-lacks m s b p q r = rw (ne-eqb m 11 p, ne-eqb m 12 q, ne-eqb m 13 r) (go (eqb m 10) (eqb m 14))
+pub met-lacks : (m t s b : ℕ) → (m ≡ 11 → ⊥) → (m ≡ 12 → ⊥) → (m ≡ 13 → ⊥) → (m ≡ 17 → ⊥) → metClause s b (kindOf m t) ≡ one (lacksFact b)
+met-lacks m t s b p q r w = rw (ne-eqb m 11 p, ne-eqb m 12 q, ne-eqb m 13 r, ne-eqb m 17 w) (go (eqb m 10) (eqb m 14) (eqb m 15))
   where
-    go : (u v : Bool) → metClause s b (cond u always (cond v sometime-before sometime-after)) ≡ one (lacksFact b)
-    go true v = refl
-    go false true = refl
-    go false false = refl
+    go : (u v x : Bool) → metClause s b (cond u always (cond v sometime-before (cond x sometime-after (always-within t)))) ≡ one (lacksFact b)
+    go true v x = refl
+    go false true x = refl
+    go false false true = refl
+    go false false false = refl
 
 -- Source actions
 
@@ -48,7 +52,7 @@ source-is F qs a N e =
     ap (λ (m : ℕ). sourceRows F m (row ACTION (a .cost) ∷ pre) effects qs) e
     ∙ ap (λ (xs : List Row). row ACTION (a .cost) ∷ xs) (sym (append-assoc pre single (effects ++ allTrackerRows false F qs)))
     ∙ (λ z. row ACTION (a .cost) ∷ (sym (rows-append (a .precondition) (alone (one (holdsFact (normal F (length qs)))))) z
-    ++ sym (effects-append (a .effects) (allTrackers false F 0 qs)) z))
+    ++ sym (effects-append (a .effects) (allTrackers false F qs)) z))
 
 abbrev actsRows : ℕ → List Preference → List Action → List Row
 actsRows F qs l = concatMap actionRows (map (sourceAction F qs) l)
@@ -167,10 +171,10 @@ closings-are F P k E q e =
     (λ z. collected z ++ (forgone ∙ sym (append-nil (actionRows (forgo F P k q)))) z)
 
 -- collect and forgo of preference k over F facts
-abbrev pub closingsFrom : ℕ → ℕ → ℕ → Preference → List Row
-closingsFrom F E k = preferenceClosings (eqb (factS F k) F) (factS F k) E
+abbrev pub closingsFrom : ℕ → ℕ → List Preference → ℕ → Preference → List Row
+closingsFrom F E qs k = preferenceClosings (eqb (factS F k) F) (factS F k) E
 
-pub closings-from : (F P E : ℕ) (qs : List Preference) → E ≡ ended F P → concatFrom (closingsFrom F E) 0 qs ≡ concatMap actionRows (closings F P 0 qs)
+pub closings-from : (F P E : ℕ) (qs : List Preference) → E ≡ ended F P → concatFrom (closingsFrom F E qs) 0 qs ≡ concatMap actionRows (closings F P 0 qs)
 closings-from F P E qs e =
     ap (λ (g : ℕ → Preference → List Row). concatFrom g 0 qs) (fun-ext (λ k. fun-ext (λ q. closings-are F P k E q e)))
     ∙ concat-from actionRows (λ (k : ℕ) (q : Preference). collect F P k q ∷ forgo F P k q ∷ []) 0 qs
@@ -182,12 +186,12 @@ headValue (x ∷ xs) = x .value
 
 -- collect and forgo by the mark and the value that were read
 pub as-read : (ms vs : List ℕ) (at : ℕ) (first : Bool) (s E : ℕ) (q : Preference) (qs : List Preference)
-    → drop at (paired ms vs) ≡ concatMap preferenceRows (q ∷ qs) → at < length ms → (v : ℕ) → v ≡ valueAt vs at
-    → closingRows 0 first s E (clauseRows (metClause s (s + 1) (kindOf (getD ms at 0))))
-    ++ closingRows v first s E (conditionRows (missed s (s + 1) (kindOf (getD ms at 0))))
+    → drop at (paired ms vs) ≡ concatMap preferenceRows (q ∷ qs) → T (kindSpellable (q .kind)) → at < length ms → (v : ℕ) → v ≡ valueAt vs at
+    → closingRows 0 first s E (clauseRows (metClause s (s + 1) (kindOf (getD ms at 0) (stepsAt ms vs at))))
+    ++ closingRows v first s E (conditionRows (missed s (s + 1) (kindOf (getD ms at 0) (stepsAt ms vs at))))
     ≡ preferenceClosings first s E q
-as-read ms vs at first s E q qs e h v value =
-    let kind : kindOf (getD ms at 0) ≡ q .kind = ap kindOf (mark-at ms vs at h e) ∙ kind-back (q .kind) in
+as-read ms vs at first s E q qs e fine h v value =
+    let kind : kindOf (getD ms at 0) (stepsAt ms vs at) ≡ q .kind = kind-at ms vs at q (concatMap preferenceRows qs) e h fine in
     let weight : v ≡ q .weight = value ∙ ap headValue (sym (row-at ms vs at h) ∙ e) in
     (λ z. closingRows 0 first s E (clauseRows (metClause s (s + 1) (kind z)))
     ++ closingRows (weight z) first s E (conditionRows (missed s (s + 1) (kind z))))

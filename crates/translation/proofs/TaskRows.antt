@@ -9,20 +9,22 @@ use Rattle.task.specs.Lists.{all, one, concatMap}
 use Rattle.task.specs.Marks.{ACTION, CLAUSE, LACKS, HOLDS, DELETE, GOAL, START}
 use Rattle.task.specs.Task.{Condition, Action, Preference, Task, Row, row, conditionRows, effectRows, actionRows, preferenceRows, taskRows}
 use Rattle.task.specs.File.{paired}
-use Rattle.task.proofs.Tests.{all-both, all-map, all-concat}
-use Rattle.task.proofs.Back.{fromGoal, task-grouped, condition-passes, effects-pass}
+use Rattle.task.specs.Spelling.{kindSpellable, preferenceSpellable, spellable}
+use Rattle.task.proofs.Tests.{tests, all-both, all-map, all-concat, all-implies}
+use Rattle.task.proofs.Passing.{condition-passes, effects-pass}
+use Rattle.task.proofs.Back.{fromGoal, task-grouped}
 use Rattle.task.proofs.Reading.{passes}
 use Rattle.task.proofs.Positions.{drop-behind, tailRows, tail-stops, preferences-stop, past-kinds}
 use Rattle.classical.specs.Translation.{holdsFact, alone, normal, ended, sourceAction, endAction, closings, allClosed, translated}
-use Rattle.translation.specs.Writer.{Wrote, part}
+use Rattle.trackers.specs.Writer.{Wrote, part}
 use Rattle.task.specs.Rows.{between, Stops}
-use Rattle.translation.specs.Places.{endAt, Noted}
-use Rattle.translation.specs.Rows.{singleRows}
+use Rattle.trackers.specs.Places.{endAt, Noted}
+use Rattle.trackers.specs.Rows.{singleRows}
 use Rattle.translation.specs.Parts.{AllActsFor, openingRows, closedRows, WroteTask}
-use Rattle.translation.proofs.Putting.{then, as-rows}
-use Rattle.translation.proofs.Ends.{end-behind, part-is, condition-between}
+use Rattle.trackers.proofs.Putting.{then, as-rows}
+use Rattle.trackers.proofs.Ends.{end-behind, part-is, condition-between}
 use Rattle.task.proofs.Tests.{concat-append}
-use Rattle.translation.proofs.TrackerRows.{rows-append}
+use Rattle.trackers.proofs.TrackerRows.{rows-append}
 use Rattle.translation.proofs.PartRows.{end-is, closed-is}
 
 -- Where the parts of a task stand
@@ -135,6 +137,10 @@ module _ (t : Task) where
       ∙ sym (concat-append actionRows (M ++ one (endAction F ps)) Z)) i
       ++ [])
 
+-- the steps of each preference are few
+timed : (t : Task) → T (spellable t) → T (all (λ (q : Preference). kindSpellable (q .kind)) (t .preferences))
+timed t s = all-implies preferenceSpellable (λ (q : Preference). kindSpellable (q .kind)) (λ q p. search tests) (t .preferences) (search tests)
+
 -- its parts written one behind the other
 module _ (ms vs starts : List ℕ) (F P goal mid from at : ℕ) (b o₁ o₂ : List ℕ) (n k r : ℕ) (few : n ≤ 12000)
     (goal-at : goal ≡ endAt START START ms vs 0) (mid-at : mid ≡ endAt GOAL GOAL ms vs goal) (from-at : from ≡ endAt CLAUSE LACKS ms vs mid)
@@ -142,7 +148,7 @@ module _ (ms vs starts : List ℕ) (F P goal mid from at : ℕ) (b o₁ o₂ : L
   pub task-wrote : ((m : ℕ) → F + 3 * P ≡ F + 3 * m → Wrote b n 0 (openingRows F (F + 3 * P) m (part ms vs 0 goal) (part ms vs goal from)) k o₁)
       → AllActsFor ms vs from at starts F (F + 3 * P) o₁ n k r o₂
       → WroteTask ms vs F P b n r o₂
-  task-wrote opened acted t spelled facts many =
+  task-wrote opened acted t spelled spells facts many =
       let p : Placed ms vs t goal from at = placed ms vs t spelled goal mid from at goal-at mid-at from-at at-at in
       let N : F + 3 * P ≡ normal F (length (t .preferences)) = ap (λ (m : ℕ). F + 3 * m) many in
       as-rows ((λ z. openingRows F (F + 3 * P) P (p .opening z) (p .clauses z)
@@ -153,4 +159,4 @@ module _ (ms vs starts : List ℕ) (F P goal mid from at : ℕ) (b o₁ o₂ : L
       ++ (actionRows (endAction (facts z) (t .preferences)) ++ concatMap actionRows (closings (facts z) (length (t .preferences)) 0 (t .preferences)))))
       ∙ task-is t)
       (then few (opened P refl)
-      (acted (t .actions) (t .preferences) (p .acts) (p .prefs) (noted vs (t .preferences) (p .prefs) (so-many ∙ many)) N))
+      (acted (t .actions) (t .preferences) (p .acts) (p .prefs) (noted vs (t .preferences) (p .prefs) (so-many ∙ many) (timed t spells)) N))

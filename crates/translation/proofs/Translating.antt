@@ -10,7 +10,7 @@ use lib.Seq.{sets, sets-eq, length-sets, take-at, drop-append-add, drop-drop}
 use borrow.Author.Tests.{le-leb, lt-leb, leb-true}
 use Rattle.task.specs.Task.{Task, Row, taskRows}
 use Rattle.task.specs.File
-use Rattle.task.specs.File.{sizesOf, taskOf, bytes16, fileOf}
+use Rattle.task.specs.File.{paired, sizesOf, taskOf, bytes16, fileOf}
 use Rattle.task.specs.Check
 use Rattle.task.specs.Check.{check}
 use Rattle.task.specs.Answers.{answer as checked, asSizes, refusalIn}
@@ -23,25 +23,22 @@ use Rattle.task.proofs.Bytes.{file-length}
 use Rattle.task.proofs.Spelled.{Spelling, accepted-spelling}
 use Rattle.task.proofs.Checking.{within as limits}
 use Rattle.task.proofs.Answered.{parts-spell}
-use Rattle.classical.specs.Translation.{translated, compiled, compiledRows, translatedSizes}
-use Rattle.translation.specs.Writer.{rowBehind, putRows, Wrote}
-use Rattle.translation.specs.Whole.{header, Fitted, Fits}
+use Rattle.classical.specs.Translation.{further, translated, compiled, compiledRows, translatedSizes}
+use Rattle.translation.specs.Further.{furtherRows}
+use Rattle.translation.proofs.FurtherRows.{task-further}
+use Rattle.trackers.specs.Writer.{rowBehind, putRows, Wrote, header}
+use Rattle.translation.specs.Whole.{Fitted, Fits}
 use Rattle.outcome.specs.Outcome.{written, refused, areaAfter}
 use Rattle.outcome.specs.Answers.{answer}
 use Rattle.outcome.specs.declared.Outcome.{Outcome}
 use Rattle.outcome.proofs.Outcomes.{not-written, same-written}
 use Rattle.translation.specs.Translated.{rowsFitted, smallEnough, outcomeBy, outcome, Delivered}
 use Rattle.classical.specs.Claim.{Faithful}
-use Rattle.translation.proofs.Putting.{whole-file}
+use Rattle.trackers.proofs.Putting.{whole-file}
 use Rattle.classical.proofs.Spellable.{translated-sizes}
 use Rattle.classical.proofs.Written.{Written, written as written-file}
 
 -- The header
-
-pub sizes-put : (b b₁ b₂ b₃ b₄ : List ℕ) (F A n : ℕ) → b₁ ≡ sets b 0 (bytes16 F) → b₂ ≡ sets b₁ 2 (bytes16 A) → b₃ ≡ sets b₂ 4 (bytes16 0) → b₄ ≡ sets b₃ 6 (bytes16 n)
-    → b₄ ≡ sets b 0 (header F A n)
-sizes-put b b₁ b₂ b₃ b₄ F A n p q r s =
-    s ∙ ap (λ (l : List ℕ). sets l 6 (bytes16 n)) (r ∙ ap (λ (l : List ℕ). sets l 4 (bytes16 0)) (q ∙ ap (λ (l : List ℕ). sets l 2 (bytes16 A)) p))
 
 headed : (b h : List ℕ) → length h ≡ 8 → 8 ≤ length b → sets b 0 h ≡ h ++ drop 8 b
 headed b h e l =
@@ -72,20 +69,20 @@ pub stays : (t : Task) (b : List ℕ) (r : Outcome) (k : ℕ) → answer r ≡ r
 stays t b r k e f = record { answering = e ∙ f; area = sym (ap (areaAfter (fileOf (translated t)) b) e) }
 
 -- written: the file, and then what stood behind it
-module _ (t : Task) (F A P : ℕ) (facts : F ≡ t .facts) (acts : A ≡ length (t .actions)) (prefs : P ≡ length (t .preferences))
+module _ (t : Task) (F A P D : ℕ) (facts : F ≡ t .facts) (acts : A ≡ length (t .actions)) (prefs : P ≡ length (t .preferences)) (more : D ≡ further (t .preferences))
     (b mid out : List ℕ) (n k : ℕ) (counted : n ≡ rowBehind 0 (length (taskRows (translated t)))) (few : n ≤ 12000) (room : 8 + 5 * n ≤ length b)
-    (sized : mid ≡ sets b 0 (header (F + 3 * P + 2) (A + 2 * P + 1) n)) (w : Wrote mid n 0 (taskRows (translated t)) k out) where
+    (sized : mid ≡ sets b 0 (header (F + 3 * P + 2 + D) (A + 2 * P + 1) n)) (w : Wrote mid n 0 (taskRows (translated t)) k out) where
   abbrev xs : List Row
   xs = taskRows (translated t)
 
   n-is : n ≡ length xs
   n-is = omega (arith, counted)
 
-  same-sizes : sizesOf (translated t) ≡ translatedSizes (sizesOf t) (length xs)
+  same-sizes : sizesOf (translated t) ≡ translatedSizes (sizesOf t) (further (t .preferences)) (length xs)
   same-sizes = translated-sizes t
 
-  facts-are : F + 3 * P + 2 ≡ translated t .facts
-  facts-are = ap₂ (λ (f p : ℕ). f + 3 * p + 2) facts prefs ∙ sym (ap (λ (z : File.Sizes). z .facts) same-sizes)
+  facts-are : F + 3 * P + 2 + D ≡ translated t .facts
+  facts-are = (λ i. facts i + 3 * prefs i + 2 + more i) ∙ sym (ap (λ (z : File.Sizes). z .facts) same-sizes)
 
   actions-are : A + 2 * P + 1 ≡ length (translated t .actions)
   actions-are = ap₂ (λ (a p : ℕ). a + 2 * p + 1) acts prefs ∙ sym (ap (λ (z : File.Sizes). z .actions) same-sizes)
@@ -114,7 +111,7 @@ module _ (t : Task) (F A P : ℕ) (facts : F ≡ t .facts) (acts : A ≡ length 
   pub file-put : out ≡ fileOf (translated t) ++ drop (8 + 5 * n) b
   unfolding top
   file-put =
-      let long : 8 + 5 * length xs ≤ length mid = omega (arith, ap length sized, length-sets b 0 (header (F + 3 * P + 2) (A + 2 * P + 1) n)) in
+      let long : 8 + 5 * length xs ≤ length mid = omega (arith, ap length sized, length-sets b 0 (header (F + 3 * P + 2 + D) (A + 2 * P + 1) n)) in
       w .file
       ∙ ap (λ (m : ℕ). putRows mid m 0 xs) n-is
       ∙ whole-file mid (translated t .facts) (length (translated t .actions)) (length (translated t .preferences)) xs long
@@ -132,10 +129,10 @@ module _ (b area : List ℕ) (n : ℕ) where
   by-answer : (x : Check.Answer) → check b ≡ x → outcomeBy b (length area) x ≡ written n → Delivered b (compiled b ++ drop n area) n
   by-answer (Check.refused k i) e h = absurd (not-written k i n h)
   by-answer (Check.accepted z) e h =
-      go (leb (z .facts + 3 * z .preferences + 2) 128) refl (leb (z .actions + 2 * z .preferences + 1) 128) refl (leb (compiledRows b) 12000) refl
+      go (leb (z .facts + 3 * z .preferences + 2 + further (taskOf b .preferences)) 128) refl (leb (z .actions + 2 * z .preferences + 1) 128) refl (leb (compiledRows b) 12000) refl
       (leb (8 + 5 * compiledRows b) (length area)) h
     where
-      go : (u : Bool) → leb (z .facts + 3 * z .preferences + 2) 128 ≡ u → (v : Bool) → leb (z .actions + 2 * z .preferences + 1) 128 ≡ v
+      go : (u : Bool) → leb (z .facts + 3 * z .preferences + 2 + further (taskOf b .preferences)) 128 ≡ u → (v : Bool) → leb (z .actions + 2 * z .preferences + 1) 128 ≡ v
           → (w : Bool) → leb (compiledRows b) 12000 ≡ w → (x : Bool)
           → cond (u && v) (cond w (cond x (written (8 + 5 * compiledRows b)) (refused 9 0)) (refused 8 0)) (refused 7 0) ≡ written n
           → Delivered b (compiled b ++ drop n area) n
@@ -144,11 +141,11 @@ module _ (b area : List ℕ) (n : ℕ) where
       go true p true q false r x h = absurd (not-written 8 0 n h)
       go true p true q true r false h = absurd (not-written 9 0 n h)
       go true p true q true r true h =
-          let d : Written b z = written-file b z e (leb-true (z .facts + 3 * z .preferences + 2) 128 p) (leb-true (z .actions + 2 * z .preferences + 1) 128 q)
+          let d : Written b z = written-file b z e (leb-true (z .facts + 3 * z .preferences + 2 + further (taskOf b .preferences)) 128 p) (leb-true (z .actions + 2 * z .preferences + 1) 128 q)
           (leb-true (compiledRows b) 12000 r) in
           let front : take n (compiled b ++ drop n area) ≡ compiled b = first-bytes (sym (same-written (8 + 5 * compiledRows b) n h)) in
           record {
-            accepting = ap check front ∙ d .accepting ∙ ap (λ (y : File.Sizes). Check.accepted (translatedSizes y (compiledRows b))) (accepted-spelling b z e .same);
+            accepting = ap check front ∙ d .accepting ∙ ap (λ (y : File.Sizes). Check.accepted (translatedSizes y (further (taskOf b .preferences)) (compiledRows b))) (accepted-spelling b z e .same);
             faithfully = subst⁻¹ (λ (l : List ℕ). Faithful (taskOf b) (taskOf l)) front (d .faithfully);
           }
 
@@ -201,21 +198,32 @@ module _ (b area : List ℕ) (x : Checked) (e : checked x ≡ check b) where
     pub within : (z .rows ≤ 12000) × (1 ≤ z .facts) × (z .facts ≤ 128) × (z .actions ≤ 128) × (z .preferences ≤ 16)
     within = limits (asSizes z) (spelling .allowed)
 
-    pub too-large : smallEnough (asSizes z) ≡ false → (r : Outcome) → answer r ≡ refused 7 0 → Promised b area r area
-    too-large h r p = refuses r 7 0 p (rw h at on-task)
+    -- d facts D were counted
+    abbrev Counted : ℕ → Type 0
+    Counted d = d ≡ furtherRows (paired (take (8 + z .rows - 8) (drop 8 b)) (take (length b - (8 + z .rows)) (drop (8 + z .rows) b)))
 
-    pub small : smallEnough (asSizes z) ≡ true → (z .facts + 3 * z .preferences + 2 ≤ 128) × (z .actions + 2 * z .preferences + 1 ≤ 128)
-    small h =
-        let a : T (smallEnough (asSizes z)) = rw h tt in (
-          leb→le (z .facts + 3 * z .preferences + 2) 128 (search tests),
+    counted-is : (d : ℕ) → Counted d → d ≡ further (taskOf b .preferences)
+    counted-is d e = e ∙ ap furtherRows (parts-spell b (asSizes z) accepted) ∙ task-further (taskOf b) (spelling .spelling)
+
+    test-is : (d : ℕ) → Counted d → (x : Bool) → smallEnough (asSizes z) d ≡ x → smallEnough (asSizes z) (further (taskOf b .preferences)) ≡ x
+    test-is d e x h = ap (smallEnough (asSizes z)) (sym (counted-is d e)) ∙ h
+
+    pub too-large : (d : ℕ) → Counted d → smallEnough (asSizes z) d ≡ false → (r : Outcome) → answer r ≡ refused 7 0 → Promised b area r area
+    too-large d e h r p = refuses r 7 0 p (rw (test-is d e false h) at on-task)
+
+    pub small : (d : ℕ) → smallEnough (asSizes z) d ≡ true → (z .facts + 3 * z .preferences + 2 + d ≤ 128) × (z .actions + 2 * z .preferences + 1 ≤ 128)
+    small d h =
+        let a : T (smallEnough (asSizes z) d) = rw h tt in (
+          leb→le (z .facts + 3 * z .preferences + 2 + d) 128 (search tests),
           leb→le (z .actions + 2 * z .preferences + 1) 128 (search tests),
         )
 
-    pub put : smallEnough (asSizes z) ≡ true → (r : Outcome) (out : List ℕ)
-        → Fits (take (8 + z .rows - 8) (drop 8 b)) (take (length b - (8 + z .rows)) (drop (8 + z .rows) b)) (z .facts) (z .actions) (z .preferences) area r out
+    pub put : (d : ℕ) → Counted d → smallEnough (asSizes z) d ≡ true → (r : Outcome) (out : List ℕ)
+        → Fits (take (8 + z .rows - 8) (drop 8 b)) (take (length b - (8 + z .rows)) (drop (8 + z .rows) b)) (z .facts) (z .actions) (z .preferences) d area r out
         → Promised b area r out
-    put h r out fits =
+    put d e h r out fits =
         let sized : asSizes z ≡ sizesOf (taskOf b) = sym (spelling .sized) in
         let f : Fitted (taskOf b) area r out =
-        fits (taskOf b) (parts-spell b (asSizes z) accepted) (ap (λ (y : File.Sizes). y .facts) sized) (ap (λ (y : File.Sizes). y .actions) sized) (ap (λ (y : File.Sizes). y .preferences) sized) in
-        promised b area r out (f .answering ∙ (rw h at on-task)) (f .area)
+        fits (taskOf b) (parts-spell b (asSizes z) accepted) (spelling .spelling) (ap (λ (y : File.Sizes). y .facts) sized) (ap (λ (y : File.Sizes). y .actions) sized) (ap (λ (y : File.Sizes). y .preferences) sized)
+        (counted-is d e) in
+        promised b area r out (f .answering ∙ (rw (test-is d e true h) at on-task)) (f .area)

@@ -3,32 +3,18 @@ use mathlib.Core.Path.{_≡_}
 use mathlib.Core.Bool.{Bool, true, false, cond}
 use mathlib.Core.List.{List, [], _∷_, _++_, map}
 use Prim.Native.Nat.{ℕ, zero, suc, _+_, _-_}
+use lib.Dec.{T}
 use lib.ListN.{length, drop}
 use Rattle.task.specs.Lists.{concatMap}
 use Rattle.task.specs.Marks.{ACTION, EFFECT, HOLDS, LACKS, ADD, DELETE, START}
-use Rattle.task.specs.Task.{Kind, Condition, Action, Preference, Row, row, clauseRows, conditionRows, effectRows, actionRows, preferenceRows, Task, taskRows}
+use Rattle.task.specs.Task.{Kind, Condition, Action, Preference, Row, row, clauseRows, conditionRows, actionRows, preferenceRows, Task, taskRows}
 use Rattle.task.specs.File.{paired}
-use Rattle.classical.specs.Translation.{deny, alone, trackersOf, metClause, factC, normal, ended, allTrackers, sourceAction, closings, translated}
-use Rattle.translation.specs.Writer.{Wrote}
-use Rattle.translation.specs.Places.{Starts}
-use Rattle.translation.specs.Rows.{singleRows}
-
--- the rows that f gives for the preference at row `at`
-abbrev pub WroteAt : List ℕ → List ℕ → ℕ → (Preference → List Row) → List ℕ → ℕ → ℕ → ℕ → List ℕ → Type 0
-WroteAt ms vs at f b n i r out =
-    (q : Preference) (qs : List Preference) → drop at (paired ms vs) ≡ concatMap preferenceRows (q ∷ qs) → Wrote b n i (f q) r out
-
--- the rows that f gives for the preferences that begin at the rows `starts`
-abbrev pub WroteFor : List ℕ → List ℕ → List ℕ → (List Preference → List Row) → List ℕ → ℕ → ℕ → ℕ → List ℕ → Type 0
-WroteFor ms vs starts f b n i r out = (qs : List Preference) → Starts ms vs starts qs → Wrote b n i (f qs) r out
-
--- the trackers of a preference whose facts begin with s
-abbrev pub preferenceTrackers : Bool → ℕ → Preference → List Row
-preferenceTrackers last s q = concatMap effectRows (trackersOf (q .kind) last s (s + 1) (q .first) (q .second))
-
--- the trackers of preferences, over F facts
-abbrev pub allTrackerRows : Bool → ℕ → List Preference → List Row
-allTrackerRows last F qs = concatMap effectRows (allTrackers last F 0 qs)
+use Rattle.task.specs.Spelling.{spellable}
+use Rattle.classical.specs.Translation.{deny, alone, metClause, factC, normal, ended, sourceAction, closings, translated}
+use Rattle.trackers.specs.Writer.{Wrote}
+use Rattle.trackers.specs.Places.{Starts}
+use Rattle.trackers.specs.Rows.{singleRows}
+use Rattle.trackers.specs.Trackers.{allTrackerRows}
 
 -- a source action with the rows xs and then the effects ys
 abbrev pub sourceRows : ℕ → ℕ → List Row → List Row → List Preference → List Row
@@ -86,4 +72,5 @@ openingRows F N m xs ys = xs ++ ((row START N ∷ []) ++ (ys ++ (singleRows HOLD
 -- the translation of the task over F facts and P preferences that the rows spell
 abbrev pub WroteTask : List ℕ → List ℕ → ℕ → ℕ → List ℕ → ℕ → ℕ → List ℕ → Type 0
 WroteTask ms vs F P b n r out =
-    (t : Task) → paired ms vs ≡ taskRows t → F ≡ t .facts → P ≡ length (t .preferences) → Wrote b n 0 (taskRows (translated t)) r out
+    (t : Task) → paired ms vs ≡ taskRows t → T (spellable t) → F ≡ t .facts → P ≡ length (t .preferences)
+    → Wrote b n 0 (taskRows (translated t)) r out

@@ -9,26 +9,26 @@ use Rattle.task.specs.File.{Sizes, sizes, taskOf}
 use Rattle.task.specs.Check
 use Rattle.task.specs.Check.{Answer, check}
 use Rattle.outcome.specs.Outcome.{Outcome, refused, fitted}
-use Rattle.classical.specs.Translation.{translatedSizes, compiledRows}
+use Rattle.classical.specs.Translation.{further, translatedSizes, compiledRows}
 use Rattle.classical.specs.Claim.{Faithful}
 
 -- a translation of n rows, for an area of so many bytes
 abbrev pub rowsFitted : ℕ → ℕ → Outcome
 rowsFitted n room = cond (leb n 12000) (fitted (8 + 5 * n) room) (refused 8 0)
 
--- the facts and the actions of the translation are few enough
-abbrev pub smallEnough : Sizes → Bool
-smallEnough z = leb (z .facts + 3 * z .preferences + 2) 128 && leb (z .actions + 2 * z .preferences + 1) 128
+-- the facts and the actions of the translation are few enough, with d facts D
+abbrev pub smallEnough : Sizes → ℕ → Bool
+smallEnough z d = leb (z .facts + 3 * z .preferences + 2 + d) 128 && leb (z .actions + 2 * z .preferences + 1) 128
 
 -- the task in b is translated where check has accepted it
 abbrev pub outcomeBy : List ℕ → ℕ → Answer → Outcome
 outcomeBy b room (Check.refused n i) = refused n i
-outcomeBy b room (Check.accepted z) = cond (smallEnough z) (rowsFitted (compiledRows b) room) (refused 7 0)
+outcomeBy b room (Check.accepted z) = cond (smallEnough z (further (taskOf b .preferences))) (rowsFitted (compiledRows b) room) (refused 7 0)
 
 unfoldable pub outcome : List ℕ → ℕ → Outcome
 outcome b room = outcomeBy b room (check b)
 
 -- demand 3: the first n bytes of the area hold a task that is faithful to the one in b
 pub record Delivered (b area : List ℕ) (n : ℕ) : Type 0 where
-  pub accepting : check (take n area) ≡ Check.accepted (translatedSizes (sizes b) (compiledRows b))
+  pub accepting : check (take n area) ≡ Check.accepted (translatedSizes (sizes b) (further (taskOf b .preferences)) (compiledRows b))
   pub faithfully : Faithful (taskOf b) (taskOf (take n area))

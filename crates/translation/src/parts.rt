@@ -7,13 +7,13 @@ ghost use Rattle.task.specs.Marks.{EFFECT, ADD};
 ghost use Rattle.task.specs.Task.{row, clauseRows, conditionRows};
 ghost use Rattle.task.specs.File.{kindOf};
 ghost use Rattle.classical.specs.Translation.{metClause};
-ghost use Rattle.translation.specs.Writer.{Wrote, part};
-ghost use Rattle.translation.specs.Parts.{WroteAt, WroteFor, sourceRows, endRows, missed, closedRows, closingHead, closingRows, preferenceClosings, ActsFor, ClosesFor};
-use super::places;
-use super::tracking;
-use super::writer;
+ghost use Rattle.trackers.specs.Writer.{Wrote, part};
+ghost use Rattle.trackers.specs.Trackers.{WroteAt, WroteFor};
+ghost use Rattle.translation.specs.Parts.{sourceRows, endRows, missed, closedRows, closingHead, closingRows, preferenceClosings, ActsFor, ClosesFor};
 use task::marks;
 use task::rows;
+use trackers::places;
+use trackers::writer;
 
 // A source action: its rows up to `mid`, behind its precondition, and up to `next`, behind its effects.
 fn put_action(
@@ -29,13 +29,13 @@ fn put_action(
     facts: u32,
     normal: u32,
 ) -> usize
-    requires { ⌜ (n ≤ 12000) × (8 + 5 * n ≤ length (now out)) × (4 * length (now marks) ≤ length (now values)) × (length (now starts) ≤ 16) × (facts ≤ 128) × (mid ≤ length (now marks)) × (next ≤ length (now marks)) ⌝ }
+    requires { ⌜ (n ≤ 12000) × (8 + 5 * n ≤ length (now out)) × (4 * length (now marks) ≤ length (now values)) × (length (now marks) ≤ 12000) × (length (now starts) ≤ 16) × (facts ≤ 128) × (mid ≤ length (now marks)) × (next ≤ length (now marks)) ⌝ }
     ensures { λ r. ⌜ WroteFor (now (marks .entry)) (now (values .entry)) (now (starts .entry)) (sourceRows facts normal (part (now (marks .entry)) (now (values .entry)) from mid) (part (now (marks .entry)) (now (values .entry)) mid next)) (now (out .entry)) n i r (now (out .exit)) ⌝ }
 {
     let k = writer::copy_rows(&mut *out, n, i, marks, values, from, mid);
     let k = writer::put_single(&mut *out, n, k, marks::HOLDS, normal);
     let k = writer::copy_rows(&mut *out, n, k, marks, values, mid, next);
-    tracking::all_trackers(&mut *out, n, k, marks, values, starts, facts, false)
+    trackers::all_trackers(&mut *out, n, k, marks, values, starts, facts, false)
 }
 
 // The source's actions, which stand from row `from` up to row `at`, where the preferences begin.
@@ -51,7 +51,7 @@ pub fn put_actions(
     facts: u32,
     normal: u32,
 ) -> usize
-    requires { ⌜ (n ≤ 12000) × (8 + 5 * n ≤ length (now out)) × (4 * length (now marks) ≤ length (now values)) × (length (now starts) ≤ 16) × (facts ≤ 128) × (at ≤ length (now marks)) ⌝ }
+    requires { ⌜ (n ≤ 12000) × (8 + 5 * n ≤ length (now out)) × (4 * length (now marks) ≤ length (now values)) × (length (now marks) ≤ 12000) × (length (now starts) ≤ 16) × (facts ≤ 128) × (at ≤ length (now marks)) ⌝ }
     ensures { λ r. ⌜ ActsFor (now (marks .entry)) (now (values .entry)) from at (now (starts .entry)) facts normal (now (out .entry)) n i r (now (out .exit)) ⌝ }
 {
     let mut k = i;
@@ -91,7 +91,7 @@ pub fn put_end(
     facts: u32,
     normal: u32,
 ) -> usize
-    requires { ⌜ (n ≤ 12000) × (8 + 5 * n ≤ length (now out)) × (4 * length (now marks) ≤ length (now values)) × (length (now starts) ≤ 16) × (facts ≤ 128) × (normal ≤ 128) ⌝ }
+    requires { ⌜ (n ≤ 12000) × (8 + 5 * n ≤ length (now out)) × (4 * length (now marks) ≤ length (now values)) × (length (now marks) ≤ 12000) × (length (now starts) ≤ 16) × (facts ≤ 128) × (normal ≤ 128) ⌝ }
     ensures { λ r. ⌜ WroteFor (now (marks .entry)) (now (values .entry)) (now (starts .entry)) (endRows facts normal) (now (out .entry)) n i r (now (out .exit)) ⌝ }
 {
     let k = writer::put_row(&mut *out, n, i, marks::ACTION, 0);
@@ -99,18 +99,19 @@ pub fn put_end(
     let k = writer::put_row(&mut *out, n, k, marks::EFFECT, 0);
     let k = writer::put_row(&mut *out, n, k, marks::ADD, normal + 1);
     let k = writer::put_row(&mut *out, n, k, marks::DELETE, normal);
-    tracking::all_trackers(&mut *out, n, k, marks, values, starts, facts, true)
+    trackers::all_trackers(&mut *out, n, k, marks, values, starts, facts, true)
 }
 
 // The clause that says that a preference is met, by its mark.
 fn put_met(out: &mut [u8], n: usize, i: usize, mark: u8, s: u32) -> usize
     requires { ⌜ (n ≤ 12000) × (8 + 5 * n ≤ length (now out)) × (s < 1000000) ⌝ }
-    ensures { λ r. ⌜ Wrote (now (out .entry)) n i (clauseRows (metClause s (s + 1) (kindOf mark))) r (now (out .exit)) ⌝ }
+    ensures { λ r. ⌜ ((t : ℕ) → Wrote (now (out .entry)) n i (clauseRows (metClause s (s + 1) (kindOf mark t))) r (now (out .exit))) ⌝ }
 {
     let k = writer::put_row(&mut *out, n, i, marks::CLAUSE, 0);
     match mark {
         marks::SOMETIME => writer::put_row(&mut *out, n, k, marks::HOLDS, s),
         marks::AT_END => writer::put_row(&mut *out, n, k, marks::HOLDS, s),
+        marks::WITHIN => writer::put_row(&mut *out, n, k, marks::HOLDS, s),
         marks::AT_MOST_ONCE => {
             let k = writer::put_row(&mut *out, n, k, marks::HOLDS, s);
             writer::put_row(&mut *out, n, k, marks::LACKS, s + 1)
@@ -122,11 +123,12 @@ fn put_met(out: &mut [u8], n: usize, i: usize, mark: u8, s: u32) -> usize
 // Its literals denied, each a clause.
 fn put_missed(out: &mut [u8], n: usize, i: usize, mark: u8, s: u32) -> usize
     requires { ⌜ (n ≤ 12000) × (8 + 5 * n ≤ length (now out)) × (s < 1000000) ⌝ }
-    ensures { λ r. ⌜ Wrote (now (out .entry)) n i (conditionRows (missed s (s + 1) (kindOf mark))) r (now (out .exit)) ⌝ }
+    ensures { λ r. ⌜ ((t : ℕ) → Wrote (now (out .entry)) n i (conditionRows (missed s (s + 1) (kindOf mark t))) r (now (out .exit))) ⌝ }
 {
     match mark {
         marks::SOMETIME => writer::put_single(&mut *out, n, i, marks::LACKS, s),
         marks::AT_END => writer::put_single(&mut *out, n, i, marks::LACKS, s),
+        marks::WITHIN => writer::put_single(&mut *out, n, i, marks::LACKS, s),
         marks::AT_MOST_ONCE => {
             let k = writer::put_single(&mut *out, n, i, marks::LACKS, s);
             writer::put_single(&mut *out, n, k, marks::HOLDS, s + 1)
@@ -178,7 +180,7 @@ fn put_closing(
     ended: u32,
 ) -> usize
     requires { ⌜ (n ≤ 12000) × (8 + 5 * n ≤ length (now out)) × (1 ≤ s) × (s < 1000000) ⌝ }
-    ensures { λ r. ⌜ Wrote (now (out .entry)) n i (closingRows 0 first s ended (clauseRows (metClause s (s + 1) (kindOf mark))) ++ closingRows weight first s ended (conditionRows (missed s (s + 1) (kindOf mark)))) r (now (out .exit)) ⌝ }
+    ensures { λ r. ⌜ ((t : ℕ) → Wrote (now (out .entry)) n i (closingRows 0 first s ended (clauseRows (metClause s (s + 1) (kindOf mark t))) ++ closingRows weight first s ended (conditionRows (missed s (s + 1) (kindOf mark t)))) r (now (out .exit))) ⌝ }
 {
     let k = open_closing(&mut *out, n, i, 0, first, s, ended);
     let k = put_met(&mut *out, n, k, mark, s);

@@ -3,13 +3,13 @@ ghost use mathlib.Core.Path.{_≡_};
 ghost use Prim.Native.Nat.{ℕ, _+_, _*_, _≤_};
 ghost use lib.ListN.{length};
 ghost use Rattle.translation.specs.Parts.{openingRows, AllActsFor, WroteTask};
-ghost use Rattle.translation.specs.Writer.{Wrote, part};
+ghost use Rattle.trackers.specs.Writer.{Wrote, part};
 ghost use Rattle.translation.specs.Whole.{Counts, Fits};
 use super::parts;
-use super::places;
-use super::writer;
 use outcome::Outcome;
 use task::marks;
+use trackers::places;
+use trackers::writer;
 
 // The opening and the goal: GOAL stands at row `goal`, and the goal's clauses before row `from`.
 fn put_opening(
@@ -46,7 +46,7 @@ fn put_all_actions(
     facts: u32,
     normal: u32,
 ) -> usize
-    requires { ⌜ (n ≤ 12000) × (8 + 5 * n ≤ length (now out)) × (4 * length (now marks) ≤ length (now values)) × (length (now starts) ≤ 16) × (at ≤ length (now marks)) × (1 ≤ facts) × (facts ≤ 128) × (normal ≤ 128) ⌝ }
+    requires { ⌜ (n ≤ 12000) × (8 + 5 * n ≤ length (now out)) × (4 * length (now marks) ≤ length (now values)) × (length (now marks) ≤ 12000) × (length (now starts) ≤ 16) × (at ≤ length (now marks)) × (1 ≤ facts) × (facts ≤ 128) × (normal ≤ 128) ⌝ }
     ensures { λ r. ⌜ AllActsFor (now (marks .entry)) (now (values .entry)) from at (now (starts .entry)) facts normal (now (out .entry)) n i r (now (out .exit)) ⌝ }
 {
     let k = parts::put_actions(
@@ -117,9 +117,10 @@ pub fn put_file(
     facts: u32,
     actions: u32,
     preferences: u32,
+    further: u32,
 ) -> Outcome
-    requires { ⌜ (4 * length (now marks) ≤ length (now values)) × (length (now marks) ≤ 12000) × (1 ≤ facts) × (facts + 3 * preferences + 2 ≤ 128) × (preferences ≤ 16) × (actions + 2 * preferences + 1 ≤ 128) ⌝ }
-    ensures { λ r. ⌜ Fits (now (marks .entry)) (now (values .entry)) facts actions preferences (now (out .entry)) r (now (out .exit)) ⌝ }
+    requires { ⌜ (4 * length (now marks) ≤ length (now values)) × (length (now marks) ≤ 12000) × (1 ≤ facts) × (facts + 3 * preferences + 2 + further ≤ 128) × (preferences ≤ 16) × (actions + 2 * preferences + 1 ≤ 128) ⌝ }
+    ensures { λ r. ⌜ Fits (now (marks .entry)) (now (values .entry)) facts actions preferences further (now (out .entry)) r (now (out .exit)) ⌝ }
 {
     let n = count_rows(marks, values, facts, preferences);
     if 12000 < n {
@@ -129,7 +130,7 @@ pub fn put_file(
     if out.len() < length {
         return outcome::refuse(9, 0);
     }
-    let all_facts = facts + 3 * preferences + 2;
+    let all_facts = facts + 3 * preferences + 2 + further;
     let all_actions = actions + 2 * preferences + 1;
     writer::put_sizes(&mut *out, all_facts, all_actions, n as u32);
     let _ = put_task(&mut *out, n, marks, values, facts, preferences);

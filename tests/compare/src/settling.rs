@@ -73,7 +73,7 @@ pub fn compare(first: u64, count: u64) -> Result<(), String> {
 /// A task with so many preferences, all of one weight or, where that is none, each of another.
 fn task(preferences: usize, weight: Option<u32>) -> Task {
     let preference = |k| Preference {
-        kind: Kind::ALL[k % 6],
+        kind: Kind::all(k)[k % 8],
         weight: weight.unwrap_or(1u32 << k),
         phi: vec![],
         psi: vec![],

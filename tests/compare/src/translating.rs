@@ -142,12 +142,20 @@ fn long(rows: usize) -> Task {
     }
 }
 
-/// A task with a sometime-after rule of several clauses on each side, whose translation has `rows` rows: the goal is one
-/// clause, as long as that takes.
-fn followed(rows: usize) -> Task {
+/// A task of so many facts, with a preference of each of these kinds.
+fn of_kinds(facts: usize, kinds: &[Kind]) -> Task {
+    Task {
+        preferences: kinds.iter().map(|&kind| preference(kind, 2)).collect(),
+        ..task(facts, 2, 0)
+    }
+}
+
+/// A task with a preference of several clauses on each side, whose translation has `rows` rows: the goal is one clause, as
+/// long as that takes.
+fn followed(kind: Kind, rows: usize) -> Task {
     let task = |literals| Task {
         goal: vec![vec![literal(0); literals]],
-        ..ruled(2, vec![preference(Kind::SometimeAfter, 12)])
+        ..ruled(2, vec![preference(kind, 12)])
     };
     let least = peer::translate(&peer::encode(&task(1)), peer::random::MAX_FILE)
         .expect("a translation")
@@ -189,21 +197,39 @@ pub fn edges() -> Result<(), String> {
     edge("F 127 with P 0", &task(127, 2, 0), refused::TOO_MANY)?;
     edge("12,000 rows", &long(11_991), 0)?;
     edge("12,001 rows", &long(11_992), refused::TRANSLATION_ROWS)?;
-    edge("12,000 rows with sometime-after", &followed(12_000), 0)?;
-    edge(
-        "12,001 rows with sometime-after",
-        &followed(12_001),
-        refused::TRANSLATION_ROWS,
-    )?;
+    for kind in [
+        Kind::SometimeAfter,
+        Kind::Within(15),
+        Kind::AlwaysWithin(15),
+    ] {
+        let name = kind.name();
+        edge(
+            &format!("12,000 rows with {name}"),
+            &followed(kind, 12_000),
+            0,
+        )?;
+        edge(
+            &format!("12,001 rows with {name}"),
+            &followed(kind, 12_001),
+            refused::TRANSLATION_ROWS,
+        )?;
+    }
     edge("A 0", &task(3, 0, 2), 0)?;
     edge("P 0", &task(3, 2, 0), 0)?;
     edge("A 0 and P 0", &task(3, 0, 0), 0)?;
-    for kind in Kind::ALL {
-        // sometime-after has φ once for each clause of ψ.
-        let many = if kind == Kind::SometimeAfter { 16 } else { 40 };
+    deadlines()?;
+    for kind in kinds_and_deadlines() {
+        // These two have several effects for each clause of ψ.
+        let many = match kind {
+            Kind::SometimeAfter => 16,
+            Kind::AlwaysWithin(_) => 8,
+            _ => 40,
+        };
         for clauses in [0, 1, 2, 5, many] {
             edge("a kind", &ruled(2, vec![preference(kind, clauses); 2]), 0)?;
         }
+    }
+    for kind in Kind::all(3) {
         // Each of 95 actions has the trackers of 16 preferences of 220 clauses, about a million rows in all; at-end's stand in
         // end alone.
         if kind != Kind::AtEnd {
@@ -214,4 +240,36 @@ pub fn edges() -> Result<(), String> {
     }
     println!("edges: as they should be");
     Ok(())
+}
+
+/// The most facts beside deadlines, and one more.
+fn deadlines() -> Result<(), String> {
+    for (facts, kinds) in [
+        (122, vec![Kind::Within(0)]),
+        (123, vec![Kind::AlwaysWithin(0)]),
+        (107, vec![Kind::Within(15)]),
+        (108, vec![Kind::AlwaysWithin(15)]),
+        (
+            91,
+            vec![Kind::Within(10), Kind::Always, Kind::AlwaysWithin(15)],
+        ),
+        (14, vec![Kind::Within(3); 16]),
+        (14, vec![Kind::AlwaysWithin(4); 16]),
+    ] {
+        let what = |facts| format!("F {facts} with {kinds:?}");
+        edge(&what(facts), &of_kinds(facts, &kinds), 0)?;
+        let over = of_kinds(facts + 1, &kinds);
+        edge(&what(facts + 1), &over, refused::TOO_MANY)?;
+    }
+    let most = of_kinds(128, &[Kind::Within(15); 16]);
+    edge("16 of the latest deadlines", &most, refused::TOO_MANY)
+}
+
+/// Each kind, those with a deadline having several.
+fn kinds_and_deadlines() -> Vec<Kind> {
+    let mut kinds = Kind::all(0).to_vec();
+    for t in [1, 2, 15] {
+        kinds.extend([Kind::Within(t), Kind::AlwaysWithin(t)]);
+    }
+    kinds
 }

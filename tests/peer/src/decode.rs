@@ -178,9 +178,15 @@ impl Rows<'_> {
         })
     }
 
-    /// The opening row, φ, and for two of the kinds SECOND and ψ.
+    /// The opening row, for the kinds with a deadline STEPS, φ, and for those with
+    /// two conditions SECOND and ψ.
     fn preference(&mut self, kind: Kind) -> Result<Preference, Refusal> {
         let weight = self.take_amount()?;
+        let kind = match kind {
+            Kind::Within(_) => Kind::Within(self.deadline()?),
+            Kind::AlwaysWithin(_) => Kind::AlwaysWithin(self.deadline()?),
+            _ => kind,
+        };
         let phi = self.condition()?;
         let mut psi = Vec::new();
         if kind.has_second() {
@@ -196,6 +202,14 @@ impl Rows<'_> {
             phi,
             psi,
         })
+    }
+
+    /// STEPS.
+    fn deadline(&mut self) -> Result<usize, Refusal> {
+        if self.mark() != Some(mark::STEPS) {
+            return self.refuse(4);
+        }
+        self.take(0, MAX_DEADLINE as u32).map(|t| t as usize)
     }
 
     /// Zero or more clauses.

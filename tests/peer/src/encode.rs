@@ -59,6 +59,9 @@ pub fn rows(task: &Task) -> Vec<Row> {
     }
     for preference in &task.preferences {
         out.amount(preference.kind.mark(), preference.weight);
+        if let Some(t) = preference.kind.deadline() {
+            out.amount(mark::STEPS, t as u32);
+        }
         out.condition(&preference.phi);
         if preference.kind.has_second() {
             out.amount(mark::SECOND, 0);

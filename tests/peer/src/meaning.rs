@@ -88,6 +88,10 @@ pub fn met(preference: &Preference, states: &[State]) -> bool {
         Kind::SometimeBefore => (0..=n).all(|i| !phi[i] || (0..i).any(|j| psi[j])),
         // For each state i with φ there is j >= i with ψ.
         Kind::SometimeAfter => (0..=n).all(|i| !phi[i] || (i..=n).any(|j| psi[j])),
+        // φ in some state i <= t.
+        Kind::Within(t) => (0..=n).any(|i| i <= t && phi[i]),
+        // For each state i with φ there is j from i to i + t with ψ.
+        Kind::AlwaysWithin(t) => (0..=n).all(|i| !phi[i] || (i..=n).any(|j| j <= i + t && psi[j])),
     }
 }
 

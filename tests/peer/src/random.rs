@@ -4,7 +4,7 @@
 use crate::encode::{encode, rows, spell, Row};
 use crate::meaning::{after, condition_true, opening, State};
 use crate::task::*;
-use crate::translate::{translate, translated};
+use crate::translate::{deadline_facts, translate, translated};
 
 /// The length of the longest accepted file.
 pub const MAX_FILE: usize = 8 + 5 * MAX_ROWS;
@@ -122,7 +122,8 @@ impl Random {
 pub struct Shape {
     pub facts: usize,
     pub actions: usize,
-    pub preferences: usize,
+    /// The kinds of the preferences.
+    pub kinds: Vec<Kind>,
     /// The most clauses of a condition.
     pub clauses: usize,
     /// The most literals of a clause.
@@ -148,7 +149,7 @@ impl Shape {
         Shape {
             facts: r.between(1, 6),
             actions: r.between(0, 4),
-            preferences: r.between(0, 4),
+            kinds: up_to(r, 4),
             clauses: 2,
             literals: 3,
             effects: 3,
@@ -160,7 +161,7 @@ impl Shape {
         Shape {
             facts: r.between(1, 30),
             actions: r.between(1, 12),
-            preferences: r.between(0, 10),
+            kinds: up_to(r, 10),
             clauses: 4,
             literals: 4,
             effects: 4,
@@ -174,7 +175,7 @@ impl Shape {
         Shape {
             facts: r.pick(&[63, 64, 65, 66, 113, 126, 127, 128, many, many]),
             actions: r.between(1, 6),
-            preferences: r.between(0, 4),
+            kinds: up_to(r, 4),
             clauses: 3,
             literals: 3,
             effects: 3,
@@ -186,17 +187,21 @@ impl Shape {
     fn at_limits(r: &mut Random) -> Shape {
         let many = r.between(0, 16);
         let preferences = r.pick(&[0, 1, 15, 16, 16, many]);
-        let total = r.pick(&[127, 128, 128, 129]);
+        let kinds = kinds(r, preferences);
+        let total: usize = r.pick(&[127, 128, 128, 129]);
         let few = r.between(1, 8);
+        // Many long deadlines alone may have more facts than that.
+        let added = 2 + 3 * preferences + kinds.iter().map(|&k| deadline_facts(k)).sum::<usize>();
+        let facts = total.saturating_sub(added).max(1);
         let (facts, actions) = match r.below(3) {
-            0 => (total - 2 - 3 * preferences, few),
+            0 => (facts, few),
             1 => (few, total - 1 - 2 * preferences),
-            _ => (total - 2 - 3 * preferences, 128 - 1 - 2 * preferences),
+            _ => (facts, 128 - 1 - 2 * preferences),
         };
         Shape {
             facts,
             actions,
-            preferences,
+            kinds,
             clauses: 1,
             literals: 2,
             effects: 1,
@@ -210,13 +215,30 @@ impl Shape {
         Shape {
             facts: r.pick(&[5, 64, 80, 100, many]),
             actions: r.between(0, 10),
-            preferences: r.between(0, 8),
+            kinds: up_to(r, 8),
             clauses: r.between(1, 30),
             literals: r.between(1, 20),
             effects: r.between(0, 6),
             steps: r.between(0, 10),
         }
     }
+}
+
+/// The kinds of at most so many preferences.
+pub fn up_to(r: &mut Random, most: usize) -> Vec<Kind> {
+    let count = r.between(0, most);
+    kinds(r, count)
+}
+
+/// The kinds of so many preferences. Most deadlines are short, so that short plans
+/// meet some and miss others.
+pub fn kinds(r: &mut Random, count: usize) -> Vec<Kind> {
+    let mut kind = || {
+        let any = r.between(0, MAX_DEADLINE);
+        let deadline = r.pick(&[0, 1, 1, 2, 2, 3, 4, any, any, MAX_DEADLINE]);
+        r.pick(&Kind::all(deadline))
+    };
+    (0..count).map(|_| kind()).collect()
 }
 
 /// The length of a plan: mostly short, now and then at the limit or over it.
@@ -251,7 +273,11 @@ pub fn task_and_plan(r: &mut Random, shape: &Shape) -> (Task, Vec<u8>) {
     let state = opening(&task);
     let parts = &mut Parts { r, pool, shape };
     task.actions = (0..shape.actions).map(|_| parts.action(&state)).collect();
-    task.preferences = (0..shape.preferences).map(|_| parts.preference()).collect();
+    task.preferences = shape
+        .kinds
+        .iter()
+        .map(|&kind| parts.preference(kind))
+        .collect();
     let (plan, last) = plan(parts.r, &task, shape.steps);
     task.goal = match parts.r.chance(75) {
         true => parts.condition(Some(&last)),
@@ -390,8 +416,7 @@ impl Parts<'_> {
         }
     }
 
-    fn preference(&mut self) -> Preference {
-        let kind = self.r.pick(&Kind::ALL);
+    fn preference(&mut self, kind: Kind) -> Preference {
         let weight = self.amount();
         let phi = self.rule();
         let psi = match kind.has_second() {
@@ -500,7 +525,7 @@ fn damaged(r: &mut Random, task: &Task) -> Vec<u8> {
 fn noise(r: &mut Random) -> Vec<Row> {
     let count = r.between(0, 12);
     let row = |_| Row {
-        mark: r.below(18) as u8,
+        mark: r.below(21) as u8,
         value: r.below(3) as u32,
     };
     (0..count).map(row).collect()
@@ -515,8 +540,8 @@ fn damage_rows(r: &mut Random, sizes: &mut [u16; 3], rows: &mut Vec<Row>) {
     let (at, other) = (r.below(count), r.below(count));
     let facts = u32::from(sizes[0]);
     match r.below(13) {
-        0 => rows[at].mark = r.below(18) as u8,
-        1 => rows[at].mark = r.pick(&[0, 1, 2, 3, 8, 9, 10, 14, 16, 17, 32, 128, 255]),
+        0 => rows[at].mark = r.below(21) as u8,
+        1 => rows[at].mark = r.pick(&[0, 1, 2, 3, 8, 9, 10, 14, 16, 17, 18, 19, 20, 32, 128, 255]),
         2 | 3 => rows[at].value = past_limit(r, rows[at], facts),
         4 => rows.swap(at, other),
         5 => rows.swap(at, (at + 1) % count),
@@ -526,7 +551,7 @@ fn damage_rows(r: &mut Random, sizes: &mut [u16; 3], rows: &mut Vec<Row>) {
         7 => rows.insert(other, rows[at]),
         8 => {
             let row = Row {
-                mark: r.between(1, 16) as u8,
+                mark: r.between(1, 19) as u8,
                 value: r.below(2) as u32,
             };
             rows.insert(at, row);
@@ -553,8 +578,9 @@ fn past_limit(r: &mut Random, row: Row, facts: u32) -> u32 {
         .value
         .wrapping_add(r.pick(&[1 << 8, 1 << 16, 1 << 24, 1 << 31]));
     match row.mark {
-        1 | 10..=15 => r.pick(&[MAX_AMOUNT, MAX_AMOUNT + 1, u32::MAX, high]),
+        1 | 10..=15 | 17 | 18 => r.pick(&[MAX_AMOUNT, MAX_AMOUNT + 1, u32::MAX, high]),
         2 | 3 | 8 | 16 => r.pick(&[1, 2, u32::MAX, high]),
+        19 => r.pick(&[15, 16, 17, 31, u32::MAX, high]),
         _ => r.pick(&[facts - 1, facts, facts + 1, 128, u32::MAX, high]),
     }
 }

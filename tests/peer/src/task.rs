@@ -6,11 +6,13 @@ pub const MAX_PREFERENCES: usize = 16;
 pub const MAX_ROWS: usize = 12_000;
 /// The largest cost and the largest weight.
 pub const MAX_AMOUNT: u32 = 1_000_000;
+/// The latest deadline, in steps.
+pub const MAX_DEADLINE: usize = 15;
 pub const MAX_STEPS: usize = 2_048;
 /// The largest cost that settle takes.
 pub const MAX_COST: u64 = 2_048_000_000;
 
-/// The marks of the rows. Marks 10 to 15 are those of `Kind`.
+/// The marks of the rows. Marks 10 to 15, 17 and 18 are those of `Kind`.
 pub mod mark {
     pub const ACTION: u8 = 1;
     pub const EFFECT: u8 = 2;
@@ -22,6 +24,7 @@ pub mod mark {
     pub const GOAL: u8 = 8;
     pub const START: u8 = 9;
     pub const SECOND: u8 = 16;
+    pub const STEPS: u8 = 19;
 }
 
 /// HOLDS fact, or LACKS fact.
@@ -59,6 +62,10 @@ pub enum Kind {
     AtMostOnce,
     SometimeBefore,
     SometimeAfter,
+    /// With its deadline, in steps.
+    Within(usize),
+    /// With its deadline, in steps.
+    AlwaysWithin(usize),
 }
 
 #[derive(Clone, PartialEq, Eq, Debug)]
@@ -82,16 +89,22 @@ pub struct Task {
 }
 
 impl Kind {
-    pub const ALL: [Kind; 6] = [
-        Kind::Always,
-        Kind::Sometime,
-        Kind::AtEnd,
-        Kind::AtMostOnce,
-        Kind::SometimeBefore,
-        Kind::SometimeAfter,
-    ];
+    /// All kinds, those with a deadline having this one.
+    pub const fn all(deadline: usize) -> [Kind; 8] {
+        [
+            Kind::Always,
+            Kind::Sometime,
+            Kind::AtEnd,
+            Kind::AtMostOnce,
+            Kind::SometimeBefore,
+            Kind::SometimeAfter,
+            Kind::Within(deadline),
+            Kind::AlwaysWithin(deadline),
+        ]
+    }
 
-    /// The kind that a mark opens, if it opens a preference.
+    /// The kind that a mark opens, if it opens a preference. Its deadline stands in
+    /// the row behind, and is 0 here.
     pub fn of_mark(mark: u8) -> Option<Kind> {
         match mark {
             10 => Some(Kind::Always),
@@ -100,6 +113,8 @@ impl Kind {
             13 => Some(Kind::AtMostOnce),
             14 => Some(Kind::SometimeBefore),
             15 => Some(Kind::SometimeAfter),
+            17 => Some(Kind::Within(0)),
+            18 => Some(Kind::AlwaysWithin(0)),
             _ => None,
         }
     }
@@ -112,6 +127,8 @@ impl Kind {
             Kind::AtMostOnce => 13,
             Kind::SometimeBefore => 14,
             Kind::SometimeAfter => 15,
+            Kind::Within(_) => 17,
+            Kind::AlwaysWithin(_) => 18,
         }
     }
 
@@ -123,12 +140,25 @@ impl Kind {
             Kind::AtMostOnce => "at-most-once",
             Kind::SometimeBefore => "sometime-before",
             Kind::SometimeAfter => "sometime-after",
+            Kind::Within(_) => "within",
+            Kind::AlwaysWithin(_) => "always-within",
         }
     }
 
     /// Whether the kind has SECOND and the condition ψ.
     pub fn has_second(self) -> bool {
-        matches!(self, Kind::SometimeBefore | Kind::SometimeAfter)
+        matches!(
+            self,
+            Kind::SometimeBefore | Kind::SometimeAfter | Kind::AlwaysWithin(_)
+        )
+    }
+
+    /// The value of the STEPS row, if the kind has one.
+    pub fn deadline(self) -> Option<usize> {
+        match self {
+            Kind::Within(t) | Kind::AlwaysWithin(t) => Some(t),
+            _ => None,
+        }
     }
 }
 
@@ -153,12 +183,13 @@ impl Action {
 
 impl Preference {
     pub fn rows(&self) -> usize {
+        let steps = usize::from(self.kind.deadline().is_some());
         let second = if self.kind.has_second() {
             1 + condition_rows(&self.psi)
         } else {
             0
         };
-        1 + condition_rows(&self.phi) + second
+        1 + steps + condition_rows(&self.phi) + second
     }
 }
 

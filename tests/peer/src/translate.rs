@@ -24,20 +24,29 @@ pub fn translate(file: &[u8], room: usize) -> Result<Vec<u8>, Refusal> {
     Ok(bytes)
 }
 
-/// The numbers of the facts and actions of the translated task.
-#[derive(Clone, Copy)]
-struct Layout {
-    facts: usize,
-    actions: usize,
-    preferences: usize,
+/// How many facts D a preference of a kind has.
+pub fn deadline_facts(kind: Kind) -> usize {
+    match kind {
+        Kind::Within(t) => t + 1,
+        Kind::AlwaysWithin(t) => t,
+        _ => 0,
+    }
 }
 
-impl Layout {
-    fn of(source: &Task) -> Layout {
+/// The numbers of the facts and actions of the translated task.
+#[derive(Clone, Copy)]
+struct Layout<'a> {
+    facts: usize,
+    actions: usize,
+    preferences: &'a [Preference],
+}
+
+impl Layout<'_> {
+    fn of(source: &Task) -> Layout<'_> {
         Layout {
             facts: source.facts,
             actions: source.actions.len(),
-            preferences: source.preferences.len(),
+            preferences: &source.preferences,
         }
     }
     fn s(self, k: usize) -> usize {
@@ -50,13 +59,26 @@ impl Layout {
         self.facts + 3 * k + 2
     }
     fn normal(self) -> usize {
-        self.facts + 3 * self.preferences
+        self.facts + 3 * self.preferences.len()
     }
     fn ended(self) -> usize {
-        self.facts + 3 * self.preferences + 1
+        self.facts + 3 * self.preferences.len() + 1
+    }
+    /// D of j of preference k, j counted from 1. For always-within, D of t + 1 is S.
+    fn d(self, k: usize, j: usize) -> usize {
+        match self.preferences[k].kind {
+            Kind::AlwaysWithin(t) if j == t + 1 => self.s(k),
+            _ => self.first_d(k) + j - 1,
+        }
+    }
+    /// Where the facts D of preference k begin: behind *ended* and those of the
+    /// preferences before.
+    fn first_d(self, k: usize) -> usize {
+        let before = self.preferences[..k].iter();
+        self.ended() + 1 + before.map(|p| deadline_facts(p.kind)).sum::<usize>()
     }
     fn all_facts(self) -> usize {
-        self.facts + 3 * self.preferences + 2
+        self.first_d(self.preferences.len())
     }
     fn end(self) -> usize {
         self.actions
@@ -68,7 +90,7 @@ impl Layout {
         self.actions + 2 + 2 * k
     }
     fn all_actions(self) -> usize {
-        self.actions + 2 * self.preferences + 1
+        self.actions + 2 * self.preferences.len() + 1
     }
 }
 
@@ -84,7 +106,7 @@ pub fn translated(source: &Task, limit: usize) -> Option<Task> {
         actions: Vec::new(),
         preferences: Vec::new(),
     };
-    for k in 0..layout.preferences {
+    for k in 0..source.preferences.len() {
         task.goal.push(vec![holds(layout.closed(k))]);
     }
     let mut rows = task.rows();
@@ -161,34 +183,63 @@ fn closing_action(source: &Task, k: usize, collect: bool) -> Action {
     Action {
         cost: if collect { 0 } else { preference.weight },
         precondition,
-        effects: vec![adding(vec![], layout.closed(k))],
+        effects: vec![adding(vec![], vec![layout.closed(k)])],
     }
 }
 
 /// The effects that follow preference k.
 fn trackers(layout: Layout, k: usize, preference: &Preference) -> Vec<Effect> {
-    let (s, b) = (layout.s(k), layout.b(k));
+    let (s, b, d) = (layout.s(k), layout.b(k), |j| layout.d(k, j));
     let phi = || preference.phi.clone();
     let psi = || preference.psi.clone();
     match preference.kind {
         Kind::Always => phi()
             .iter()
-            .map(|clause| adding(denied(clause), b))
+            .map(|clause| adding(denied(clause), vec![b]))
             .collect(),
-        Kind::Sometime | Kind::AtEnd => vec![adding(phi(), s)],
+        Kind::Sometime | Kind::AtEnd => vec![adding(phi(), vec![s])],
         Kind::AtMostOnce => {
-            let mut effects = vec![adding(behind(&[lacks(s), lacks(b)], phi()), s)];
+            let mut effects = vec![adding(behind(&[lacks(s), lacks(b)], phi()), vec![s])];
             for clause in &preference.phi {
-                effects.push(adding(behind(&[holds(s)], denied(clause)), b));
+                effects.push(adding(behind(&[holds(s)], denied(clause)), vec![b]));
             }
-            effects.push(deleting(behind(&[holds(s), holds(b)], phi()), s));
+            effects.push(deleting(behind(&[holds(s), holds(b)], phi()), vec![s]));
             effects
         }
-        Kind::SometimeBefore => vec![adding(psi(), s), adding(behind(&[lacks(s)], phi()), b)],
+        Kind::SometimeBefore => vec![
+            adding(psi(), vec![s]),
+            adding(behind(&[lacks(s)], phi()), vec![b]),
+        ],
         Kind::SometimeAfter => {
-            let unfollowed = |clause| adding([phi(), denied(clause)].concat(), b);
+            let unfollowed = |clause| adding([phi(), denied(clause)].concat(), vec![b]);
             let mut effects: Vec<Effect> = preference.psi.iter().map(unfollowed).collect();
-            effects.push(deleting(psi(), b));
+            effects.push(deleting(psi(), vec![b]));
+            effects
+        }
+        // D of j holds in state j and behind it.
+        Kind::Within(t) => {
+            let mut effects = vec![adding(vec![], vec![d(1)])];
+            for j in 1..=t {
+                effects.push(adding(behind(&[holds(d(j))], vec![]), vec![d(j + 1)]));
+            }
+            effects.push(adding(behind(&[lacks(d(t + 1))], phi()), vec![s]));
+            effects
+        }
+        // D of j holds where some φ has gone without ψ for j states or more.
+        Kind::AlwaysWithin(t) => {
+            let mut effects = Vec::new();
+            for clause in &preference.psi {
+                let unfollowed = [phi(), denied(clause)].concat();
+                effects.push(adding(unfollowed, vec![b, d(1)]));
+            }
+            for j in 1..=t {
+                for clause in &preference.psi {
+                    let still = behind(&[holds(d(j))], denied(clause));
+                    effects.push(adding(still, vec![d(j + 1)]));
+                }
+            }
+            let all = std::iter::once(b).chain((1..=t).map(d)).collect();
+            effects.push(deleting(behind(&[lacks(s)], psi()), all));
             effects
         }
     }
@@ -198,8 +249,10 @@ fn trackers(layout: Layout, k: usize, preference: &Preference) -> Vec<Effect> {
 fn met_clause(layout: Layout, k: usize, kind: Kind) -> Clause {
     let (s, b) = (layout.s(k), layout.b(k));
     match kind {
-        Kind::Always | Kind::SometimeBefore | Kind::SometimeAfter => vec![lacks(b)],
-        Kind::Sometime | Kind::AtEnd => vec![holds(s)],
+        Kind::Always | Kind::SometimeBefore | Kind::SometimeAfter | Kind::AlwaysWithin(_) => {
+            vec![lacks(b)]
+        }
+        Kind::Sometime | Kind::AtEnd | Kind::Within(_) => vec![holds(s)],
         Kind::AtMostOnce => vec![holds(s), lacks(b)],
     }
 }
@@ -228,19 +281,19 @@ fn behind(literals: &[Literal], condition: Condition) -> Condition {
     clauses
 }
 
-fn adding(condition: Condition, fact: usize) -> Effect {
+fn adding(condition: Condition, adds: Vec<usize>) -> Effect {
     Effect {
         condition,
-        adds: vec![fact],
+        adds,
         deletes: vec![],
     }
 }
 
-fn deleting(condition: Condition, fact: usize) -> Effect {
+fn deleting(condition: Condition, deletes: Vec<usize>) -> Effect {
     Effect {
         condition,
         adds: vec![],
-        deletes: vec![fact],
+        deletes,
     }
 }
 

@@ -2,6 +2,7 @@
 
 use peer::encode::rows;
 use peer::random::{arguments, case, Case};
+use peer::settle::is_met;
 use peer::*;
 use std::collections::BTreeSet;
 
@@ -109,5 +110,29 @@ fn every_answer_comes_up() {
     }
     for answer in wanted {
         assert!(answers.contains(&answer), "{answer}");
+    }
+}
+
+#[test]
+fn every_kind_is_met_and_missed() {
+    let mut outcomes: BTreeSet<(&str, Option<usize>, bool)> = BTreeSet::new();
+    for seed in 0..6_000 {
+        let case = case(seed);
+        let Ok(Verdict::Solved { met, .. }) = walk(&case.file, &case.plan) else {
+            continue;
+        };
+        let task = decode(&case.file).unwrap();
+        for (k, preference) in task.preferences.iter().enumerate() {
+            let kind = preference.kind;
+            outcomes.insert((kind.name(), kind.deadline(), is_met(met, k)));
+        }
+    }
+    for deadline in 0..=15 {
+        for kind in Kind::all(deadline) {
+            for met in [true, false] {
+                let outcome = (kind.name(), kind.deadline(), met);
+                assert!(outcomes.contains(&outcome), "{outcome:?}");
+            }
+        }
     }
 }

@@ -76,15 +76,15 @@ fn names_of_kinds() {
     let task = file(
         1,
         0,
-        6,
+        8,
         "GOAL always 0 sometime 1 at-end 2 at-most-once 3 sometime-before 4 SECOND \
-         sometime-after 1000000 SECOND",
+         sometime-after 1000000 SECOND within 7 STEPS 3 always-within 8 STEPS 15 SECOND",
     );
     assert_eq!(
         report(&task, &[]),
         "solved steps 0 cost 0\n0 always 0 met\n1 sometime 1 met\n2 at-end 2 met\n\
          3 at-most-once 3 met\n4 sometime-before 4 missed\n5 sometime-after 1000000 met\n\
-         metric 4 utility 1000006\n"
+         6 within 7 met\n7 always-within 8 met\nmetric 4 utility 1000021\n"
     );
 }
 
@@ -120,7 +120,8 @@ fn belt_translated() {
     assert_eq!(run(&decode(&bytes).unwrap(), &[0, 2, 4, 5]), Some(8));
 }
 
-/// The trackers of *end* and the closing actions, one preference of each kind.
+/// The trackers of *end* and the closing actions, one preference of each kind without
+/// a deadline.
 #[test]
 fn trackers_by_kind() {
     let phi = "CLAUSE HOLDS 0 LACKS 1 CLAUSE HOLDS 2";

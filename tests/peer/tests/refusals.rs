@@ -72,6 +72,11 @@ fn accepted_without() {
         answer(1, 0, 2, "GOAL sometime-after SECOND always 1000000"),
         Ok(())
     );
+    assert_eq!(answer(1, 0, 1, "GOAL within 1000000 STEPS 15"), Ok(()));
+    assert_eq!(
+        answer(1, 0, 2, "GOAL always-within STEPS SECOND within STEPS 0"),
+        Ok(())
+    );
     assert_eq!(
         answer(
             1,
@@ -97,11 +102,17 @@ fn rows_end_inside_a_task() {
             ([1, 0, 1], "GOAL sometime-before", 2),
             ([1, 0, 1], "GOAL sometime-after CLAUSE LACKS 0", 4),
             ([1, 0, 1], "GOAL sometime-after SECOND CLAUSE", 4),
+            ([1, 0, 1], "GOAL within", 2),
+            ([1, 0, 1], "GOAL within STEPS CLAUSE", 4),
+            ([1, 0, 1], "GOAL always-within", 2),
+            ([1, 0, 1], "GOAL always-within STEPS 15", 3),
+            ([1, 0, 1], "GOAL always-within STEPS CLAUSE HOLDS 0", 5),
+            ([1, 0, 1], "GOAL always-within STEPS SECOND CLAUSE", 5),
         ],
     );
 }
 
-/// All sixteen marks, none, and two that don't exist, behind every kind of beginning.
+/// All nineteen marks, none, and two that don't exist, behind every kind of beginning.
 #[test]
 fn marks_that_may_come() {
     let marks = [
@@ -122,10 +133,14 @@ fn marks_that_may_come() {
         "sometime-before",
         "sometime-after",
         "SECOND",
-        "M17",
+        "within",
+        "always-within",
+        "STEPS",
+        "M20",
         "M255",
     ];
-    const KINDS: &str = "always sometime at-end at-most-once sometime-before sometime-after";
+    const KINDS: &str = "always sometime at-end at-most-once sometime-before sometime-after \
+                         within always-within";
     let table = [
         ("", "START GOAL"),
         ("START 0", "START GOAL"),
@@ -169,6 +184,26 @@ fn marks_that_may_come() {
             "GOAL sometime-before SECOND CLAUSE HOLDS",
             "HOLDS LACKS CLAUSE kinds",
         ),
+        ("GOAL within", "STEPS"),
+        ("GOAL always-within", "STEPS"),
+        ("GOAL within STEPS", "CLAUSE kinds"),
+        ("GOAL within STEPS CLAUSE", "HOLDS LACKS"),
+        (
+            "GOAL within STEPS 15 CLAUSE HOLDS",
+            "HOLDS LACKS CLAUSE kinds",
+        ),
+        ("GOAL always-within STEPS", "CLAUSE SECOND"),
+        ("GOAL always-within STEPS 15 CLAUSE", "HOLDS LACKS"),
+        (
+            "GOAL always-within STEPS CLAUSE LACKS",
+            "HOLDS LACKS CLAUSE SECOND",
+        ),
+        ("GOAL always-within STEPS SECOND", "CLAUSE kinds"),
+        ("GOAL always-within STEPS SECOND CLAUSE", "HOLDS LACKS"),
+        (
+            "GOAL always-within STEPS SECOND CLAUSE HOLDS",
+            "HOLDS LACKS CLAUSE kinds",
+        ),
     ];
     for (beginning, may) in table {
         let may = may.replace("kinds", KINDS);
@@ -203,6 +238,14 @@ fn values() {
             ([3, 1, 0], "GOAL ACTION EFFECT ADD 2 DELETE 4294967295", 4),
             ([3, 0, 1], "GOAL always 1000001", 1),
             ([3, 0, 1], "GOAL sometime-after SECOND 1", 2),
+            ([3, 0, 1], "GOAL within 1000001", 1),
+            ([3, 0, 1], "GOAL always-within 1000001", 1),
+            ([3, 0, 1], "GOAL within STEPS 16", 2),
+            ([3, 0, 1], "GOAL always-within STEPS 16", 2),
+            ([3, 0, 1], "GOAL within STEPS 4294967295", 2),
+            ([3, 0, 1], "GOAL always-within STEPS 256 SECOND", 2),
+            ([3, 0, 1], "GOAL always-within STEPS SECOND 1", 3),
+            ([3, 0, 1], "GOAL within STEPS CLAUSE HOLDS 3", 4),
             ([3, 0, 0], "START 256 GOAL", 0),
             ([3, 0, 0], "START 16777216 GOAL", 0),
         ],
@@ -215,6 +258,11 @@ fn counts() {
     assert_eq!(answer(1, 0, 0, "GOAL ACTION"), refused(6, 2));
     assert_eq!(answer(1, 0, 1, "GOAL"), refused(6, 1));
     assert_eq!(answer(1, 0, 0, "GOAL always"), refused(6, 2));
+    assert_eq!(answer(1, 0, 0, "GOAL within STEPS"), refused(6, 3));
+    assert_eq!(
+        answer(1, 0, 2, "GOAL always-within STEPS SECOND"),
+        refused(6, 4)
+    );
     let many = "ACTION ".repeat(200);
     assert_eq!(answer(1, 128, 0, &format!("GOAL {many}")), refused(6, 201));
 }
@@ -227,7 +275,7 @@ fn first_faulty_row_decides() {
     // 4 before 5 on one row.
     assert_eq!(answer(1, 0, 0, "GOAL GOAL 1"), refused(4, 1));
     // Counts come after all rows and after their end.
-    assert_eq!(answer(1, 0, 0, "GOAL ACTION ACTION M17"), refused(4, 3));
+    assert_eq!(answer(1, 0, 0, "GOAL ACTION ACTION M20"), refused(4, 3));
     assert_eq!(answer(1, 0, 0, "GOAL ACTION CLAUSE HOLDS 1"), refused(5, 3));
     assert_eq!(answer(1, 0, 0, "GOAL ACTION CLAUSE"), refused(4, 3));
 }

@@ -12,7 +12,7 @@ const MOST: u64 = 2_048_000_000;
 fn weighted(weights: &[u32]) -> Vec<u8> {
     let mut task = bare_task(1, 0, weights.len());
     for (k, weight) in weights.iter().enumerate() {
-        task.preferences[k].kind = Kind::ALL[k % 6];
+        task.preferences[k].kind = Kind::all(k)[k % 8];
         task.preferences[k].weight = *weight;
     }
     encode(&task)
@@ -117,7 +117,7 @@ fn refused_files() {
         (belt[..7].to_vec(), 1, 0),
         (sized, 2, 0),
         (belt[..97].to_vec(), 3, 0),
-        (file(1, 0, 0, "GOAL M17"), 4, 1),
+        (file(1, 0, 0, "GOAL M20"), 4, 1),
         (file(1, 0, 1, "GOAL always 1000001"), 5, 1),
         (file(1, 0, 2, "GOAL always 1"), 6, 2),
     ] {

@@ -5,7 +5,7 @@ mod common;
 
 use common::course;
 use peer::meaning::{after, condition_true, opening, State};
-use peer::random::{case, task_and_plan, Random, Shape};
+use peer::random::{case, kinds, task_and_plan, up_to, Random, Shape};
 use peer::*;
 
 const ROOM: usize = 60_008;
@@ -104,11 +104,20 @@ fn plans_that_do_not_solve() {
     assert!(tried > 400, "{tried}");
 }
 
-/// Every course of φ and ψ over up to 5 states, for each kind.
+/// Each kind, those with a deadline having several.
+fn kinds_and_deadlines() -> Vec<Kind> {
+    let mut kinds = Kind::all(0).to_vec();
+    for t in [1, 2, 3, 4, 5, 15] {
+        kinds.extend([Kind::Within(t), Kind::AlwaysWithin(t)]);
+    }
+    kinds
+}
+
+/// Every course of φ and ψ over up to 6 states, for each kind.
 #[test]
 fn all_courses() {
-    for kind in Kind::ALL {
-        for length in 1..=5usize {
+    for kind in kinds_and_deadlines() {
+        for length in 1..=6usize {
             for bits in 0..1u32 << (2 * length) {
                 let phi: Vec<bool> = (0..length).map(|i| bits >> i & 1 == 1).collect();
                 let psi: Vec<bool> = (0..length).map(|i| bits >> (length + i) & 1 == 1).collect();
@@ -134,7 +143,7 @@ fn tiny(r: &mut Random) -> Shape {
     Shape {
         facts: r.between(1, 3),
         actions: r.between(0, 2),
-        preferences: r.between(0, 2),
+        kinds: up_to(r, 2),
         clauses: 2,
         literals: 2,
         effects: 2,
@@ -198,7 +207,7 @@ fn every_list_over_tiny_tasks() {
     for seed in 0..150 {
         let r = &mut Random::new(seed);
         let mut shape = tiny(r);
-        shape.preferences = r.between(0, 1 + usize::from(shape.actions < 2));
+        shape.kinds = up_to(r, 1 + usize::from(shape.actions < 2));
         let (source, _) = task_and_plan(r, &shape);
         let task = translated(&source, 12_000).unwrap();
         let length = 5;
@@ -253,7 +262,7 @@ fn every_longer_list_that_applies() {
     for seed in 1_000..2_500 {
         let r = &mut Random::new(seed);
         let mut shape = tiny(r);
-        shape.preferences = r.between(0, 4);
+        shape.kinds = up_to(r, 4);
         let (source, _) = task_and_plan(r, &shape);
         let task = translated(&source, 12_000).unwrap();
         let steps = 6;
@@ -273,4 +282,54 @@ fn every_longer_list_that_applies() {
         found += search.solutions;
     }
     assert!(found > 10_000, "{found}");
+}
+
+/// The least metric of a plan of at most so many steps that solves.
+fn least_metric(source: &Task, steps: usize) -> Option<u128> {
+    let mut least: Option<u128> = None;
+    all_lists(source.actions.len(), steps, &mut |list| {
+        let plan: Vec<u8> = list.iter().map(|&step| step as u8).collect();
+        least = least.into_iter().chain(metric(source, &plan)).min();
+    });
+    least
+}
+
+/// The least cost of a list of at most so many steps that solves from a state on.
+fn least_cost(task: &Task, state: &State, steps: usize) -> Option<u128> {
+    let here = condition_true(&task.goal, state).then_some(0);
+    if steps == 0 {
+        return here;
+    }
+    let applies = |action: &&Action| condition_true(&action.precondition, state);
+    let by = |action: &Action| {
+        let behind = least_cost(task, &after(action, state), steps - 1)?;
+        Some(u128::from(action.cost) + behind)
+    };
+    let behind = task.actions.iter().filter(applies).filter_map(by);
+    here.into_iter().chain(behind).min()
+}
+
+/// On tasks where every preference has a deadline, most of them one that plans of 7
+/// steps meet or miss.
+#[test]
+fn least_cost_is_least_metric() {
+    let (mut solved, mut paid) = (0, 0);
+    for seed in 5_000..6_000 {
+        let r = &mut Random::new(seed);
+        let mut shape = tiny(r);
+        shape.actions = r.between(1, 2);
+        shape.kinds = kinds(r, 60);
+        shape.kinds.retain(|kind| kind.deadline().is_some());
+        shape.kinds.truncate(r.between(1, 4));
+        let (source, _) = task_and_plan(r, &shape);
+        let task = translated(&source, 12_000).unwrap();
+        let steps = 7;
+        let closing = 1 + source.preferences.len();
+        let metric = least_metric(&source, steps);
+        let cost = least_cost(&task, &opening(&task), steps + closing);
+        assert_eq!(cost, metric, "seed {seed}");
+        solved += usize::from(metric.is_some());
+        paid += usize::from(metric > Some(0));
+    }
+    assert!(solved > 500 && paid > 200, "{solved} {paid}");
 }

@@ -38,8 +38,11 @@ fn mark(word: &str) -> u8 {
         "sometime-before" => 14,
         "sometime-after" => 15,
         "SECOND" => 16,
+        "within" => 17,
+        "always-within" => 18,
+        "STEPS" => 19,
         "M0" => 0,
-        "M17" => 17,
+        "M20" => 20,
         "M255" => 255,
         _ => panic!("no mark {word}"),
     }

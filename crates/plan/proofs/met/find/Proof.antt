@@ -6,7 +6,6 @@ use denote.Ref.{now}
 use lib.ListN.{length}
 use Rattle.task.specs.Rows.{valueAt}
 use Rattle.task.proofs.Reading.{goes-on, ends-at}
-use Rattle.state.specs.Member.{member}
 use Rattle.plan.specs.Counting.{counting, countAt}
 use Rattle.plan.specs.Met.{Met, found, asFound}
 use Rattle.plan.proofs.Meeting.{Finding}
@@ -14,10 +13,10 @@ use Rattle.plan.proofs.met.find.Statement.{statement}
 use Rattle.plan.proofs.met.find.Tie as tie
 
 abbrev Inv-loop : tie.InvT-loop
-Inv-loop marks at set f₀ i₀ f i = Finding marks at (member set) f i
+Inv-loop marks at ms f₀ i₀ f i = Finding marks at ms f i
 
 abbrev μ-loop : tie.MeasureT-loop
-μ-loop marks at set f₀ i₀ f i = length marks - i
+μ-loop marks at ms f₀ i₀ f i = length marks - i
 
 none-requires : tie.Need-none-requires Inv-loop μ-loop
 none-requires c κs = search needs
@@ -41,7 +40,7 @@ loop-again : tie.Need-loop-again Inv-loop μ-loop
 loop-again c =
     let l = c .before .before .before in
     let a = l .before .before .before .args in
-    let one = found (member (a .set)) in
+    let one = found (a .ms) in
     record {
       rows-left = search needs;
       few = search needs;
@@ -56,7 +55,7 @@ returns c = λ vs.
     let l = c .before .before in
     let a = l .before .before .before .args in
     ap (λ (t : Met). t .met)
-    (sym (ends-at (counting (found (member (a .set)))) (λ (m : ℕ). true) (λ (t : Met) (i : ℕ). t) (asFound (l .loop .f)) (now (a .marks)) vs (l .loop .i) (search needs))
+    (sym (ends-at (counting (found (a .ms))) (λ (m : ℕ). true) (λ (t : Met) (i : ℕ). t) (asFound (l .loop .f)) (now (a .marks)) vs (l .loop .i) (search needs))
     ∙ l .loop .inv .same vs)
 
 pub find-spec : {M : Type 1} → statement M

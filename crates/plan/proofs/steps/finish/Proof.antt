@@ -26,7 +26,7 @@ returns-2 c = λ t R prefs there μ are.
     let g = c .before .before .before in
     let a = g .before .before .before .before .before .args in
     solved-is t (now (a .marks)) (now (a .values)) R (a .p) μ (a .goal) there (g .condition .result) (g .condition .ensures)
-    (not-false _ (c .before .if1 .left)) (a .at) prefs are (g .before .watch .result) (g .before .watch .ensures)
+    (not-false _ (c .before .if1 .left)) (a .at) prefs (a .ms) are (g .before .watch .result) (g .before .watch .ensures)
     (c .find .result) (c .find .ensures) (search needs)
 
 pub finish-spec : {M : Type 1} → statement M

@@ -4,11 +4,9 @@ use mathlib.Core.Path.{ap}
 use Prim.Native.Nat.{ℕ, _+_}
 use denote.Ref.{now}
 use Rattle.plan.proofs.Stepping.{stopped, led}
+use borrow.Author.Needs.{needs}
 use Rattle.plan.proofs.steps.step.Statement.{statement}
 use Rattle.plan.proofs.steps.step.Tie as tie
-
-watch-requires : tie.Need-watch-requires
-watch-requires c κs = search needs
 
 add-condition : tie.Need-add-condition
 add-condition c = search needs
@@ -19,10 +17,9 @@ condition-requires c κs = search needs
 returns : tie.Need-returns
 returns c =
     let n = c .before .before in
-    let w = n .before in
-    let a = w .before .before .before .before .args in (
+    let a = n .before .before .before .before .args in (
       tt,
-      λ t R prefs k h there. stopped t (now (a .marks)) (now (a .values)) R k h (a .p) (a .from) there
+      λ t R k h there. stopped t (now (a .marks)) (now (a .values)) R k h (a .p) (a .from) there
           (n .condition .result) (n .condition .ensures) (not-true _ (c .if1 .taken)),
     )
 
@@ -32,11 +29,11 @@ after-requires c κs = search needs
 value-at-requires : tie.Need-value-at-requires
 value-at-requires c κs = search needs
 
-cast-t14 : tie.Need-cast-t14
-cast-t14 c = search needs
+cast-t12 : tie.Need-cast-t12
+cast-t12 c = search needs
 
-add-t15 : tie.Need-add-t15
-add-t15 c = search needs
+add-t13 : tie.Need-add-t13
+add-t13 c = search needs
 
 returns-2 : tie.Need-returns-2
 returns-2 c =
@@ -44,25 +41,23 @@ returns-2 c =
     let m = v .before .before in
     let e = m .before in
     let n = e .before .before in
-    let w = n .before in
-    let b = w .before .before .before .before in
+    let b = n .before .before .before .before in
     let a = b .args in (
       search needs,
-      λ t R prefs k h there. led t (now (a .marks)) (now (a .values)) R k h (a .p) (a .from) there
+      λ t R k h there. led t (now (a .marks)) (now (a .values)) R k h (a .p) (a .from) there
           (n .condition .result) (n .condition .ensures) (not-false _ (e .if1 .left)) (m .after .result) (m .after .ensures)
-          (w .watch .result) _ (b .pre .2) (ap (λ (x : ℕ). a .p .cost + x) (v .value-at .ensures)) (a .at) prefs (w .watch .ensures),
+          _ (b .pre .2) (ap (λ (x : ℕ). a .p .cost + x) (v .value-at .ensures)),
     )
 
 pub step-spec : {M : Type 1} → statement M
 step-spec =
     tie.close
     (tie.spec
-    watch-requires
     add-condition
     condition-requires
     returns
     after-requires
     value-at-requires
-    cast-t14
-    add-t15
+    cast-t12
+    add-t13
     returns-2)

@@ -39,6 +39,18 @@ slice-aggregate-put-word-6 c = search needs
 put-word-requires-6 : tie.Need-put-word-requires-6
 put-word-requires-6 c κs = search needs
 
+slice-aggregate-put-word-7 : tie.Need-slice-aggregate-put-word-7
+slice-aggregate-put-word-7 c = search needs
+
+put-word-requires-7 : tie.Need-put-word-requires-7
+put-word-requires-7 c κs = search needs
+
+slice-aggregate-put-word-8 : tie.Need-slice-aggregate-put-word-8
+slice-aggregate-put-word-8 c = search needs
+
+put-word-requires-8 : tie.Need-put-word-requires-8
+put-word-requires-8 c κs = search needs
+
 same-length : tie.Need-same-length
 same-length c = search needs
 
@@ -73,17 +85,31 @@ same-length-6 : tie.Need-same-length-6
 same-length-6 c = search needs
 
 returns-6 : tie.Need-returns-6
-returns-6 c =
+returns-6 c = let p = c .before .before in rw (p .before .before .before .match .keys6) (p .put-word6 .ensures, search needs)
+
+same-length-7 : tie.Need-same-length-7
+same-length-7 c = search needs
+
+returns-7 : tie.Need-returns-7
+returns-7 c = let p = c .before .before in rw (p .before .before .before .match .keys7) (p .put-word7 .ensures, search needs)
+
+same-length-8 : tie.Need-same-length-8
+same-length-8 c = search needs
+
+returns-8 : tie.Need-returns-8
+returns-8 c =
     let p = c .before .before in
     let r = p .before .before .before .match .rest in
     let m = p .before .before .before .before .before .args .mark in
     rw (
-      ne-eqb m 10 (r .0 .0 .0 .0 .1),
-      ne-eqb m 11 (r .0 .0 .0 .1),
-      ne-eqb m 12 (r .0 .0 .1),
-      ne-eqb m 13 (r .0 .1),
-      ne-eqb m 14 (r .1),
-    ) (p .put-word6 .ensures, search needs)
+      ne-eqb m 10 (r .0 .0 .0 .0 .0 .0 .1),
+      ne-eqb m 11 (r .0 .0 .0 .0 .0 .1),
+      ne-eqb m 12 (r .0 .0 .0 .0 .1),
+      ne-eqb m 13 (r .0 .0 .0 .1),
+      ne-eqb m 14 (r .0 .0 .1),
+      ne-eqb m 15 (r .0 .1),
+      ne-eqb m 17 (r .1),
+    ) (p .put-word8 .ensures, search needs)
 
 pub put-kind-spec : {M : Type 1} → statement M
 put-kind-spec =
@@ -101,6 +127,10 @@ put-kind-spec =
     put-word-requires-5
     slice-aggregate-put-word-6
     put-word-requires-6
+    slice-aggregate-put-word-7
+    put-word-requires-7
+    slice-aggregate-put-word-8
+    put-word-requires-8
     same-length
     returns
     same-length-2
@@ -112,4 +142,8 @@ put-kind-spec =
     same-length-5
     returns-5
     same-length-6
-    returns-6)
+    returns-6
+    same-length-7
+    returns-7
+    same-length-8
+    returns-8)

@@ -1,13 +1,14 @@
 use denote.Ref.{now}
-use Rattle.translation.proofs.Putting.{as-rows}
-use Rattle.translation.proofs.Noting.{no-preference}
+use Rattle.task.specs.Rows.{stepsAt}
+use Rattle.trackers.proofs.Putting.{as-rows}
+use Rattle.trackers.proofs.Noting.{no-preference}
 use Rattle.translation.proofs.PartRows.{as-read}
 use borrow.Author.Needs.{needs}
 use Rattle.translation.proofs.parts.closing_at.Statement.{statement}
 use Rattle.translation.proofs.parts.closing_at.Tie as tie
 
 returns : tie.Need-returns
-returns c = λ q qs e. let a = c .before .before .before .before .args in no-preference (now (a .marks)) (now (a .values)) (a .at) q qs e (search needs)
+returns c = λ q qs e fine. let a = c .before .before .before .before .args in no-preference (now (a .marks)) (now (a .values)) (a .at) q qs e (search needs)
 
 value-at-requires : tie.Need-value-at-requires
 value-at-requires c κs = search needs
@@ -22,12 +23,12 @@ same-length : tie.Need-same-length
 same-length c = search needs
 
 returns-2 : tie.Need-returns-2
-returns-2 c = λ q qs e.
+returns-2 c = λ q qs e fine.
     let t = c .before .before in
     let v = t .before .before .before in
     let a = v .before .before .before .before .before .args in
-    as-rows (as-read (now (a .marks)) (now (a .values)) (a .at) (a .first) (a .s) (a .ended) q qs e (search needs) (v .value-at .result) (v .value-at .ensures))
-    (t .put-closing .ensures)
+    as-rows (as-read (now (a .marks)) (now (a .values)) (a .at) (a .first) (a .s) (a .ended) q qs e fine (search needs) (v .value-at .result) (v .value-at .ensures))
+    (t .put-closing .ensures (stepsAt (now (a .marks)) (now (a .values)) (a .at)))
 
 pub closing-at-spec : {M : Type 1} → statement M
 closing-at-spec =

@@ -1,4 +1,4 @@
-use Rattle.translation.proofs.Putting.{then}
+use Rattle.trackers.proofs.Putting.{then}
 use borrow.Author.Needs.{needs}
 use Rattle.translation.proofs.parts.put_closing.Statement.{statement}
 use Rattle.translation.proofs.parts.put_closing.Tie as tie
@@ -25,10 +25,10 @@ same-length : tie.Need-same-length
 same-length c = search needs
 
 returns : tie.Need-returns
-returns c =
+returns c = λ t.
     then (search needs)
-    (then (search needs) (c .before .before .before .before .before .before .before .before .before .before .before .before .before .before .before .before .before .before .before .before .before .before .open-closing .ensures) (then (search needs) (c .before .before .before .before .before .before .before .before .before .before .before .before .before .before .before .before .before .before .put-met .ensures) (c .before .before .before .before .before .before .before .before .before .before .before .before .before .before .put-closed .ensures)))
-    (then (search needs) (c .before .before .before .before .before .before .before .before .before .before .open-closing2 .ensures) (then (search needs) (c .before .before .before .before .before .before .put-missed .ensures) (c .before .before .put-closed2 .ensures)))
+    (then (search needs) (c .before .before .before .before .before .before .before .before .before .before .before .before .before .before .before .before .before .before .before .before .before .before .open-closing .ensures) (then (search needs) (c .before .before .before .before .before .before .before .before .before .before .before .before .before .before .before .before .before .before .put-met .ensures t) (c .before .before .before .before .before .before .before .before .before .before .before .before .before .before .put-closed .ensures)))
+    (then (search needs) (c .before .before .before .before .before .before .before .before .before .before .open-closing2 .ensures) (then (search needs) (c .before .before .before .before .before .before .put-missed .ensures t) (c .before .before .put-closed2 .ensures)))
 
 pub put-closing-spec : {M : Type 1} → statement M
 put-closing-spec =

@@ -7,8 +7,8 @@ use lib.ListN.{length}
 use lib.Dec.{eqb}
 use Rattle.translation.specs.Parts.{preferenceClosings}
 use Rattle.translation.proofs.PartRows.{closingsFrom, closings-from}
-use Rattle.translation.proofs.Putting.{as-rows}
-use Rattle.translation.proofs.Each.{Each, each-on, each-all, each-full}
+use Rattle.trackers.proofs.Putting.{as-rows}
+use Rattle.trackers.proofs.Each.{Each, each-on, each-all, each-full}
 use Rattle.translation.proofs.parts.put_closings.Statement.{statement}
 use Rattle.translation.proofs.parts.put_closings.Tie as tie
 

@@ -9,7 +9,7 @@ put-task-requires : tie.Need-put-task-requires
 put-task-requires c κs = search needs
 
 returns : tie.Need-returns
-returns c = λ t s f p. c .before .put-task .ensures t s f p .behind
+returns c = λ t s k f p. c .before .put-task .ensures t s k f p .behind
 
 pub count-rows-spec : {M : Type 1} → statement M
 count-rows-spec = tie.close (tie.spec slice-aggregate-put-task put-task-requires returns)

@@ -1,7 +1,7 @@
 use mathlib.Core.Path.{ap}
 use Prim.Native.Nat.{ℕ, _+_}
 use lib.ListN.{length}
-use Rattle.translation.proofs.Putting.{then}
+use Rattle.trackers.proofs.Putting.{then}
 use borrow.Author.Needs.{needs}
 use Rattle.translation.proofs.whole.put_all_actions.Statement.{statement}
 use Rattle.translation.proofs.whole.put_all_actions.Tie as tie

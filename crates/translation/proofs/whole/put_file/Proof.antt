@@ -14,10 +14,10 @@ refuse-requires : tie.Need-refuse-requires
 refuse-requires c κs = search needs
 
 returns : tie.Need-returns
-returns c = λ t s f q p.
+returns c = λ t s k f q p d.
     let n = c .before .before in
     let a = n .before .before .before .before .args in
-    stays t (now (a .out)) (c .refuse .result) 8 (c .refuse .ensures) (too-many (length (taskRows (translated t))) (n .count-rows .result) (length (now (a .out))) (n .count-rows .ensures t s f p) (search needs))
+    stays t (now (a .out)) (c .refuse .result) 8 (c .refuse .ensures) (too-many (length (taskRows (translated t))) (n .count-rows .result) (length (now (a .out))) (n .count-rows .ensures t s k f p) (search needs))
 
 mul-length : tie.Need-mul-length
 mul-length c = search needs
@@ -29,10 +29,10 @@ refuse-requires-2 : tie.Need-refuse-requires-2
 refuse-requires-2 c κs = search needs
 
 returns-2 : tie.Need-returns-2
-returns-2 c = λ t s f q p.
+returns-2 c = λ t s k f q p d.
     let n = c .before .before .before in
     let a = n .before .before .before .before .args in
-    stays t (now (a .out)) (c .refuse2 .result) 9 (c .refuse2 .ensures) (no-room (length (taskRows (translated t))) (n .count-rows .result) (length (now (a .out))) (n .count-rows .ensures t s f p) (search needs) (search needs))
+    stays t (now (a .out)) (c .refuse2 .result) 9 (c .refuse2 .ensures) (no-room (length (taskRows (translated t))) (n .count-rows .result) (length (now (a .out))) (n .count-rows .ensures t s k f p) (search needs) (search needs))
 
 mul-all-facts : tie.Need-mul-all-facts
 mul-all-facts c = search needs
@@ -42,6 +42,9 @@ add-all-facts c = search needs
 
 add-all-facts-2 : tie.Need-add-all-facts-2
 add-all-facts-2 c = search needs
+
+add-all-facts-3 : tie.Need-add-all-facts-3
+add-all-facts-3 c = search needs
 
 mul-all-actions : tie.Need-mul-all-actions
 mul-all-actions c = search needs
@@ -65,15 +68,15 @@ same-length : tie.Need-same-length
 same-length c = search needs
 
 returns-3 : tie.Need-returns-3
-returns-3 c = λ t s f q p.
+returns-3 c = λ t s k f q p d.
     let w = c .before .before in
     let m = w .before .before .before .before in
     let n = m .before .before .before .before in
     let a = n .before .before .before .before .args in
     record {
-      answering = room-enough (length (taskRows (translated t))) (n .count-rows .result) (length (now (a .out))) (n .count-rows .ensures t s f p) (search needs) (search needs);
-      area = file-put t (a .facts) (a .actions) (a .preferences) f q p (now (a .out)) (m .put-sizes .last .0) (w .put-task .last .0) (n .count-rows .result) (w .put-task .result)
-          (n .count-rows .ensures t s f p) (search needs) (search needs) (m .put-sizes .ensures) (w .put-task .ensures t s f p);
+      answering = room-enough (length (taskRows (translated t))) (n .count-rows .result) (length (now (a .out))) (n .count-rows .ensures t s k f p) (search needs) (search needs);
+      area = file-put t (a .facts) (a .actions) (a .preferences) (a .further) f q p d (now (a .out)) (m .put-sizes .last .0) (w .put-task .last .0) (n .count-rows .result) (w .put-task .result)
+          (n .count-rows .ensures t s k f p) (search needs) (search needs) (m .put-sizes .ensures) (w .put-task .ensures t s k f p);
     }
 
 pub put-file-spec : {M : Type 1} → statement M
@@ -90,6 +93,7 @@ put-file-spec =
     mul-all-facts
     add-all-facts
     add-all-facts-2
+    add-all-facts-3
     mul-all-actions
     add-all-actions
     add-all-actions-2

@@ -1,6 +1,6 @@
 use mathlib.Core.Path.{ap}
 use Prim.Native.Nat.{ℕ, _+_}
-use Rattle.translation.proofs.Putting.{then}
+use Rattle.trackers.proofs.Putting.{then}
 use borrow.Author.Needs.{needs}
 use Rattle.translation.proofs.whole.put_opening.Statement.{statement}
 use Rattle.translation.proofs.whole.put_opening.Tie as tie

@@ -2,7 +2,7 @@ use mathlib.Core.Path.{_≡_, sym, subst, _∙_}
 use Prim.Native.Nat.{ℕ, _-_}
 use native.Mathlib.Omega.{arith}
 use denote.Ref.{now}
-use Rattle.translation.specs.Places.{Noted}
+use Rattle.trackers.specs.Places.{Noted}
 use lib.ListN.{take}
 use lib.Seq.{length-take-le}
 use Rattle.translation.proofs.TaskRows.{task-wrote}

@@ -1,0 +1,12 @@
+use borrow.Author.Tests.{ne-eqb}
+use Rattle.trackers.proofs.effects.denied.Statement.{statement}
+use Rattle.trackers.proofs.effects.denied.Tie as tie
+
+returns : tie.Need-returns
+returns c = rw (c .if1 .taken)
+
+returns-2 : tie.Need-returns-2
+returns-2 c = rw (ne-eqb (c .before .args .mark) 4 (c .if1 .left))
+
+pub denied-spec : {M : Type 1} → statement M
+denied-spec = tie.close (tie.spec returns returns-2)

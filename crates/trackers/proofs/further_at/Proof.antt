@@ -1,0 +1,67 @@
+use mathlib.Core.Path.{_≡_, sym, ap, _∙_}
+use mathlib.Core.Bool.{cond}
+use denote.Ref.{now}
+use lib.ListN.{getD}
+use Rattle.task.specs.Lists.{concatMap}
+use Rattle.task.specs.Task.{preferenceRows}
+use Rattle.trackers.proofs.Noting.{no-preference}
+use Rattle.trackers.proofs.TrackerRows.{further-within, further-soon, further-none}
+use borrow.Author.Needs.{needs}
+use Rattle.trackers.proofs.further_at.Statement.{statement}
+use Rattle.trackers.proofs.further_at.Tie as tie
+
+returns : tie.Need-returns
+returns c = (search needs, λ q qs e fine. let a = c .before .before .before .args in no-preference (now (a .marks)) (now (a .values)) (a .at) q qs e (search needs))
+
+shared-slice-read-mark : tie.Need-shared-slice-read-mark
+shared-slice-read-mark c = search needs
+
+steps-at-requires : tie.Need-steps-at-requires
+steps-at-requires c κs = search needs
+
+cast-result : tie.Need-cast-result
+cast-result c = search needs
+
+add-result : tie.Need-add-result
+add-result c = search needs
+
+cast-result-2 : tie.Need-cast-result-2
+cast-result-2 c = search needs
+
+returns-2 : tie.Need-returns-2
+returns-2 c =
+    let t = c .before in
+    let a = t .before .before .before .before .before .args in (
+      search needs,
+      λ q qs e fine. further-within (now (a .marks)) (now (a .values)) (a .at) (search needs) q (concatMap preferenceRows qs) e fine (t .steps-at .result) (t .steps-at .ensures .0) (c .match .keys1),
+    )
+
+returns-3 : tie.Need-returns-3
+returns-3 c =
+    let t = c .before in
+    let a = t .before .before .before .before .before .args in (
+      search needs,
+      λ q qs e fine. further-soon (now (a .marks)) (now (a .values)) (a .at) (search needs) q (concatMap preferenceRows qs) e fine (t .steps-at .result) (t .steps-at .ensures .0) (c .match .keys2),
+    )
+
+returns-4 : tie.Need-returns-4
+returns-4 c =
+    let t = c .before in
+    let a = t .before .before .before .before .before .args in (
+      search needs,
+      λ q qs e fine. further-none (now (a .marks)) (now (a .values)) (a .at) (search needs) q (concatMap preferenceRows qs) e (c .match .rest .0 .1) (c .match .rest .1),
+    )
+
+pub further-at-spec : {M : Type 1} → statement M
+further-at-spec =
+    tie.close
+    (tie.spec
+    returns
+    shared-slice-read-mark
+    steps-at-requires
+    cast-result
+    add-result
+    cast-result-2
+    returns-2
+    returns-3
+    returns-4)

@@ -1,0 +1,39 @@
+use denote.Ref.{now}
+use mathlib.Core.List.{[], _∷_}
+use Rattle.task.specs.Marks.{HOLDS, ADD}
+use Rattle.task.specs.Task.{row}
+use Rattle.trackers.specs.Writer.{part}
+use Rattle.trackers.specs.Rows.{singleRows}
+use Rattle.trackers.proofs.Putting.{then, as-rows}
+use Rattle.trackers.proofs.TrackerRows.{no-rows}
+use borrow.Author.Needs.{needs}
+use Rattle.trackers.proofs.kinds.at_most_once.Statement.{statement}
+use Rattle.trackers.proofs.kinds.at_most_once.Tie as tie
+
+put-guarded-requires : tie.Need-put-guarded-requires
+put-guarded-requires c κs = search needs
+
+each-false-requires : tie.Need-each-false-requires
+each-false-requires c κs = search needs
+
+put-guarded-requires-2 : tie.Need-put-guarded-requires-2
+put-guarded-requires-2 c κs = search needs
+
+same-length : tie.Need-same-length
+same-length c = search needs
+
+returns : tie.Need-returns
+returns c =
+    let g₂ = c .before .before in
+    let e = g₂ .before .before .before .before in
+    let g₁ = e .before .before .before .before in
+    let a = g₁ .before .before .before .before .before .args in
+    then (search needs) (g₁ .put-guarded .ensures)
+    (then (search needs)
+    (as-rows (no-rows (now (a .marks)) (now (a .values)) (singleRows HOLDS (a .s)) (row ADD (a .b) ∷ []) (part (now (a .marks)) (now (a .values)) (a .from) (a .to))) (e .each-false .ensures))
+    (g₂ .put-guarded2 .ensures))
+
+pub at-most-once-spec : {M : Type 1} → statement M
+at-most-once-spec =
+    tie.close
+    (tie.spec put-guarded-requires each-false-requires put-guarded-requires-2 same-length returns)

@@ -1,0 +1,4 @@
+pub mod Writer
+pub mod Places
+pub mod Rows
+pub mod Trackers

@@ -1,0 +1,115 @@
+-- The facts D1, D2, … counted over the rows of a task are those of its preferences.
+use mathlib.Core.Path.{_≡_, refl, sym, ap, ap₂, _∙_}
+use mathlib.Core.Bool.{Bool, true, false, not, cond, _&&_}
+use mathlib.Core.List.{List, [], _∷_, _++_, map, append-nil}
+use Prim.Native.Nat.{ℕ, _+_, _*_, _%_, _≤_, _<_}
+use native.Mathlib.Nat.{zero-add}
+use native.Mathlib.Omega.{arith}
+use lib.Dec.{T, leb, leb→le}
+use lib.ListN.{length, drop, getD}
+use Rattle.task.specs.Lists.{all, concatMap, sum}
+use Rattle.task.specs.Marks.{START, GOAL, WITHIN, STEPS}
+use Rattle.task.specs.Task.{Kind, always, sometime, at-end, at-most-once, sometime-before, sometime-after, within, always-within, Action, Preference, Task, Row, row}
+use Rattle.task.specs.Task.{kindMark, stepsRows, conditionRows, effectRows, actionRows, preferenceRows, taskRows}
+use Rattle.task.specs.File.{is, paired}
+use Rattle.task.specs.Check.{mostSteps}
+use Rattle.task.specs.Spelling.{kindSpellable, preferenceSpellable, spellable}
+use Rattle.task.specs.Rows.{valueAt}
+use Rattle.classical.specs.Translation.{furtherFacts, further}
+use Rattle.task.proofs.Tests.{tests, as-false, all-both, all-map, all-concat}
+use Rattle.task.proofs.Passing.{conditionsOf, condition-passes, effects-pass, conditions-pass}
+use Rattle.task.proofs.Reading.{row-at, row-end}
+use Rattle.task.proofs.Positions.{front}
+use Rattle.translation.specs.Further.{furtherRow, furtherRows}
+
+-- Rows one after the other
+
+pub further-append : (xs ys : List Row) → furtherRows (xs ++ ys) ≡ furtherRows xs + furtherRows ys
+further-append [] ys = sym (zero-add (furtherRows ys))
+further-append (x ∷ xs) ys = let e : furtherRows (xs ++ ys) ≡ furtherRows xs + furtherRows ys = further-append xs ys in omega arith
+
+-- rows of other marks
+abbrev quiet : Row → Bool
+quiet x = not (is STEPS x) && not (is WITHIN x)
+
+quiet-rows : (xs : List Row) → T (all quiet xs) → furtherRows xs ≡ 0
+quiet-rows [] t = refl
+quiet-rows (x ∷ xs) t =
+    let e : furtherRow x ≡ 0 = rw (as-false (is STEPS x) (search tests), as-false (is WITHIN x) (search tests)) in
+    omega (arith, e, quiet-rows xs (search tests))
+
+-- A preference
+
+head-further : (k : Kind) (w : ℕ) → T (kindSpellable k) → furtherRow (row (kindMark k) w) + furtherRows (stepsRows k) ≡ furtherFacts k
+head-further always w t = refl
+head-further sometime w t = refl
+head-further at-end w t = refl
+head-further at-most-once w t = refl
+head-further sometime-before w t = refl
+head-further sometime-after w t = refl
+head-further (within n) w t = let few : n ≤ 15 = leb→le n mostSteps t in omega arith
+head-further (always-within n) w t = let few : n ≤ 15 = leb→le n mostSteps t in omega arith
+
+preference-further : (q : Preference) → T (kindSpellable (q .kind)) → furtherRows (preferenceRows q) ≡ furtherFacts (q .kind)
+preference-further q t =
+    omega (
+      arith,
+      further-append (stepsRows (q .kind)) (conditionsOf q),
+      quiet-rows (conditionsOf q) (conditions-pass quiet (λ v. tt) (λ v. tt) (λ v. tt) (λ v. tt) q),
+      head-further (q .kind) (q .weight) t,
+    )
+
+preferences-further : (qs : List Preference) → T (all preferenceSpellable qs) → furtherRows (concatMap preferenceRows qs) ≡ further qs
+preferences-further [] t = refl
+preferences-further (q ∷ qs) t =
+    let fine : T (preferenceSpellable q) = search tests in
+    omega (
+      arith,
+      further-append (preferenceRows q) (concatMap preferenceRows qs),
+      preference-further q (search tests),
+      preferences-further qs (search tests),
+    )
+
+-- A task
+
+action-quiet : (a : Action) → T (all quiet (actionRows a))
+action-quiet a =
+    all-both quiet (conditionRows (a .precondition)) (concatMap effectRows (a .effects))
+    (condition-passes quiet (λ v. tt) (λ v. tt) (λ v. tt) (a .precondition))
+    (effects-pass quiet (λ v. tt) (λ v. tt) (λ v. tt) (λ v. tt) (λ v. tt) (λ v. tt) (a .effects))
+
+front-quiet : (t : Task) → T (all quiet (front t))
+front-quiet t =
+    all-both quiet (map (row START) (t .start) ++ (row GOAL 0 ∷ conditionRows (t .goal))) (concatMap actionRows (t .actions))
+    (all-both quiet (map (row START) (t .start)) (row GOAL 0 ∷ conditionRows (t .goal)) (all-map quiet (row START) (λ v. tt) (t .start))
+    (condition-passes quiet (λ v. tt) (λ v. tt) (λ v. tt) (t .goal)))
+    (all-concat quiet actionRows action-quiet (t .actions))
+
+pub task-further : (t : Task) → T (spellable t) → furtherRows (taskRows t) ≡ further (t .preferences)
+task-further t s =
+    omega (
+      arith,
+      further-append (front t) (concatMap preferenceRows (t .preferences)),
+      quiet-rows (front t) (front-quiet t),
+      preferences-further (t .preferences) (search tests),
+    )
+
+-- The loop over the rows
+
+-- what holds before row i is read
+pub record Counting (ms vs : List ℕ) (d i : ℕ) : Type 0 where
+  pub rows-left : i ≤ length ms
+  pub few : d ≤ 16 * i
+  pub so-far : d + furtherRows (drop i (paired ms vs)) ≡ furtherRows (paired ms vs)
+
+module _ (ms vs : List ℕ) (d i : ℕ) (so-far : Counting ms vs d i) where
+  pub one-more : i < length ms → (r : ℕ) → r ≡ furtherRow (row (getD ms i 0) (valueAt vs i)) → r ≤ 16 → Counting ms vs (d + r) (i + 1)
+  one-more h r e l =
+      record {
+        rows-left = omega arith;
+        few = omega (arith, so-far .few);
+        so-far = omega (arith, ap furtherRows (row-at ms vs i h), so-far .so-far);
+      }
+
+  pub all-rows : length ms ≤ i → d ≡ furtherRows (paired ms vs)
+  all-rows h = omega (arith, ap furtherRows (row-end ms vs i h), so-far .so-far)

@@ -1,0 +1,70 @@
+use mathlib.Core.Path.{refl, ap, _∙_}
+use Prim.Native.Nat.{ℕ, _-_}
+use denote.Ref.{now}
+use lib.ListN.{length, getD}
+use Rattle.task.specs.Task.{row}
+use Rattle.translation.specs.Further.{furtherRow, furtherRows}
+use Rattle.translation.proofs.FurtherRows.{Counting, one-more, all-rows}
+use native.Mathlib.Nat.{zero-add}
+use Rattle.task.specs.File.{paired}
+use native.Mathlib.Omega.{arith}
+use borrow.Author.Needs.{needs}
+use Rattle.translation.proofs.further.count.Statement.{statement}
+use Rattle.translation.proofs.further.count.Tie as tie
+
+abbrev Inv-loop : tie.InvT-loop
+Inv-loop marks values d₀ i₀ d i = Counting marks values d i
+
+abbrev μ-loop : tie.MeasureT-loop
+μ-loop marks values d₀ i₀ d i = length marks - i
+
+loop-holds : tie.Need-loop-holds Inv-loop μ-loop
+loop-holds c = let a = c .before .before .args in record { rows-left = search needs; few = search needs; so-far = zero-add (furtherRows (paired (now (a .marks)) (now (a .values)))) }
+
+shared-slice-read-count-row : tie.Need-shared-slice-read-count-row Inv-loop μ-loop
+shared-slice-read-count-row c = search needs
+
+value-at-requires : tie.Need-value-at-requires Inv-loop μ-loop
+value-at-requires c κs = search needs
+
+count-row-requires : tie.Need-count-row-requires Inv-loop μ-loop
+count-row-requires c κs = search needs
+
+add-d : tie.Need-add-d Inv-loop μ-loop
+add-d c = search needs
+
+add-i : tie.Need-add-i Inv-loop μ-loop
+add-i c = search needs
+
+loop-less : tie.Need-loop-less Inv-loop μ-loop
+loop-less c = search needs
+
+loop-again : tie.Need-loop-again Inv-loop μ-loop
+loop-again c =
+    let v = c .before in
+    let l = v .before .before .before in
+    let a = l .before .before .before .args in
+    one-more (now (a .marks)) (now (a .values)) (l .loop .d) (l .loop .i) (l .loop .inv) (search needs) (c .count-row .result)
+    (c .count-row .ensures .0 ∙ ap (λ (x : ℕ). furtherRow (row (getD (now (a .marks)) (l .loop .i) 0) x)) (v .value-at .ensures)) (c .count-row .ensures .1)
+
+returns : tie.Need-returns Inv-loop μ-loop
+returns c =
+    let l = c .before in
+    let a = l .before .before .before .args in
+    (all-rows (now (a .marks)) (now (a .values)) (l .loop .d) (l .loop .i) (l .loop .inv) (search needs), omega (arith, l .loop .inv .few, l .loop .inv .rows-left))
+
+pub count-spec : {M : Type 1} → statement M
+count-spec =
+    tie.close
+    (tie.spec
+    Inv-loop
+    μ-loop
+    loop-holds
+    shared-slice-read-count-row
+    value-at-requires
+    count-row-requires
+    add-d
+    add-i
+    loop-less
+    loop-again
+    returns)

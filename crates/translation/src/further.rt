@@ -1,0 +1,33 @@
+// The facts D1, D2 and so on of all preferences.
+ghost use mathlib.Core.Path.{_≡_};
+ghost use Prim.Native.Nat.{_*_, _≤_};
+ghost use lib.ListN.{length};
+ghost use Rattle.task.specs.Task.{row};
+ghost use Rattle.task.specs.File.{paired};
+ghost use Rattle.translation.specs.Further.{furtherRow, furtherRows};
+use task::marks;
+use task::rows;
+
+fn count_row(mark: u8, value: u32) -> u32
+    ensures { λ r. ⌜ (r ≡ furtherRow (row mark value)) × (r ≤ 16) ⌝ }
+{
+    match mark {
+        marks::STEPS => value % 16,
+        marks::WITHIN => 1,
+        _ => 0,
+    }
+}
+
+// How many there are.
+pub fn count(marks: &[u8], values: &[u8]) -> u32
+    requires { ⌜ (4 * length (now marks) ≤ length (now values)) × (length (now marks) ≤ 12000) ⌝ }
+    ensures { λ r. ⌜ (r ≡ furtherRows (paired (now (marks .entry)) (now (values .entry)))) × (r ≤ 192000) ⌝ }
+{
+    let mut d = 0;
+    let mut i = 0;
+    while i < marks.len() {
+        d += count_row(marks[i], rows::value_at(values, i));
+        i += 1;
+    }
+    d
+}
