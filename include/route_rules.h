@@ -28,6 +28,7 @@ extern "C" {
 #define ROUTE_RULES_MAX_ROWS 12000
 #define ROUTE_RULES_MAX_AMOUNT 1000000 /* a cost or a weight */
 #define ROUTE_RULES_MAX_STEPS 2048
+#define ROUTE_RULES_MAX_DEADLINE 15 /* the steps of within and always-within */
 #define ROUTE_RULES_MAX_COST 2048000000 /* the cost of a plan: so many steps of the largest amount */
 #define ROUTE_RULES_MAX_TEXT 65536 /* bytes of a plan's text; an area of this length is never too short for one */
 
@@ -48,7 +49,8 @@ enum {
     ROUTE_RULES_MARK = 4,             /* mark not possible after the rows before it: its row; or rows end inside a task: N */
     ROUTE_RULES_VALUE = 5,            /* value not allowed for its mark, START not rising; its row */
     ROUTE_RULES_COUNTS = 6,           /* ACTION rows not A, or preferences not P; N */
-    ROUTE_RULES_TOO_MANY = 7,         /* F + 3 * P + 2 or A + 2 * P + 1 over 128; 0 */
+    ROUTE_RULES_TOO_MANY = 7,         /* F + 3 * P + 2 and the facts of deadlines (t + 1 for within t, t for always-within t)
+                                       * over 128 together, or A + 2 * P + 1 over 128; 0 */
     ROUTE_RULES_TRANSLATION_ROWS = 8, /* translation over 12,000 rows; 0 */
     ROUTE_RULES_SHORT_OUTPUT = 9,     /* output area under the output's length; 0 */
     ROUTE_RULES_LONG_PLAN = 10,       /* plan over 2,048 steps; 0 */

@@ -15,19 +15,6 @@ use Rattle.state.specs.Conditions.{inCondition}
 use Rattle.state.specs.Effects.{inEffects}
 use Rattle.plan.specs.Monitors.{headRows, isTwoSided}
 
-pub last-kind : (m t : ℕ) → (m ≡ ALWAYS → ⊥) → (m ≡ SOMETIME → ⊥) → (m ≡ AT-END → ⊥) → (m ≡ AT-MOST-ONCE → ⊥) → (m ≡ SOMETIME-BEFORE → ⊥)
-    → (m ≡ SOMETIME-AFTER → ⊥) → (m ≡ WITHIN → ⊥) → kindOf m t ≡ always-within t
-last-kind m t a s e o b f w =
-    rw (
-      ne-eqb m ALWAYS a,
-      ne-eqb m SOMETIME s,
-      ne-eqb m AT-END e,
-      ne-eqb m AT-MOST-ONCE o,
-      ne-eqb m SOMETIME-BEFORE b,
-      ne-eqb m SOMETIME-AFTER f,
-      ne-eqb m WITHIN w,
-    )
-
 -- sometime and at-end are met where S is held
 pub good-with-S : (m t : ℕ) (x : Monitor) → SOMETIME ≤ m → m ≤ AT-END → good (kindOf m t) x ≡ x .S
 good-with-S m t x lo hi = go (eqb m SOMETIME) refl

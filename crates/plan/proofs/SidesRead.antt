@@ -1,7 +1,7 @@
 -- The sides of a preference, read from the rows that spell it.
-use mathlib.Core.Path.{_≡_, refl, sym, ap, ap₂, _∙_, subst}
+use mathlib.Core.Path.{_≡_, refl, sym, ap, _∙_, subst}
 use mathlib.Core.Bool.{Bool, true, false, _||_}
-use mathlib.Core.List.{List, [], _∷_, _++_, append-assoc, append-nil}
+use mathlib.Core.List.{List, [], _∷_, _++_, append-assoc}
 use Prim.Native.Nat.{ℕ, _+_, _≤_, _<_}
 use native.Mathlib.Omega.{arith}
 use lib.Dec.{T}
@@ -23,8 +23,7 @@ use Rattle.task.proofs.Steps.{behind-steps}
 use Rattle.state.specs.Conditions.{inCondition, start, evaluateAt}
 use Rattle.state.specs.declared.conditions.Evaluated.{Evaluated}
 use Rattle.state.proofs.ConditionRows.{condition-at, condition-ends}
-use Rattle.plan.specs.declared.monitors.Sides.{Sides}
-use Rattle.plan.specs.Monitors.{headRows, isTwoSided, Sides-of, Sees}
+use Rattle.plan.specs.Monitors.{headRows, isTwoSided, Sides-of}
 use Rattle.plan.proofs.ByMark.{head-rows, head-least, side-count, kind-past}
 
 -- a kind of one side has no ψ
@@ -72,12 +71,12 @@ module _ (ms vs : List ℕ) (σ : Facts) where
           length-append (conditionRows (q .first)) (secondRows q),
         )
 
-    module _ (r : Evaluated) (first-read : r ≡ evaluateAt σ start ms vs (i + headRows (getD ms i 0))) (s : ℕ) where
+    module _ (r : Evaluated) (first-read : r ≡ evaluateAt σ start ms vs (i + headRows (getD ms i 0))) where
       first-whole : Stops inCondition (secondRows q ++ more)
           → r ≡ record { holds = isTrue σ (q .first); next = from + length (conditionRows (q .first)) }
       first-whole stop = first-read ∙ ap (evaluateAt σ start ms vs) from-is ∙ first-is stop
 
-      pub one-side : isTwoSided (getD ms i 0) ≡ false → Sides-of q i σ (record { phi = r .holds; psi = true; steps = s; next = r .next })
+      pub one-side : isTwoSided (getD ms i 0) ≡ false → Sides-of q i σ (record { phi = r .holds; psi = true; next = r .next })
       one-side e₁ =
           let one : two-sided (q .kind) ≡ false = sym (ap isTwoSided mark-is ∙ side-count (q .kind)) ∙ e₁ in
           let whole : r ≡ record { holds = isTrue σ (q .first); next = from + length (conditionRows (q .first)) } =
@@ -91,7 +90,7 @@ module _ (ms vs : List ℕ) (σ : Facts) where
           }
 
       pub two-sides : isTwoSided (getD ms i 0) ≡ true → (x : Evaluated) → x ≡ evaluateAt σ start ms vs (r .next + 1)
-          → Sides-of q i σ (record { phi = r .holds; psi = x .holds; steps = s; next = x .next })
+          → Sides-of q i σ (record { phi = r .holds; psi = x .holds; next = x .next })
       two-sides e₁ x second-read =
           let two : two-sided (q .kind) ≡ true = sym (ap isTwoSided mark-is ∙ side-count (q .kind)) ∙ e₁ in
           let at : ℕ = from + length (conditionRows (q .first)) in

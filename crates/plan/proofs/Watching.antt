@@ -10,11 +10,11 @@ use lib.ListN.{length, drop, getD, set, drop-of-length-le}
 use lib.Seq.{drop-cons, getD-set-same, getD-set-other}
 use borrow.Author.Tests.{ne-eqb, ltb-true, ltb-false, eqb-true, eqb-false}
 use Rattle.task.specs.Lists.{all, concatMap, nonEmpty}
-use Rattle.task.specs.Task.{Preference, Row, preferenceRows}
+use Rattle.task.specs.Task.{Kind, Preference, Row, preferenceRows}
 use Rattle.task.specs.File.{paired, kindOf}
 use Rattle.task.specs.Rows.{stepsAt}
 use Rattle.task.specs.Spelling.{preferenceSpellable}
-use Rattle.task.specs.Meaning.{State as Facts, isTrue, seen, noPreference}
+use Rattle.task.specs.Meaning.{State as Facts, seen, noPreference}
 use Rattle.task.specs.Monitor.{Monitor, step}
 use Rattle.task.proofs.Tests.{tests, all-at}
 use Rattle.task.proofs.Reading.{row-at, row-end}
@@ -83,12 +83,13 @@ module _ (ms vs : List ℕ) (at : ℕ) (last : Bool) (σ : Facts) (before : List
           (sym (row-end ms vs i h) ∙ e ∙ ap (concatMap preferenceRows) (drop-cons qs k noPreference (ltb-true k (length qs) p))) tt)
       go false p = ltb-false k (length qs) p
 
-  module _ (now then : List Monitors.Monitor) (k i : ℕ) (h : i < length ms) (r : Sides) (sees : Sees ms vs i σ r) (steps : r .steps ≡ stepsAt ms vs i)
+  module _ (now then : List Monitors.Monitor) (k i : ℕ) (h : i < length ms) (r : Sides) (sees : Sees ms vs i σ r)
+      (kind : Kind) (read : kind ≡ kindOf (getD ms i 0) (stepsAt ms vs i))
       (put : k < 16 → (j : ℕ) → monitorAt then j
-      ≡ cond (eqb j k) (step (kindOf (getD ms i 0) (r .steps)) last (monitorAt now k) (record { φ = r .phi; ψ = r .psi })) (monitorAt now j)) where
+      ≡ cond (eqb j k) (step kind last (monitorAt now k) (record { φ = r .phi; ψ = r .psi })) (monitorAt now j)) where
     -- what is put at place k
     abbrev x : Monitor
-    x = step (kindOf (getD ms i 0) (r .steps)) last (monitorAt now k) (record { φ = r .phi; ψ = r .psi })
+    x = step kind last (monitorAt now k) (record { φ = r .phi; ψ = r .psi })
 
     one-more : (qs : List Preference) → T (all preferenceSpellable qs) → length qs ≤ 16
         → Seen-by ms vs last σ before qs now k i → Seen-by ms vs last σ before qs then (k + 1) (r .next)
@@ -99,13 +100,13 @@ module _ (ms vs : List ℕ) (at : ℕ) (last : Bool) (σ : Facts) (before : List
         let e : drop i (paired ms vs) ≡ concatMap preferenceRows (q ∷ more) =
         s .rest ∙ ap (concatMap preferenceRows) (drop-cons qs k noPreference left) in
         let fine : T (preferenceSpellable q) = all-at preferenceSpellable qs k noPreference ok left in
-        let read : Sides-of q i σ r = sees q more e fine in
-        let kind : kindOf (getD ms i 0) (r .steps) ≡ q .kind = ap (kindOf (getD ms i 0)) steps ∙ kind-at ms vs i q (concatMap preferenceRows more) e h (search tests) in
+        let sides : Sides-of q i σ r = sees q more e fine in
+        let same : kind ≡ q .kind = read ∙ kind-at ms vs i q (concatMap preferenceRows more) e h (search tests) in
         let mine : x ≡ step (q .kind) last (monitorAt before k) (seen q σ) =
-        λ z. step (kind z) last (s .still k (omega arith) z) (record { φ = read .phi z; ψ = read .psi z }) in
+        λ z. step (same z) last (s .still k (omega arith) z) (record { φ = sides .phi z; ψ = sides .psi z }) in
         record {
           within = omega arith;
-          rest = ap (λ (n : ℕ). drop n (paired ms vs)) (read .next)
+          rest = ap (λ (n : ℕ). drop n (paired ms vs)) (sides .next)
               ∙ drop-behind i (paired ms vs) (preferenceRows q) (concatMap preferenceRows more) e
               ∙ ap (λ (n : ℕ). concatMap preferenceRows (drop n qs)) (sym (add-one k));
           done = λ j l. by-number qs s mine left many j l (eqb j k) refl;

@@ -2,18 +2,20 @@
 ghost use mathlib.Core.Path.{_≡_};
 ghost use mathlib.Core.Bool.{Bool, cond};
 ghost use Prim.Native.Nat.{ℕ, _*_, _+_, _≤_, _<_};
-ghost use lib.Dec.{leb, eqb};
+ghost use lib.Dec.{T, leb, eqb};
 ghost use lib.ListN.{length};
 ghost use Rattle.task.specs.File.{kindOf};
 ghost use Rattle.task.specs.Task.{always-within};
 ghost use Rattle.task.specs.Monitor.{fresh, older, nextAge, step, good};
-ghost use Rattle.task.specs.Rows.{stepsAt};
+ghost use Rattle.task.specs.Spelling.{kindSpellable};
+ghost use Rattle.task.specs.Answers.{asKind};
 ghost use Rattle.state.specs.Member.{member};
 ghost use Rattle.plan.specs.Monitors.{asMonitor, monitorAt, headRows, isTwoSided, Sees, Watched};
 use state::State;
 use state::conditions;
+use task::kinds;
+use task::kinds::Kind;
 use task::marks;
-use task::rows;
 
 // D of j holds where j is at most the age.
 pub struct Monitor {
@@ -22,11 +24,10 @@ pub struct Monitor {
     pub age: u8,
 }
 
-// φ and ψ of a preference in a state, its steps where it has them, and the row behind the preference.
+// φ and ψ of a preference in a state, and the row after the preference.
 pub struct Sides {
     pub phi: bool,
     pub psi: bool,
-    pub steps: u8,
     pub next: usize,
 }
 
@@ -89,46 +90,46 @@ fn waiting(steps: u8, m: Monitor, phi: bool, psi: bool) -> Monitor
 }
 
 // A monitor after one more state; last says that it is the last.
-fn stepped(mark: u8, steps: u8, last: bool, m: Monitor, phi: bool, psi: bool) -> Monitor
-    requires { ⌜ steps < 16 ⌝ }
-    ensures { λ r. ⌜ asMonitor r ≡ step (kindOf mark steps) last (asMonitor m) (record { φ = phi; ψ = psi }) ⌝ }
+fn stepped(kind: Kind, last: bool, m: Monitor, phi: bool, psi: bool) -> Monitor
+    requires { ⌜ T (kindSpellable (asKind kind)) ⌝ }
+    ensures { λ r. ⌜ asMonitor r ≡ step (asKind kind) last (asMonitor m) (record { φ = phi; ψ = psi }) ⌝ }
 {
     let s = m.s;
     let b = m.b;
     let age = m.age;
-    match mark {
-        marks::ALWAYS => Monitor {
+    match kind {
+        Kind::Always => Monitor {
             s,
             b: !phi | b,
             age,
         },
-        marks::SOMETIME => Monitor { s: phi | s, b, age },
-        marks::AT_END => Monitor {
+        Kind::Sometime => Monitor { s: phi | s, b, age },
+        Kind::AtEnd => Monitor {
             s: last & phi | s,
             b,
             age,
         },
-        marks::AT_MOST_ONCE => Monitor {
+        Kind::AtMostOnce => Monitor {
             s: !s & (!b & phi) | s & !(s & (b & phi)),
             b: s & !phi | b,
             age,
         },
-        marks::SOMETIME_BEFORE => Monitor {
+        Kind::SometimeBefore => Monitor {
             s: psi | s,
             b: !s & phi | b,
             age,
         },
-        marks::SOMETIME_AFTER => Monitor {
+        Kind::SometimeAfter => Monitor {
             s,
             b: phi & !psi | b & !psi,
             age,
         },
-        marks::WITHIN => Monitor {
+        Kind::Within(steps) => Monitor {
             s: (age <= steps) & phi | s,
             b,
             age: older(steps, age),
         },
-        _ => waiting(steps, m, phi, psi),
+        Kind::AlwaysWithin(steps) => waiting(steps, m, phi, psi),
     }
 }
 
@@ -159,15 +160,15 @@ pub fn monitor_at(ms: [Monitor; 16], k: u32) -> Monitor
 }
 
 // Monitor k after one more state, the others as they were; there is none from 16 on.
-fn step_one(ms: [Monitor; 16], k: usize, mark: u8, last: bool, q: Sides) -> [Monitor; 16]
-    requires { ⌜ q .steps < 16 ⌝ }
-    ensures { λ r. ⌜ (k < 16 → (j : ℕ) → monitorAt r j ≡ cond (eqb j k) (step (kindOf mark (q .steps)) last (monitorAt ms k) (record { φ = q .phi; ψ = q .psi })) (monitorAt ms j)) ⌝ }
+fn step_one(ms: [Monitor; 16], k: usize, kind: Kind, last: bool, q: Sides) -> [Monitor; 16]
+    requires { ⌜ T (kindSpellable (asKind kind)) ⌝ }
+    ensures { λ r. ⌜ (k < 16 → (j : ℕ) → monitorAt r j ≡ cond (eqb j k) (step (asKind kind) last (monitorAt ms k) (record { φ = q .phi; ψ = q .psi })) (monitorAt ms j)) ⌝ }
 {
     if 16 <= k {
         return ms;
     }
     let mut next = ms;
-    next[k] = stepped(mark, q.steps, last, ms[k], q.phi, q.psi);
+    next[k] = stepped(kind, last, ms[k], q.phi, q.psi);
     next
 }
 
@@ -194,17 +195,15 @@ fn is_two_sided(mark: u8) -> bool
 // The sides of the preference that row i opens, in state s.
 fn read_sides(marks: &[u8], values: &[u8], i: usize, s: State) -> Sides
     requires { ⌜ (4 * length (now marks) ≤ length (now values)) × (length (now marks) ≤ 12000) × (i < length (now marks)) ⌝ }
-    ensures { λ r. ⌜ (i < r .next) × (r .steps ≡ stepsAt (now (marks .entry)) (now (values .entry)) i) × (r .steps < 16) ⌝ }
+    ensures { λ r. ⌜ i < r .next ⌝ }
     ensures { λ r. ⌜ Sees (now (marks .entry)) (now (values .entry)) i (member s) r ⌝ }
 {
     let mark = marks[i];
-    let steps = rows::steps_at(marks, values, i);
     let first = conditions::condition(marks, values, i + head_rows(mark), s);
     if !is_two_sided(mark) {
         return Sides {
             phi: first.holds,
             psi: true,
-            steps,
             next: first.next,
         };
     }
@@ -212,7 +211,6 @@ fn read_sides(marks: &[u8], values: &[u8], i: usize, s: State) -> Sides
     Sides {
         phi: first.holds,
         psi: second.holds,
-        steps,
         next: second.next,
     }
 }
@@ -234,7 +232,8 @@ pub fn watch(
     let mut i = at;
     while i < marks.len() {
         let q = read_sides(marks, values, i, s);
-        let next = step_one(m, k, marks[i], last, q);
+        let kind = kinds::kind_at(marks, values, i);
+        let next = step_one(m, k, kind, last, q);
         m = next;
         k += 1;
         i = q.next;

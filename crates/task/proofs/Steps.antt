@@ -1,14 +1,13 @@
 -- The kind of a preference, read from the row that opens it and the row behind that.
 use mathlib.Core.Path.{_≡_, refl, ap, _∙_}
 use mathlib.Core.Bool.{Bool, cond}
-use mathlib.Core.List.{List, [], _∷_, _++_, append-assoc}
+use mathlib.Core.List.{List, _∷_, _++_, append-assoc}
 use Prim.Native.Nat.{ℕ, _+_, _%_, _≤_, _<_}
 use native.Mathlib.Omega.{arith}
 use lib.Dec.{T, leb, leb→le}
 use lib.ListN.{length, drop, getD, length-drop}
-use borrow.Author.Tests.{lt-leb}
-use Rattle.task.specs.Lists.{concatMap}
-use Rattle.task.specs.Marks.{STEPS}
+use borrow.Author.Tests.{lt-leb, ne-eqb}
+use Rattle.task.specs.Marks.{ALWAYS, SOMETIME, AT-END, AT-MOST-ONCE, SOMETIME-BEFORE, SOMETIME-AFTER, WITHIN, STEPS}
 use Rattle.task.specs.Task.{Kind, always, sometime, at-end, at-most-once, sometime-before, sometime-after, within, always-within, Preference, Row, row}
 use Rattle.task.specs.Task.{kindMark, stepsRows, preferenceRows}
 use Rattle.task.specs.File.{paired, kindOf}
@@ -19,6 +18,20 @@ use Rattle.task.proofs.Bytes.{length-paired}
 use Rattle.task.proofs.Passing.{conditionsOf}
 use Rattle.task.proofs.Reading.{mark-at, value-at}
 use Rattle.task.proofs.Positions.{drop-next, drop-behind}
+
+-- a mark of no other kind
+pub last-kind : (m t : ℕ) → (m ≡ ALWAYS → ⊥) → (m ≡ SOMETIME → ⊥) → (m ≡ AT-END → ⊥) → (m ≡ AT-MOST-ONCE → ⊥) → (m ≡ SOMETIME-BEFORE → ⊥)
+    → (m ≡ SOMETIME-AFTER → ⊥) → (m ≡ WITHIN → ⊥) → kindOf m t ≡ always-within t
+last-kind m t a s e o b f w =
+    rw (
+      ne-eqb m ALWAYS a,
+      ne-eqb m SOMETIME s,
+      ne-eqb m AT-END e,
+      ne-eqb m AT-MOST-ONCE o,
+      ne-eqb m SOMETIME-BEFORE b,
+      ne-eqb m SOMETIME-AFTER f,
+      ne-eqb m WITHIN w,
+    )
 
 module _ (ms vs : List ℕ) (i : ℕ) where
   inside : (j : ℕ) (x : Row) (xs : List Row) → drop j (paired ms vs) ≡ x ∷ xs → j < length ms

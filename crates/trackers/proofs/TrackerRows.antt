@@ -24,7 +24,7 @@ use Rattle.trackers.specs.declared.places.Sides.{Sides}
 use Rattle.task.proofs.Tests.{concat-append}
 use Rattle.task.proofs.Reading.{mark-at}
 use Rattle.task.proofs.Steps.{kind-at}
-use Rattle.trackers.specs.Rows.{singleRows, changeRows, closeRows, falseRow, falseRows, onceRows, beforeRows, afterRows, onwardRows, withinRows}
+use Rattle.trackers.specs.Rows.{changeRows, closeRows, falseRow, falseRows, onceRows, beforeRows, afterRows, onwardRows, withinRows}
 use Rattle.trackers.specs.Rows.{waitRows, soonRows, trackerRows}
 use Rattle.trackers.specs.Trackers.{preferenceTrackers, allTrackerRows}
 use Rattle.trackers.proofs.Putting.{Onward, next-row, no-row}
@@ -50,22 +50,6 @@ module _ (ms vs : List ℕ) (j to : ℕ) (gs zs : List Row) (begun : Bool) where
   last-false h = ap (falseRows gs zs begun) (sym (no-row ms vs j to h))
 
 -- Guards
-
--- the clause of a fact that holds, row by row
-pub clause-by-rows : (held : Bool) (n : ℕ) (xs : List Row)
-    → cond held (row CLAUSE 0 ∷ []) [] ++ (cond held (row HOLDS n ∷ []) [] ++ xs) ≡ cond held (singleRows HOLDS n) [] ++ xs
-clause-by-rows true n xs = refl
-clause-by-rows false n xs = refl
-
--- the facts that an effect adds, row by row
-pub adds-by-rows : (begun also : Bool) (n m : ℕ)
-    → cond begun (row ADD n ∷ []) [] ++ cond (begun && also) (row ADD m ∷ []) [] ≡ cond begun (row ADD n ∷ cond also (row ADD m ∷ []) []) []
-adds-by-rows true also n m = refl
-adds-by-rows false also n m = refl
-
--- no rows of the source
-pub no-rows : (ms vs : List ℕ) (gs zs xs : List Row) → falseRows (gs ++ part ms vs 0 0) zs false xs ≡ falseRows gs zs false xs
-no-rows ms vs gs zs xs = ap (λ (hs : List Row). falseRows hs zs false xs) (ap (λ (hs : List Row). gs ++ hs) (no-row ms vs 0 0 (omega arith)) ∙ append-nil gs)
 
 -- What they spell
 

@@ -10,7 +10,10 @@ use Rattle.task.specs.File.{is}
 use Rattle.task.specs.Lists.{numbers, concatMap}
 use Rattle.classical.specs.Translation.{factD}
 use Rattle.trackers.specs.Writer.{part}
-use Rattle.trackers.specs.declared.effects.Frame.{Frame}
+use Rattle.trackers.specs.declared.effects.Guard.{Guard}
+use Rattle.trackers.specs.declared.effects.Guard.the-variants.{Nothing, Holds, Between}
+use Rattle.trackers.specs.declared.effects.Added.{Added}
+use Rattle.trackers.specs.declared.effects.Added.the-variants.{One, Two}
 
 -- a clause of one literal
 abbrev pub singleRows : ℕ → ℕ → List Row
@@ -35,13 +38,22 @@ unfoldable pub falseRows : List Row → List Row → Bool → List Row → List 
 falseRows gs zs begun [] = closeRows begun zs
 falseRows gs zs begun (x ∷ xs) = falseRow gs zs begun (x .mark) (x .value) ++ falseRows gs zs (begun || is CLAUSE x) xs
 
--- that a fact holds, where it is asked, and rows of the source
-abbrev pub guardRows : List ℕ → List ℕ → Frame → List Row
-guardRows ms vs g = cond (g .held) (singleRows HOLDS (g .fact)) [] ++ part ms vs (g .from) (g .to)
+-- what stands before the denied literals
+abbrev pub guardRows : List ℕ → List ℕ → Guard → List Row
+guardRows ms vs Nothing = []
+guardRows ms vs (Holds n) = singleRows HOLDS n
+guardRows ms vs (Between from to) = part ms vs from to
 
--- a fact that is added, and another where it is asked
-abbrev pub addRows : Frame → List Row
-addRows g = row ADD (g .added) ∷ cond (g .also) (row ADD (g .other) ∷ []) []
+-- the row up to which a guard reads
+abbrev pub guardEnd : Guard → ℕ
+guardEnd Nothing = 0
+guardEnd (Holds n) = 0
+guardEnd (Between from to) = to
+
+-- what is added
+abbrev pub addRows : Added → List Row
+addRows (One n) = row ADD n ∷ []
+addRows (Two m n) = row ADD m ∷ row ADD n ∷ []
 
 -- The trackers by a preference's mark
 

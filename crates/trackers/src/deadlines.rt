@@ -10,7 +10,9 @@ ghost use Rattle.classical.specs.Translation.{factD};
 ghost use Rattle.trackers.specs.Writer.{Wrote, part};
 ghost use Rattle.trackers.specs.Rows.{onwardRows, countRows, withinRows, waitRows, resetRows, soonRows};
 use super::effects;
+use super::effects::Added;
 use super::effects::Frame;
+use super::effects::Guard;
 use super::places::Sides;
 use super::writer;
 use task::marks;
@@ -100,13 +102,8 @@ fn put_wait(
 {
     let next = fact_d(t, j + 1);
     let g = Frame {
-        held: true,
-        fact: t.d + j,
-        from: 0,
-        to: 0,
-        added: next,
-        also: false,
-        other: next,
+        guard: Guard::Holds(t.d + j),
+        added: Added::One(next),
     };
     effects::each_false(&mut *out, n, i, marks, values, from, to, g)
 }
@@ -181,13 +178,8 @@ pub fn always_within(
 {
     let first = fact_d(t, 1);
     let g = Frame {
-        held: false,
-        fact: t.b,
-        from: p.first,
-        to: p.mid,
-        added: t.b,
-        also: true,
-        other: first,
+        guard: Guard::Between(p.first, p.mid),
+        added: Added::Two(t.b, first),
     };
     let k = effects::each_false(&mut *out, n, i, marks, values, p.second, p.next, g);
     let k = waits(&mut *out, n, k, marks, values, p.second, p.next, t);

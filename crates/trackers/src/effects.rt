@@ -1,27 +1,34 @@
 // Effects, and one effect for each false clause of a condition.
 ghost use mathlib.Core.Path.{_≡_};
-ghost use mathlib.Core.Bool.{true, false, cond};
+ghost use mathlib.Core.Bool.{false};
 ghost use mathlib.Core.List.{[], _∷_, _++_};
 ghost use Prim.Native.Nat.{_+_, _*_, _≤_, _<_};
 ghost use lib.ListN.{length};
 ghost use Rattle.task.specs.Marks.{EFFECT};
 ghost use Rattle.task.specs.Task.{row};
 ghost use Rattle.trackers.specs.Writer.{Wrote, part};
-ghost use Rattle.trackers.specs.Rows.{deniedMark, changeRows, guardRows, addRows, closeRows, falseRow, falseRows, guardedRows};
+ghost use Rattle.trackers.specs.Rows.{deniedMark, changeRows, guardEnd, guardRows, addRows, closeRows, falseRow, falseRows, guardedRows};
 use super::writer;
 use task::marks;
 use task::rows;
 
-// What an effect has around the denied literals of a clause: before them that a fact holds, where `held` says so, and the rows
-// from `from` up to `to`; behind them the fact that it adds, and another where `also` says so.
+// What stands before the denied literals of a clause: nothing, that a fact holds, or the rows from one up to another.
+pub enum Guard {
+    Nothing,
+    Holds(u32),
+    Between(usize, usize),
+}
+
+// What an effect adds.
+pub enum Added {
+    One(u32),
+    Two(u32, u32),
+}
+
+// What an effect has around the denied literals of a clause.
 pub struct Frame {
-    pub held: bool,
-    pub fact: u32,
-    pub from: usize,
-    pub to: usize,
-    pub added: u32,
-    pub also: bool,
-    pub other: u32,
+    pub guard: Guard,
+    pub added: Added,
 }
 
 // HOLDS for LACKS, LACKS for HOLDS.
@@ -35,35 +42,48 @@ fn denied(mark: u8) -> u8
     }
 }
 
-// Writes a row where it is wanted.
-fn put_where(out: &mut [u8], n: usize, i: usize, wanted: bool, mark: u8, value: u32) -> usize
-    requires { ⌜ 8 + 5 * n ≤ length (now out) ⌝ }
-    ensures { λ r. ⌜ Wrote (now (out .entry)) n i (cond wanted (row mark value ∷ []) []) r (now (out .exit)) ⌝ }
+fn put_guard(out: &mut [u8], n: usize, i: usize, marks: &[u8], values: &[u8], g: Guard) -> usize
+    requires { ⌜ (n ≤ 12000) × (8 + 5 * n ≤ length (now out)) × (4 * length (now marks) ≤ length (now values)) × (guardEnd g ≤ length (now marks)) ⌝ }
+    ensures { λ r. ⌜ Wrote (now (out .entry)) n i (guardRows (now (marks .entry)) (now (values .entry)) g) r (now (out .exit)) ⌝ }
 {
-    if !wanted {
-        return i;
+    match g {
+        Guard::Nothing => i,
+        Guard::Holds(fact) => writer::put_single(&mut *out, n, i, marks::HOLDS, fact),
+        Guard::Between(from, to) => writer::copy_rows(&mut *out, n, i, marks, values, from, to),
     }
-    writer::put_row(&mut *out, n, i, mark, value)
+}
+
+fn put_adds(out: &mut [u8], n: usize, i: usize, added: Added) -> usize
+    requires { ⌜ (n ≤ 12000) × (8 + 5 * n ≤ length (now out)) ⌝ }
+    ensures { λ r. ⌜ Wrote (now (out .entry)) n i (addRows added) r (now (out .exit)) ⌝ }
+{
+    match added {
+        Added::One(fact) => writer::put_row(&mut *out, n, i, marks::ADD, fact),
+        Added::Two(fact, other) => {
+            let k = writer::put_row(&mut *out, n, i, marks::ADD, fact);
+            writer::put_row(&mut *out, n, k, marks::ADD, other)
+        }
+    }
 }
 
 // Opens an effect, with its guard.
-fn open_effect(out: &mut [u8], n: usize, i: usize, marks: &[u8], values: &[u8], g: Frame) -> usize
-    requires { ⌜ (n ≤ 12000) × (8 + 5 * n ≤ length (now out)) × (4 * length (now marks) ≤ length (now values)) × (g .to ≤ length (now marks)) ⌝ }
+fn open_effect(out: &mut [u8], n: usize, i: usize, marks: &[u8], values: &[u8], g: Guard) -> usize
+    requires { ⌜ (n ≤ 12000) × (8 + 5 * n ≤ length (now out)) × (4 * length (now marks) ≤ length (now values)) × (guardEnd g ≤ length (now marks)) ⌝ }
     ensures { λ r. ⌜ Wrote (now (out .entry)) n i (row EFFECT 0 ∷ guardRows (now (marks .entry)) (now (values .entry)) g) r (now (out .exit)) ⌝ }
 {
     let k = writer::put_row(&mut *out, n, i, marks::EFFECT, 0);
-    let k = put_where(&mut *out, n, k, g.held, marks::CLAUSE, 0);
-    let k = put_where(&mut *out, n, k, g.held, marks::HOLDS, g.fact);
-    writer::copy_rows(&mut *out, n, k, marks, values, g.from, g.to)
+    put_guard(&mut *out, n, k, marks, values, g)
 }
 
 // Ends the effect that is open, if one is.
-fn close_effect(out: &mut [u8], n: usize, i: usize, g: Frame, begun: bool) -> usize
+fn close_effect(out: &mut [u8], n: usize, i: usize, added: Added, begun: bool) -> usize
     requires { ⌜ (n ≤ 12000) × (8 + 5 * n ≤ length (now out)) ⌝ }
-    ensures { λ r. ⌜ Wrote (now (out .entry)) n i (closeRows begun (addRows g)) r (now (out .exit)) ⌝ }
+    ensures { λ r. ⌜ Wrote (now (out .entry)) n i (closeRows begun (addRows added)) r (now (out .exit)) ⌝ }
 {
-    let k = put_where(&mut *out, n, i, begun, marks::ADD, g.added);
-    put_where(&mut *out, n, k, begun & g.also, marks::ADD, g.other)
+    if !begun {
+        return i;
+    }
+    put_adds(&mut *out, n, i, added)
 }
 
 // One row of a condition: a clause opens the next effect, a literal is denied. `begun` says that an effect is open.
@@ -78,14 +98,16 @@ fn false_row(
     value: u32,
     begun: bool,
 ) -> usize
-    requires { ⌜ (n ≤ 12000) × (8 + 5 * n ≤ length (now out)) × (4 * length (now marks) ≤ length (now values)) × (g .to ≤ length (now marks)) ⌝ }
-    ensures { λ r. ⌜ Wrote (now (out .entry)) n i (falseRow (guardRows (now (marks .entry)) (now (values .entry)) g) (addRows g) begun mark value) r (now (out .exit)) ⌝ }
+    requires { ⌜ (n ≤ 12000) × (8 + 5 * n ≤ length (now out)) × (4 * length (now marks) ≤ length (now values)) × (guardEnd (g .guard) ≤ length (now marks)) ⌝ }
+    ensures { λ r. ⌜ Wrote (now (out .entry)) n i (falseRow (guardRows (now (marks .entry)) (now (values .entry)) (g .guard)) (addRows (g .added)) begun mark value) r (now (out .exit)) ⌝ }
 {
     if mark != marks::CLAUSE {
         return writer::put_single(&mut *out, n, i, denied(mark), value);
     }
-    let k = close_effect(&mut *out, n, i, g, begun);
-    open_effect(&mut *out, n, k, marks, values, g)
+    let guard = g.guard;
+    let added = g.added;
+    let k = close_effect(&mut *out, n, i, added, begun);
+    open_effect(&mut *out, n, k, marks, values, guard)
 }
 
 // One effect for each clause of a condition, whose literals are denied in its frame.
@@ -99,8 +121,8 @@ pub fn each_false(
     to: usize,
     g: Frame,
 ) -> usize
-    requires { ⌜ (n ≤ 12000) × (8 + 5 * n ≤ length (now out)) × (4 * length (now marks) ≤ length (now values)) × (to ≤ length (now marks)) × (g .to ≤ length (now marks)) ⌝ }
-    ensures { λ r. ⌜ Wrote (now (out .entry)) n i (falseRows (guardRows (now (marks .entry)) (now (values .entry)) g) (addRows g) false (part (now (marks .entry)) (now (values .entry)) from to)) r (now (out .exit)) ⌝ }
+    requires { ⌜ (n ≤ 12000) × (8 + 5 * n ≤ length (now out)) × (4 * length (now marks) ≤ length (now values)) × (to ≤ length (now marks)) × (guardEnd (g .guard) ≤ length (now marks)) ⌝ }
+    ensures { λ r. ⌜ Wrote (now (out .entry)) n i (falseRows (guardRows (now (marks .entry)) (now (values .entry)) (g .guard)) (addRows (g .added)) false (part (now (marks .entry)) (now (values .entry)) from to)) r (now (out .exit)) ⌝ }
 {
     let mut begun = false;
     let mut k = i;
@@ -124,7 +146,8 @@ pub fn each_false(
         begun = begun | (mark == marks::CLAUSE);
         j += 1;
     }
-    close_effect(&mut *out, n, k, g, begun)
+    let added = g.added;
+    close_effect(&mut *out, n, k, added, begun)
 }
 
 // The end of an effect: the rows of a condition, and one fact added or deleted.

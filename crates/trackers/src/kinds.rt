@@ -9,7 +9,9 @@ ghost use Rattle.task.specs.Task.{row};
 ghost use Rattle.trackers.specs.Writer.{Wrote, part};
 ghost use Rattle.trackers.specs.Rows.{changeRows, falseRows, onceRows, beforeRows, afterRows};
 use super::effects;
+use super::effects::Added;
 use super::effects::Frame;
+use super::effects::Guard;
 use super::places::Sides;
 use super::writer;
 use task::marks;
@@ -28,13 +30,8 @@ pub fn always(
     ensures { λ r. ⌜ Wrote (now (out .entry)) n i (falseRows [] (row ADD b ∷ []) false (part (now (marks .entry)) (now (values .entry)) from to)) r (now (out .exit)) ⌝ }
 {
     let g = Frame {
-        held: false,
-        fact: b,
-        from: 0,
-        to: 0,
-        added: b,
-        also: false,
-        other: b,
+        guard: Guard::Nothing,
+        added: Added::One(b),
     };
     effects::each_false(&mut *out, n, i, marks, values, from, to, g)
 }
@@ -67,13 +64,8 @@ pub fn at_most_once(
         marks::ADD,
     );
     let g = Frame {
-        held: true,
-        fact: s,
-        from: 0,
-        to: 0,
-        added: b,
-        also: false,
-        other: b,
+        guard: Guard::Holds(s),
+        added: Added::One(b),
     };
     let k = effects::each_false(&mut *out, n, k, marks, values, from, to, g);
     effects::put_guarded(
@@ -143,13 +135,8 @@ pub fn sometime_after(
     ensures { λ r. ⌜ Wrote (now (out .entry)) n i (afterRows b (part (now (marks .entry)) (now (values .entry)) (p .first) (p .mid)) (part (now (marks .entry)) (now (values .entry)) (p .second) (p .next))) r (now (out .exit)) ⌝ }
 {
     let g = Frame {
-        held: false,
-        fact: b,
-        from: p.first,
-        to: p.mid,
-        added: b,
-        also: false,
-        other: b,
+        guard: Guard::Between(p.first, p.mid),
+        added: Added::One(b),
     };
     let k = effects::each_false(&mut *out, n, i, marks, values, p.second, p.next, g);
     effects::put_effect(

@@ -7,7 +7,8 @@ pub mod writer;
 
 ghost use mathlib.Core.Path.{_≡_};
 ghost use Prim.Native.Nat.{_+_, _*_, _≤_, _<_};
-ghost use lib.ListN.{length};
+ghost use lib.ListN.{length, getD};
+ghost use Rattle.task.specs.Rows.{stepsAt};
 ghost use Rattle.trackers.specs.Writer.{Wrote, part};
 ghost use Rattle.trackers.specs.Trackers.{WroteAt, WroteFor, preferenceTrackers, allTrackerRows, Further};
 ghost use Rattle.trackers.specs.Rows.{trackerRows};
@@ -16,25 +17,39 @@ use places::Sides;
 use task::marks;
 use task::rows;
 
-// The trackers of a preference by its mark. `last` says that they stand in end; d is the fact before D1.
+// What the deadline of the preference at row `at` is tracked with.
+fn deadline(marks: &[u8], values: &[u8], at: usize, s: u32, d: u32) -> Deadline
+    requires { ⌜ (4 * length (now marks) ≤ length (now values)) × (length (now marks) ≤ 12000) × (at < length (now marks)) × (s < 1000000) × (d < 1000000) ⌝ }
+    ensures { λ r. ⌜ r ≡ record { steps = stepsAt (now (marks .entry)) (now (values .entry)) at; s = s; b = s + 1; d = d } ⌝ }
+    ensures { λ r. ⌜ (r .steps < 16) × (r .d < 1000000) ⌝ }
+{
+    let steps = rows::steps_at(marks, values, at);
+    Deadline {
+        steps: steps as u32,
+        s,
+        b: s + 1,
+        d,
+    }
+}
+
+// The trackers of the preference at row `at`, by its mark. `last` says that they stand in end; d is the fact before D1.
 fn trackers_of(
     out: &mut [u8],
     n: usize,
     i: usize,
     marks: &[u8],
     values: &[u8],
-    mark: u8,
+    at: usize,
     p: Sides,
-    steps: u32,
     s: u32,
     d: u32,
     last: bool,
 ) -> usize
-    requires { ⌜ (n ≤ 12000) × (8 + 5 * n ≤ length (now out)) × (4 * length (now marks) ≤ length (now values)) × (p .mid ≤ length (now marks)) × (p .next ≤ length (now marks)) × (s < 1000000) × (d < 1000000) × (steps < 16) ⌝ }
-    ensures { λ r. ⌜ Wrote (now (out .entry)) n i (trackerRows mark last s (s + 1) d steps (part (now (marks .entry)) (now (values .entry)) (p .first) (p .mid)) (part (now (marks .entry)) (now (values .entry)) (p .second) (p .next))) r (now (out .exit)) ⌝ }
+    requires { ⌜ (n ≤ 12000) × (8 + 5 * n ≤ length (now out)) × (4 * length (now marks) ≤ length (now values)) × (length (now marks) ≤ 12000) × (at < length (now marks)) × (p .mid ≤ length (now marks)) × (p .next ≤ length (now marks)) × (s < 1000000) × (d < 1000000) ⌝ }
+    ensures { λ r. ⌜ Wrote (now (out .entry)) n i (trackerRows (getD (now (marks .entry)) at 0) last s (s + 1) d (stepsAt (now (marks .entry)) (now (values .entry)) at) (part (now (marks .entry)) (now (values .entry)) (p .first) (p .mid)) (part (now (marks .entry)) (now (values .entry)) (p .second) (p .next))) r (now (out .exit)) ⌝ }
 {
     let b = s + 1;
-    let t = Deadline { steps, s, b, d };
+    let mark = marks[at];
     match mark {
         marks::ALWAYS => kinds::always(&mut *out, n, i, marks, values, p.first, p.mid, b),
         marks::AT_MOST_ONCE => {
@@ -46,8 +61,14 @@ fn trackers_of(
         }
         marks::SOMETIME_BEFORE => kinds::sometime_before(&mut *out, n, i, marks, values, p, s, b),
         marks::SOMETIME_AFTER => kinds::sometime_after(&mut *out, n, i, marks, values, p, b),
-        marks::WITHIN => deadlines::within(&mut *out, n, i, marks, values, p.first, p.mid, t),
-        marks::ALWAYS_WITHIN => deadlines::always_within(&mut *out, n, i, marks, values, p, t),
+        marks::WITHIN => {
+            let t = deadline(marks, values, at, s, d);
+            deadlines::within(&mut *out, n, i, marks, values, p.first, p.mid, t)
+        }
+        marks::ALWAYS_WITHIN => {
+            let t = deadline(marks, values, at, s, d);
+            deadlines::always_within(&mut *out, n, i, marks, values, p, t)
+        }
         _ => i,
     }
 }
@@ -75,20 +96,7 @@ fn trackers_at(
         return i;
     }
     let p = places::locate(marks, at);
-    let steps = rows::steps_at(marks, values, at);
-    trackers_of(
-        &mut *out,
-        n,
-        i,
-        marks,
-        values,
-        mark,
-        p,
-        steps as u32,
-        s,
-        d,
-        last,
-    )
+    trackers_of(&mut *out, n, i, marks, values, at, p, s, d, last)
 }
 
 // How many facts D1, D2 and so on the preference at row `at` has.
@@ -100,10 +108,9 @@ fn further_at(marks: &[u8], values: &[u8], at: usize) -> u32
         return 0;
     }
     let mark = marks[at];
-    let steps = rows::steps_at(marks, values, at);
     match mark {
-        marks::WITHIN => (steps as u32) + 1,
-        marks::ALWAYS_WITHIN => steps as u32,
+        marks::WITHIN => (rows::steps_at(marks, values, at) as u32) + 1,
+        marks::ALWAYS_WITHIN => rows::steps_at(marks, values, at) as u32,
         _ => 0,
     }
 }

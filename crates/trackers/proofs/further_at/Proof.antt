@@ -1,7 +1,4 @@
-use mathlib.Core.Path.{_≡_, sym, ap, _∙_}
-use mathlib.Core.Bool.{cond}
 use denote.Ref.{now}
-use lib.ListN.{getD}
 use Rattle.task.specs.Lists.{concatMap}
 use Rattle.task.specs.Task.{preferenceRows}
 use Rattle.trackers.proofs.Noting.{no-preference}
@@ -25,29 +22,29 @@ cast-result c = search needs
 add-result : tie.Need-add-result
 add-result c = search needs
 
+steps-at-requires-2 : tie.Need-steps-at-requires-2
+steps-at-requires-2 c κs = search needs
+
 cast-result-2 : tie.Need-cast-result-2
 cast-result-2 c = search needs
 
 returns-2 : tie.Need-returns-2
 returns-2 c =
-    let t = c .before in
-    let a = t .before .before .before .before .before .args in (
+    let a = c .before .before .before .before .before .before .args in (
       search needs,
-      λ q qs e fine. further-within (now (a .marks)) (now (a .values)) (a .at) (search needs) q (concatMap preferenceRows qs) e fine (t .steps-at .result) (t .steps-at .ensures .0) (c .match .keys1),
+      λ q qs e fine. further-within (now (a .marks)) (now (a .values)) (a .at) (search needs) q (concatMap preferenceRows qs) e fine (c .steps-at .result) (c .steps-at .ensures .0) (c .before .match .keys1),
     )
 
 returns-3 : tie.Need-returns-3
 returns-3 c =
-    let t = c .before in
-    let a = t .before .before .before .before .before .args in (
+    let a = c .before .before .before .before .before .before .args in (
       search needs,
-      λ q qs e fine. further-soon (now (a .marks)) (now (a .values)) (a .at) (search needs) q (concatMap preferenceRows qs) e fine (t .steps-at .result) (t .steps-at .ensures .0) (c .match .keys2),
+      λ q qs e fine. further-soon (now (a .marks)) (now (a .values)) (a .at) (search needs) q (concatMap preferenceRows qs) e fine (c .steps-at2 .result) (c .steps-at2 .ensures .0) (c .before .match .keys2),
     )
 
 returns-4 : tie.Need-returns-4
 returns-4 c =
-    let t = c .before in
-    let a = t .before .before .before .before .before .args in (
+    let a = c .before .before .before .before .before .args in (
       search needs,
       λ q qs e fine. further-none (now (a .marks)) (now (a .values)) (a .at) (search needs) q (concatMap preferenceRows qs) e (c .match .rest .0 .1) (c .match .rest .1),
     )
@@ -61,6 +58,7 @@ further-at-spec =
     steps-at-requires
     cast-result
     add-result
+    steps-at-requires-2
     cast-result-2
     returns-2
     returns-3

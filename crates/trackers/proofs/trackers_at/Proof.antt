@@ -1,9 +1,4 @@
-use mathlib.Core.Path.{ap, _∙_}
-use Prim.Native.Nat.{ℕ, _+_}
 use denote.Ref.{now}
-use lib.ListN.{getD}
-use Rattle.trackers.specs.Writer.{part}
-use Rattle.trackers.specs.Rows.{trackerRows}
 use Rattle.trackers.proofs.Putting.{as-rows, wrote-none}
 use Rattle.trackers.proofs.Noting.{no-preference}
 use Rattle.trackers.proofs.TrackerRows.{not-yet, as-located}
@@ -25,12 +20,6 @@ returns-2 c = λ q qs e fine.
 locate-requires : tie.Need-locate-requires
 locate-requires c κs = search needs
 
-steps-at-requires : tie.Need-steps-at-requires
-steps-at-requires c κs = search needs
-
-cast-trackers-of : tie.Need-cast-trackers-of
-cast-trackers-of c = search needs
-
 trackers-of-requires : tie.Need-trackers-of-requires
 trackers-of-requires c κs = search needs
 
@@ -40,14 +29,10 @@ same-length c = search needs
 returns-3 : tie.Need-returns-3
 returns-3 c = λ q qs e fine.
     let t = c .before .before in
-    let u = t .before .before in
-    let p = u .before in
+    let p = t .before .before in
     let a = p .before .before .before .before .before .before .before .args in
     as-rows
-    (ap (λ (x : ℕ). trackerRows (getD (now (a .marks)) (a .at) 0) (a .last) (a .s) (a .s + 1) (a .d) x
-    (part (now (a .marks)) (now (a .values)) (p .locate .result .first) (p .locate .result .mid))
-    (part (now (a .marks)) (now (a .values)) (p .locate .result .second) (p .locate .result .next))) (u .steps-at .ensures .0)
-    ∙ as-located (now (a .marks)) (now (a .values)) (a .at) (a .last) (a .s) (a .d) q qs e (search needs) fine (p .locate .result) (p .locate .ensures .1 (now (a .values)) q qs e))
+    (as-located (now (a .marks)) (now (a .values)) (a .at) (a .last) (a .s) (a .d) q qs e (search needs) fine (p .locate .result) (p .locate .ensures .1 (now (a .values)) q qs e))
     (t .trackers-of .ensures)
 
 pub trackers-at-spec : {M : Type 1} → statement M
@@ -58,8 +43,6 @@ trackers-at-spec =
     shared-slice-read-mark
     returns-2
     locate-requires
-    steps-at-requires
-    cast-trackers-of
     trackers-of-requires
     same-length
     returns-3)

@@ -1,9 +1,16 @@
+use mathlib.Core.Path.{ap, _∙_}
 use denote.Ref.{now}
+use Rattle.trackers.specs.Writer.{part}
+use Rattle.trackers.specs.Rows.{withinRows, soonRows}
+use Rattle.trackers.specs.declared.deadlines.Deadline.{Deadline}
 use Rattle.trackers.proofs.Putting.{as-rows, wrote-none}
 use Rattle.trackers.proofs.TrackerRows.{by-always, by-once, by-before, by-after, by-within, by-soon, by-reached, by-below, by-above}
 use borrow.Author.Needs.{needs}
 use Rattle.trackers.proofs.trackers_of.Statement.{statement}
 use Rattle.trackers.proofs.trackers_of.Tie as tie
+
+shared-slice-read-mark : tie.Need-shared-slice-read-mark
+shared-slice-read-mark c = search needs
 
 add-b : tie.Need-add-b
 add-b c = search needs
@@ -20,8 +27,14 @@ sometime-before-requires c κs = search needs
 sometime-after-requires : tie.Need-sometime-after-requires
 sometime-after-requires c κs = search needs
 
+deadline-requires : tie.Need-deadline-requires
+deadline-requires c κs = search needs
+
 within-requires : tie.Need-within-requires
 within-requires c κs = search needs
+
+deadline-requires-2 : tie.Need-deadline-requires-2
+deadline-requires-2 c κs = search needs
 
 always-within-requires : tie.Need-always-within-requires
 always-within-requires c κs = search needs
@@ -57,13 +70,28 @@ same-length-5 : tie.Need-same-length-5
 same-length-5 c = search needs
 
 returns-5 : tie.Need-returns-5
-returns-5 c = as-rows (by-within _ _ _ _ _ _ _ _ (c .before .before .before .before .match .keys5)) (c .before .before .within .ensures)
+returns-5 c =
+    let w = c .before .before in
+    let t = w .before .before in
+    let a = t .before .before .before .before .before .before .args in
+    let xs = part (now (a .marks)) (now (a .values)) (a .p .first) (a .p .mid) in
+    as-rows
+    (ap (λ (t : Deadline). withinRows (t .s) (t .d) (t .steps) xs) (t .deadline .ensures .0) ∙ by-within _ _ _ _ _ _ _ _ (t .before .match .keys5))
+    (w .within .ensures)
 
 same-length-6 : tie.Need-same-length-6
 same-length-6 c = search needs
 
 returns-6 : tie.Need-returns-6
-returns-6 c = as-rows (by-soon _ _ _ _ _ _ _ _ (c .before .before .before .before .match .keys6)) (c .before .before .always-within .ensures)
+returns-6 c =
+    let w = c .before .before in
+    let t = w .before .before in
+    let a = t .before .before .before .before .before .before .args in
+    let xs = part (now (a .marks)) (now (a .values)) (a .p .first) (a .p .mid) in
+    let ys = part (now (a .marks)) (now (a .values)) (a .p .second) (a .p .next) in
+    as-rows
+    (ap (λ (t : Deadline). soonRows (t .s) (t .b) (t .d) (t .steps) xs ys) (t .deadline2 .ensures .0) ∙ by-soon _ _ _ _ _ _ _ _ (t .before .match .keys6))
+    (w .always-within .ensures)
 
 same-length-7 : tie.Need-same-length-7
 same-length-7 c = search needs
@@ -73,12 +101,12 @@ returns-7 c = as-rows (by-reached _ _ _ _ _ _ _ _ (search needs) (search needs))
 
 returns-8 : tie.Need-returns-8
 returns-8 c =
-    let a = c .before .before .before .before .before .args in
+    let a = c .before .before .before .before .before .before .args in
     as-rows (by-below _ _ _ _ _ _ _ _ (c .before .match .rest .0 .0 .0 .0 .0 .1) (search needs)) (wrote-none (now (a .out)) (a .n) (a .i))
 
 returns-9 : tie.Need-returns-9
 returns-9 c =
-    let a = c .before .before .before .before .before .before .args in
+    let a = c .before .before .before .before .before .before .before .args in
     let r = c .before .before .match .rest in
     as-rows (by-above _ _ _ _ _ _ _ _ (r .0 .0 .0 .0 .1) (r .0 .0 .0 .1) (r .0 .0 .1) (r .0 .1) (r .1) (search needs)) (wrote-none (now (a .out)) (a .n) (a .i))
 
@@ -87,11 +115,14 @@ trackers-of-spec =
     tie.close
     (tie.spec
     add-b
+    shared-slice-read-mark
     always-requires
     at-most-once-requires
     sometime-before-requires
     sometime-after-requires
+    deadline-requires
     within-requires
+    deadline-requires-2
     always-within-requires
     reached-requires
     same-length

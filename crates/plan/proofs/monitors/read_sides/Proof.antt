@@ -15,24 +15,21 @@ use Rattle.plan.proofs.monitors.read_sides.Statement.{statement}
 use Rattle.plan.proofs.monitors.read_sides.Tie as tie
 
 -- the first condition begins behind the opening row, and behind the steps
-first-read : (d : tie.After-condition) → let a = d .before .before .before .before .before .before .args in
+first-read : (d : tie.After-condition) → let a = d .before .before .before .before .before .args in
     d .condition .result ≡ evaluateAt (member (a .s)) start (now (a .marks)) (now (a .values)) (a .i + headRows (getD (now (a .marks)) (a .i) 0))
 first-read d =
-    let a = d .before .before .before .before .before .before .args in
+    let a = d .before .before .before .before .before .args in
     d .condition .ensures ∙ ap (λ (n : ℕ). evaluateAt (member (a .s)) start (now (a .marks)) (now (a .values)) (a .i + n)) (d .before .head-rows .ensures)
 
 shared-slice-read-mark : tie.Need-shared-slice-read-mark
 shared-slice-read-mark c = search needs
-
-steps-at-requires : tie.Need-steps-at-requires
-steps-at-requires c κs = search needs
 
 head-rows-requires : tie.Need-head-rows-requires
 head-rows-requires c κs = search needs
 
 add-condition : tie.Need-add-condition
 add-condition c =
-    let a = c .before .before .before .before .before .args in
+    let a = c .before .before .before .before .args in
     let m = head-most (getD (now (a .marks)) (a .i) 0) in
     let e = c .head-rows .ensures in
     search needs
@@ -46,17 +43,16 @@ is-two-sided-requires c κs = search needs
 returns : tie.Need-returns
 returns c =
     let d = c .before .before in
-    let t = d .before .before in
-    let a = t .before .before .before .before .args in (
-      (later (now (a .marks)) (now (a .values)) (member (a .s)) (a .i) (d .condition .result) (getD (now (a .marks)) (a .i) 0) (first-read d), t .steps-at .ensures .0, t .steps-at .ensures .1),
+    let a = d .before .before .before .before .before .args in (
+      later (now (a .marks)) (now (a .values)) (member (a .s)) (a .i) (d .condition .result) (getD (now (a .marks)) (a .i) 0) (first-read d),
       λ q qs e ok. one-side (now (a .marks)) (now (a .values)) (member (a .s)) (a .i) (search needs) q qs e ok (d .condition .result) (first-read d)
-          (t .steps-at .result) (sym (c .before .is-two-sided .ensures) ∙ not-true _ (c .if1 .taken)),
+          (sym (c .before .is-two-sided .ensures) ∙ not-true _ (c .if1 .taken)),
     )
 
 add-condition-2 : tie.Need-add-condition-2
 add-condition-2 c =
     let d = c .before .before .before in
-    let a = d .before .before .before .before .before .before .args in
+    let a = d .before .before .before .before .before .args in
     let m = head-most (getD (now (a .marks)) (a .i) 0) in
     let l = few-rows (now (a .marks)) (now (a .values)) (member (a .s)) _ (d .condition .result) (first-read d) in
     search needs
@@ -67,19 +63,14 @@ condition-requires-2 c κs = search needs
 returns-2 : tie.Need-returns-2
 returns-2 c =
     let d = c .before .before .before .before in
-    let t = d .before .before in
-    let a = t .before .before .before .before .args in (
-      (
-        omega (
-          arith,
-          later (now (a .marks)) (now (a .values)) (member (a .s)) (a .i) (d .condition .result) (getD (now (a .marks)) (a .i) 0) (first-read d),
-          later-still (now (a .marks)) (now (a .values)) (member (a .s)) (d .condition .result .next) (c .condition2 .result) (c .condition2 .ensures),
-        ),
-        t .steps-at .ensures .0,
-        t .steps-at .ensures .1,
+    let a = d .before .before .before .before .before .args in (
+      omega (
+        arith,
+        later (now (a .marks)) (now (a .values)) (member (a .s)) (a .i) (d .condition .result) (getD (now (a .marks)) (a .i) 0) (first-read d),
+        later-still (now (a .marks)) (now (a .values)) (member (a .s)) (d .condition .result .next) (c .condition2 .result) (c .condition2 .ensures),
       ),
       λ q qs e ok. two-sides (now (a .marks)) (now (a .values)) (member (a .s)) (a .i) (search needs) q qs e ok (d .condition .result) (first-read d)
-          (t .steps-at .result) (sym (c .before .before .before .is-two-sided .ensures) ∙ not-false _ (c .before .before .if1 .left))
+          (sym (c .before .before .before .is-two-sided .ensures) ∙ not-false _ (c .before .before .if1 .left))
           (c .condition2 .result) (c .condition2 .ensures),
     )
 
@@ -88,7 +79,6 @@ read-sides-spec =
     tie.close
     (tie.spec
     shared-slice-read-mark
-    steps-at-requires
     head-rows-requires
     add-condition
     condition-requires

@@ -1,46 +1,86 @@
-use Rattle.plan.proofs.ByMark.{last-kind}
+-- One state more, kind by kind.
+use mathlib.Core.Path.{subst}
+use Prim.Native.Nat.{ℕ, _<_}
+use native.Mathlib.Omega.{arith}
+use lib.Dec.{T, leb, leb→le}
 use borrow.Author.Needs.{needs}
+use Rattle.task.specs.Check.{mostSteps}
+use Rattle.task.specs.Spelling.{kindSpellable}
+use Rattle.task.specs.Answers.{asKind}
+use Rattle.task.specs.declared.kinds.Kind.{Kind}
 use Rattle.plan.proofs.monitors.stepped.Statement.{statement}
 use Rattle.plan.proofs.monitors.stepped.Tie as tie
 
+few : (t : ℕ) → T (leb t mostSteps) → t < 16
+few t h = omega (arith, leb→le t mostSteps h)
+
+enum-told : tie.Need-enum-told
+enum-told c = search needs
+
+enum-told-2 : tie.Need-enum-told-2
+enum-told-2 c = search needs
+
+enum-told-3 : tie.Need-enum-told-3
+enum-told-3 c = search needs
+
+enum-told-4 : tie.Need-enum-told-4
+enum-told-4 c = search needs
+
+enum-told-5 : tie.Need-enum-told-5
+enum-told-5 c = search needs
+
+enum-told-6 : tie.Need-enum-told-6
+enum-told-6 c = search needs
+
+enum-known-kind : tie.Need-enum-known-kind
+enum-known-kind c = search needs
+
 older-requires : tie.Need-older-requires
-older-requires c κs = search needs
+older-requires c κs = few _ (subst (λ (k : Kind). T (kindSpellable (asKind k))) (c .before .kind .given .1) (search needs))
+
+enum-known-kind-2 : tie.Need-enum-known-kind-2
+enum-known-kind-2 c = search needs
 
 waiting-requires : tie.Need-waiting-requires
-waiting-requires c κs = search needs
+waiting-requires c κs = few _ (subst (λ (k : Kind). T (kindSpellable (asKind k))) (c .before .kind2 .given .1) (search needs))
 
 returns : tie.Need-returns
-returns c = rw (c .match .keys1)
+returns c = rw (c .enum-told .given .1)
 
 returns-2 : tie.Need-returns-2
-returns-2 c = rw (c .match .keys2)
+returns-2 c = rw (c .enum-told2 .given .1)
 
 returns-3 : tie.Need-returns-3
-returns-3 c = rw (c .match .keys3)
+returns-3 c = rw (c .enum-told3 .given .1)
 
 returns-4 : tie.Need-returns-4
-returns-4 c = rw (c .match .keys4)
+returns-4 c = rw (c .enum-told4 .given .1)
 
 returns-5 : tie.Need-returns-5
-returns-5 c = rw (c .match .keys5)
+returns-5 c = rw (c .enum-told5 .given .1)
 
 returns-6 : tie.Need-returns-6
-returns-6 c = rw (c .match .keys6)
+returns-6 c = rw (c .enum-told6 .given .1)
 
 returns-7 : tie.Need-returns-7
-returns-7 c = rw (c .before .match .keys7, c .older .ensures)
+returns-7 c = rw (c .before .before .kind .given .1, c .older .ensures)
 
 returns-8 : tie.Need-returns-8
-returns-8 c = let b = c .before in
-    let r = b .match .rest in
-    rw (last-kind (b .before .args .mark) (b .before .args .steps) (r .0 .0 .0 .0 .0 .0 .1) (r .0 .0 .0 .0 .0 .1) (r .0 .0 .0 .0 .1) (r .0 .0 .0 .1) (r .0 .0 .1) (r .0 .1) (r .1))
-    (c .waiting .ensures (b .before .args .last))
+returns-8 c = rw (c .before .before .kind2 .given .1) (c .waiting .ensures (c .before .before .before .before .args .last))
 
 pub stepped-spec : {M : Type 1} → statement M
 stepped-spec =
     tie.close
     (tie.spec
+    enum-told
+    enum-told-2
+    enum-told-3
+    enum-told-4
+    enum-told-5
+    enum-told-6
+    enum-known-kind
     older-requires
+    enum-known-kind-2
     waiting-requires
     returns
     returns-2

@@ -2,6 +2,7 @@ use borrow.Author.Needs.{needs}
 use Prim.Native.Nat.{_-_}
 use denote.Ref.{now}
 use lib.ListN.{length}
+use Rattle.task.specs.Answers.{asKind}
 use Rattle.state.specs.Member.{member}
 use Rattle.plan.proofs.Watching.{Watching, begins, goes-on, ends}
 use Rattle.plan.proofs.monitors.watch.Statement.{statement}
@@ -21,8 +22,8 @@ loop-holds c =
 read-sides-requires : tie.Need-read-sides-requires Inv-loop μ-loop
 read-sides-requires c κs = search needs
 
-shared-slice-read-step-one : tie.Need-shared-slice-read-step-one Inv-loop μ-loop
-shared-slice-read-step-one c = search needs
+kind-at-requires : tie.Need-kind-at-requires Inv-loop μ-loop
+kind-at-requires c κs = search needs
 
 step-one-requires : tie.Need-step-one-requires Inv-loop μ-loop
 step-one-requires c κs = search needs
@@ -35,11 +36,12 @@ loop-less c = search needs
 
 loop-again : tie.Need-loop-again Inv-loop μ-loop
 loop-again c =
-    let q = c .before .before in
+    let n = c .before in
+    let q = n .before in
     let l = q .before .before in
     let a = l .before .before .before .args in
     goes-on (now (a .marks)) (now (a .values)) (a .at) (a .last) (member (a .s)) _ (l .loop .m) (c .step-one .result) (l .loop .k) (l .loop .i) (search needs)
-    (q .read-sides .result) (q .read-sides .ensures .1) (q .read-sides .ensures .0 .1) (c .step-one .ensures) (q .read-sides .ensures .0 .0) (l .loop .inv)
+    (q .read-sides .result) (q .read-sides .ensures .1) (asKind (n .kind-at .result)) (n .kind-at .ensures .0) (c .step-one .ensures) (q .read-sides .ensures .0) (l .loop .inv)
 
 returns : tie.Need-returns Inv-loop μ-loop
 returns c =
@@ -55,7 +57,7 @@ watch-spec =
     μ-loop
     loop-holds
     read-sides-requires
-    shared-slice-read-step-one
+    kind-at-requires
     step-one-requires
     add-k
     loop-less

@@ -1,4 +1,4 @@
-use mathlib.Core.Path.{ap, _∙_}
+use mathlib.Core.Path.{ap}
 use mathlib.Core.Bool.{false}
 use mathlib.Core.List.{[], _∷_}
 use Prim.Native.Nat.{ℕ, _+_}
@@ -8,7 +8,6 @@ use Rattle.task.specs.Task.{row}
 use Rattle.trackers.specs.Writer.{part}
 use Rattle.trackers.specs.Rows.{singleRows, falseRows}
 use Rattle.trackers.proofs.Putting.{as-rows}
-use Rattle.trackers.proofs.TrackerRows.{no-rows}
 use borrow.Author.Needs.{needs}
 use Rattle.trackers.proofs.deadlines.put_wait.Statement.{statement}
 use Rattle.trackers.proofs.deadlines.put_wait.Tie as tie
@@ -34,10 +33,7 @@ returns c =
     let f = e .before .before .before in
     let a = f .before .before .before .before .args in
     let ys = part (now (a .marks)) (now (a .values)) (a .from) (a .to) in
-    as-rows
-    (no-rows (now (a .marks)) (now (a .values)) (singleRows HOLDS (a .t .d + a .j)) (row ADD (f .fact-d .result) ∷ []) ys
-    ∙ ap (λ (x : ℕ). falseRows (singleRows HOLDS (a .t .d + a .j)) (row ADD x ∷ []) false ys) (f .fact-d .ensures))
-    (e .each-false .ensures)
+    as-rows (ap (λ (x : ℕ). falseRows (singleRows HOLDS (a .t .d + a .j)) (row ADD x ∷ []) false ys) (f .fact-d .ensures)) (e .each-false .ensures)
 
 pub put-wait-spec : {M : Type 1} → statement M
 put-wait-spec =

@@ -10,7 +10,7 @@ use Rattle.trackers.proofs.effects.each_false.Statement.{statement}
 use Rattle.trackers.proofs.effects.each_false.Tie as tie
 
 abbrev Inv-loop : tie.InvT-loop
-Inv-loop out₀ n i marks values from to g begun₀ k₀ j₀ out begun k j = Falsified out₀ n i marks values from to (guardRows marks values g) (addRows g) out begun k j
+Inv-loop out₀ n i marks values from to g begun₀ k₀ j₀ out begun k j = Falsified out₀ n i marks values from to (guardRows marks values (g .guard)) (addRows (g .added)) out begun k j
 
 abbrev μ-loop : tie.MeasureT-loop
 μ-loop out₀ n i marks values from to g begun₀ k₀ j₀ out begun k j = to - j
@@ -26,7 +26,7 @@ returns c =
     let l = c .before .before in
     let a = l .before .before .before .before .args in
     l .loop .inv .onward (l .loop .k) (l .loop .out)
-    (wrote-full (l .loop .out) (a .n) (l .loop .k) (falseRows (guardRows (now (a .marks)) (now (a .values)) (a .g)) (addRows (a .g)) (l .loop .begun) (part (now (a .marks)) (now (a .values)) (l .loop .j) (a .to))) (search needs) (search needs))
+    (wrote-full (l .loop .out) (a .n) (l .loop .k) (falseRows (guardRows (now (a .marks)) (now (a .values)) (a .g .guard)) (addRows (a .g .added)) (l .loop .begun) (part (now (a .marks)) (now (a .values)) (l .loop .j) (a .to))) (search needs) (search needs))
 
 shared-slice-read-mark : tie.Need-shared-slice-read-mark Inv-loop μ-loop
 shared-slice-read-mark c = search needs
@@ -52,7 +52,7 @@ loop-again c =
     record {
       size = p .false-row .kept .0 ∙ l .loop .inv .size;
       onward = λ r o w. l .loop .inv .onward r o
-          (as-rows (next-false (now (a .marks)) (now (a .values)) (l .loop .j) (a .to) (guardRows (now (a .marks)) (now (a .values)) (a .g)) (addRows (a .g)) (l .loop .begun) (search needs) (search needs)
+          (as-rows (next-false (now (a .marks)) (now (a .values)) (l .loop .j) (a .to) (guardRows (now (a .marks)) (now (a .values)) (a .g .guard)) (addRows (a .g .added)) (l .loop .begun) (search needs) (search needs)
           (v .value-at .result) (v .value-at .ensures))
           (then (search needs) (p .false-row .ensures) w));
     }
@@ -69,7 +69,7 @@ returns-2 c =
     let l = p .before .before .before in
     let a = l .before .before .before .before .args in
     l .loop .inv .onward (p .close-effect .result) _
-    (as-rows (last-false (now (a .marks)) (now (a .values)) (l .loop .j) (a .to) (guardRows (now (a .marks)) (now (a .values)) (a .g)) (addRows (a .g)) (l .loop .begun) (search needs)) (p .close-effect .ensures))
+    (as-rows (last-false (now (a .marks)) (now (a .values)) (l .loop .j) (a .to) (guardRows (now (a .marks)) (now (a .values)) (a .g .guard)) (addRows (a .g .added)) (l .loop .begun) (search needs)) (p .close-effect .ensures))
 
 pub each-false-spec : {M : Type 1} → statement M
 each-false-spec =

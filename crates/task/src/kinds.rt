@@ -1,0 +1,42 @@
+// The kind of a preference.
+ghost use mathlib.Core.Path.{_≡_};
+ghost use Prim.Native.Nat.{_*_, _≤_, _<_};
+ghost use lib.Dec.{T};
+ghost use lib.ListN.{length, getD};
+ghost use Rattle.task.specs.File.{kindOf};
+ghost use Rattle.task.specs.Spelling.{kindSpellable};
+ghost use Rattle.task.specs.Rows.{stepsAt};
+ghost use Rattle.task.specs.Answers.{asKind};
+use super::marks;
+use super::rows;
+
+// The last two have so many steps' time; no other kind has steps to read.
+pub enum Kind {
+    Always,
+    Sometime,
+    AtEnd,
+    AtMostOnce,
+    SometimeBefore,
+    SometimeAfter,
+    Within(u8),
+    AlwaysWithin(u8),
+}
+
+// The kind of the preference that row i opens.
+pub fn kind_at(marks: &[u8], values: &[u8], i: usize) -> Kind
+    requires { ⌜ (4 * length (now marks) ≤ length (now values)) × (length (now marks) ≤ 12000) × (i < length (now marks)) ⌝ }
+    ensures { λ r. ⌜ asKind r ≡ kindOf (getD (now (marks .entry)) i 0) (stepsAt (now (marks .entry)) (now (values .entry)) i) ⌝ }
+    ensures { λ r. ⌜ T (kindSpellable (asKind r)) ⌝ }
+{
+    let mark = marks[i];
+    match mark {
+        marks::ALWAYS => Kind::Always,
+        marks::SOMETIME => Kind::Sometime,
+        marks::AT_END => Kind::AtEnd,
+        marks::AT_MOST_ONCE => Kind::AtMostOnce,
+        marks::SOMETIME_BEFORE => Kind::SometimeBefore,
+        marks::SOMETIME_AFTER => Kind::SometimeAfter,
+        marks::WITHIN => Kind::Within(rows::steps_at(marks, values, i)),
+        _ => Kind::AlwaysWithin(rows::steps_at(marks, values, i)),
+    }
+}
