@@ -49,7 +49,7 @@ pub record Seen-by (ms vs : List ℕ) (last : Bool) (σ : Facts) (before : List 
   pub rest : drop i (paired ms vs) ≡ concatMap preferenceRows (drop k qs)
   pub done : (j : ℕ) → j < k
       → monitorAt now j ≡ step (getD qs j noPreference .kind) last (monitorAt before j) (seen (getD qs j noPreference) σ)
-  pub still : (j : ℕ) → k ≤ j → monitorAt now j ≡ monitorAt before j
+  pub still : (j : ℕ) → k ≤ j → j < 16 → monitorAt now j ≡ monitorAt before j
 
 -- what holds before row i is read
 pub record Watching (ms vs : List ℕ) (at : ℕ) (last : Bool) (σ : Facts) (before now : List Monitors.Monitor) (k i : ℕ) : Type 0 where
@@ -62,7 +62,7 @@ module _ (ms vs : List ℕ) (at : ℕ) (last : Bool) (σ : Facts) (before : List
   begins = record {
     few = omega arith;
     so-far = λ qs e ok many.
-        record { within = omega arith; rest = e; done = λ j h. absurd (omega arith); still = λ j lo. refl };
+        record { within = omega arith; rest = e; done = λ j h. absurd (omega arith); still = λ j lo few. refl };
   }
 
   some-left : (k i : ℕ) (qs : List Preference) → i < length ms → drop i (paired ms vs) ≡ concatMap preferenceRows (drop k qs) → k < length qs
@@ -85,7 +85,7 @@ module _ (ms vs : List ℕ) (at : ℕ) (last : Bool) (σ : Facts) (before : List
 
   module _ (now then : List Monitors.Monitor) (k i : ℕ) (h : i < length ms) (r : Sides) (sees : Sees ms vs i σ r)
       (kind : Kind) (read : kind ≡ kindOf (getD ms i 0) (stepsAt ms vs i))
-      (put : k < 16 → (j : ℕ) → monitorAt then j
+      (put : (j : ℕ) → j < 16 → monitorAt then j
       ≡ cond (eqb j k) (step kind last (monitorAt now k) (record { φ = r .phi; ψ = r .psi })) (monitorAt now j)) where
     -- what is put at place k
     abbrev x : Monitor
@@ -103,14 +103,14 @@ module _ (ms vs : List ℕ) (at : ℕ) (last : Bool) (σ : Facts) (before : List
         let sides : Sides-of q i σ r = sees q more e fine in
         let same : kind ≡ q .kind = read ∙ kind-at ms vs i q (concatMap preferenceRows more) e h (search tests) in
         let mine : x ≡ step (q .kind) last (monitorAt before k) (seen q σ) =
-        λ z. step (same z) last (s .still k (omega arith) z) (record { φ = sides .phi z; ψ = sides .psi z }) in
+        λ z. step (same z) last (s .still k (omega arith) (omega arith) z) (record { φ = sides .phi z; ψ = sides .psi z }) in
         record {
           within = omega arith;
           rest = ap (λ (n : ℕ). drop n (paired ms vs)) (sides .next)
               ∙ drop-behind i (paired ms vs) (preferenceRows q) (concatMap preferenceRows more) e
               ∙ ap (λ (n : ℕ). concatMap preferenceRows (drop n qs)) (sym (add-one k));
           done = λ j l. by-number qs s mine left many j l (eqb j k) refl;
-          still = λ j lo. put (omega arith) j ∙ ap (λ (b : Bool). cond b x (monitorAt now j)) (ne-eqb j k (λ p. omega arith)) ∙ s .still j (omega arith);
+          still = λ j lo few. put j few ∙ ap (λ (b : Bool). cond b x (monitorAt now j)) (ne-eqb j k (λ p. omega arith)) ∙ s .still j (omega arith) few;
         }
       where
         by-number : (qs : List Preference) → Seen-by ms vs last σ before qs now k i
@@ -119,12 +119,12 @@ module _ (ms vs : List ℕ) (at : ℕ) (last : Bool) (σ : Facts) (before : List
             → monitorAt then j ≡ step (getD qs j noPreference .kind) last (monitorAt before j) (seen (getD qs j noPreference) σ)
         by-number qs s mine left many j l true p =
             let same : j ≡ k = eqb-true j k p in
-            put (omega arith) j ∙ ap (λ (b : Bool). cond b x (monitorAt now j)) p
+            put j (omega arith) ∙ ap (λ (b : Bool). cond b x (monitorAt now j)) p
             ∙ mine
             ∙ ap (λ (n : ℕ). step (getD qs n noPreference .kind) last (monitorAt before n) (seen (getD qs n noPreference) σ)) (sym same)
         by-number qs s mine left many j l false p =
             let other : j ≡ k → ⊥ = eqb-false j k p in
-            put (omega arith) j ∙ ap (λ (b : Bool). cond b x (monitorAt now j)) p ∙ s .done j (omega arith)
+            put j (omega arith) ∙ ap (λ (b : Bool). cond b x (monitorAt now j)) p ∙ s .done j (omega arith)
 
     pub goes-on : i < r .next → Watching ms vs at last σ before now k i → Watching ms vs at last σ before then (k + 1) (r .next)
     goes-on later w = record {

@@ -159,10 +159,10 @@ pub fn monitor_at(ms: [Monitor; 16], k: u32) -> Monitor
     ms[i]
 }
 
-// Monitor k after one more state, the others as they were; there is none from 16 on.
+// The 16 monitors where monitor k has seen one more state; k from 16 on is none of them.
 fn step_one(ms: [Monitor; 16], k: usize, kind: Kind, last: bool, q: Sides) -> [Monitor; 16]
     requires { ⌜ T (kindSpellable (asKind kind)) ⌝ }
-    ensures { λ r. ⌜ (k < 16 → (j : ℕ) → monitorAt r j ≡ cond (eqb j k) (step (asKind kind) last (monitorAt ms k) (record { φ = q .phi; ψ = q .psi })) (monitorAt ms j)) ⌝ }
+    ensures { λ r. ⌜ ((j : ℕ) → j < 16 → monitorAt r j ≡ cond (eqb j k) (step (asKind kind) last (monitorAt ms k) (record { φ = q .phi; ψ = q .psi })) (monitorAt ms j)) ⌝ }
 {
     if 16 <= k {
         return ms;

@@ -1,13 +1,12 @@
-use mathlib.Core.Path.{_∙_}
 use Rattle.plan.proofs.Watching.{monitor-put}
 use native.Mathlib.Omega.{arith}
 use borrow.Author.Needs.{needs}
-use borrow.Author.Needs.{needs}
+use borrow.Author.Tests.{ne-eqb}
 use Rattle.plan.proofs.monitors.step_one.Statement.{statement}
 use Rattle.plan.proofs.monitors.step_one.Tie as tie
 
 returns : tie.Need-returns
-returns c = λ few. absurd (omega (arith, few))
+returns c = λ j few. rw (ne-eqb j (c .before .args .k) (λ e. omega (arith, few)))
 
 mul-stepped : tie.Need-mul-stepped
 mul-stepped c = search needs
@@ -25,9 +24,9 @@ array-set-from-next : tie.Need-array-set-from-next
 array-set-from-next c = search needs
 
 returns-2 : tie.Need-returns-2
-returns-2 c = λ few.
+returns-2 c = λ j few.
     let a = c .before .before .before .args in
-    monitor-put (a .t1) (a .k) (search needs) (c .stepped .result) _ (c .stepped .ensures)
+    monitor-put (a .t1) (a .k) (search needs) (c .stepped .result) _ (c .stepped .ensures) j
 
 pub step-one-spec : {M : Type 1} → statement M
 step-one-spec =
