@@ -12,7 +12,7 @@ use super::monitors::Monitor;
 use state::State;
 
 // So many preferences, and those of them that are met.
-pub struct Found {
+struct Found {
     pub number: u32,
     pub met: State,
 }

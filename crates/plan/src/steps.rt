@@ -18,12 +18,12 @@ use state::opening;
 use task::rows;
 
 // Where a plan has come to: the state, and the cost.
-pub struct Position {
+struct Position {
     pub state: State,
     pub cost: u64,
 }
 
-pub enum Moved {
+enum Moved {
     To(Position),
     Stopped,
 }

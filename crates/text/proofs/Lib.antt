@@ -1,4 +1,5 @@
 pub mod Decimal
 pub mod Digits
+pub mod Signed
 pub mod Writing
 pub mod Examples

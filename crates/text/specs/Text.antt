@@ -4,6 +4,7 @@ use mathlib.Core.List.{List, [], _∷_, _++_}
 use Prim.Native.Nat.{ℕ, zero, suc, _+_, _*_, _-_, _/_, _%_}
 use Prim.Native.Char.{code}
 use lib.Dec.{leb, ltb}
+use lib.IntN.{ℤ, pos, negsuc}
 use Rattle.text.specs.Ascii.{ascii}
 
 abbrev pub digit : ℕ → List ℕ
@@ -23,6 +24,11 @@ lastDigits (suc k) n = digitsBy (ltb n 10) (lastDigits k) n
 -- all digits: n has no more than n + 1
 unfoldable pub decimal : ℕ → List ℕ
 decimal n = lastDigits (suc n) n
+
+-- below 0 it has a minus sign
+abbrev pub integer : ℤ → List ℕ
+integer (pos n) = decimal n
+integer (negsuc n) = ascii "-" ++ decimal (suc n)
 
 -- Digits read back
 

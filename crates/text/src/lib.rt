@@ -4,7 +4,8 @@ ghost use mathlib.Core.Path.{_≡_};
 ghost use mathlib.Core.List.{[], _∷_, _++_};
 ghost use Prim.Native.Nat.{_+_, _^_, _≤_, _<_};
 ghost use lib.ListN.{length, take};
-ghost use Rattle.text.specs.Text.{decimal, refusedLine};
+ghost use lib.IntN.{natAbs};
+ghost use Rattle.text.specs.Text.{decimal, integer, refusedLine};
 ghost use Rattle.text.specs.Area.{Wrote};
 
 // The first n bytes of an area, or all where it has no more. Unlike `&area[..n]` it asks the caller for no proof.
@@ -50,6 +51,27 @@ pub fn put_decimal(out: &mut [u8], at: usize, n: u64) -> usize
     } else {
         let k = put_decimal(&mut *out, at, n / 10);
         put_byte(out, k, b'0' + (n % 10) as u8)
+    }
+}
+
+// How far a number is from 0. Below 0 that is one more than the number with its bits flipped.
+fn magnitude(n: i64) -> u64
+    ensures { λ r. ⌜ r ≡ natAbs n ⌝ }
+{
+    if n < 0 { (!n) as u64 + 1 } else { n as u64 }
+}
+
+// Writes a number, with a minus sign where it is below 0.
+pub fn put_integer(out: &mut [u8], at: usize, n: i64) -> usize
+    requires { ⌜ at + 21 < 2 ^ 64 ⌝ }
+    ensures { λ r. ⌜ Wrote (now (out .entry)) at (integer n) r (now (out .exit)) ⌝ }
+    ensures { λ r. ⌜ r ≤ at + 21 ⌝ }
+{
+    if n < 0 {
+        let a = put_byte(&mut *out, at, b'-');
+        put_decimal(out, a, magnitude(n))
+    } else {
+        put_decimal(out, at, magnitude(n))
     }
 }
 

@@ -8,7 +8,7 @@ use task::marks;
 
 // Where the sides of a preference stand: φ from row `first` up to row `mid`, ψ from row `second` up to row `next`, the one
 // behind them.
-pub struct Sides {
+pub(crate) struct Sides {
     pub first: usize,
     pub mid: usize,
     pub second: usize,
@@ -36,7 +36,7 @@ pub fn behind(marks: &[u8], from: usize, least: u8, most: u8) -> usize
 }
 
 // The sides of the preference that row `at` opens.
-pub fn locate(marks: &[u8], at: usize) -> Sides
+pub(crate) fn locate(marks: &[u8], at: usize) -> Sides
     requires { ⌜ at < length (now marks) ⌝ }
     ensures { λ r. ⌜ (at < r .first) × (r .first ≤ r .mid) × (r .mid ≤ r .second) × (r .second ≤ r .next) × (r .next ≤ length (now (marks .entry))) ⌝ }
     ensures { λ r. ⌜ Locates (now (marks .entry)) at r ⌝ }

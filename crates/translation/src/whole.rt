@@ -66,7 +66,7 @@ fn put_all_actions(
 }
 
 // Writes the rows of the translation of the task that the rows spell into a file of n rows, and answers how many there are.
-pub fn put_task(
+fn put_task(
     out: &mut [u8],
     n: usize,
     marks: &[u8],

@@ -4,9 +4,7 @@
 use super::lines;
 use super::records;
 use super::records::Next;
-use libc::STDOUT_FILENO;
 use plan::Settled;
-use plan::Worth;
 use task::rows;
 
 // A number of 64 bits, from its halves.
@@ -15,21 +13,9 @@ fn joined(low: u32, high: u32) -> u64 {
 }
 
 fn settle(file: &[u8], b: &[u8; 16]) -> Settled {
-    let cost = joined(
-        rows::word(b[0], b[1], b[2], b[3]),
-        rows::word(b[4], b[5], b[6], b[7]),
-    );
-    let met = joined(
-        rows::word(b[8], b[9], b[10], b[11]),
-        rows::word(b[12], b[13], b[14], b[15]),
-    );
+    let cost = joined(rows::value_at(b, 0), rows::value_at(b, 1));
+    let met = joined(rows::value_at(b, 2), rows::value_at(b, 3));
     plan::settle(file, cost, met)
-}
-
-fn write_worth(w: Worth) {
-    let mut line = [0u8; 64];
-    let k = report::lines::put_amounts(&mut line, 0, w.metric, w.utility);
-    io::write_all(STDOUT_FILENO, text::front(&line, k));
 }
 
 // Settles the next cost and met preferences, and answers whether there were any.
@@ -49,7 +35,7 @@ pub fn settle_next(fd: i32) -> bool {
     }
     let settled = settle(text::front(&task, n), &amounts);
     match settled {
-        Settled::Given(w) => write_worth(w),
+        Settled::Given(w) => lines::write_worth(w),
         Settled::Refused(f) => lines::write_refused(f),
     }
     true

@@ -31,6 +31,6 @@ pub fn next_record(fd: i32, buf: &mut [u8]) -> Next
     if io::read_full(fd, &mut length) < 4 {
         return Next::Nothing;
     }
-    let n = task::rows::word(length[0], length[1], length[2], length[3]);
+    let n = task::rows::value_at(&length, 0);
     read_body(fd, buf, n as usize)
 }
