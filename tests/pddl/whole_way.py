@@ -8,7 +8,8 @@ Each task goes by its translation, and one without preferences also as it stands
 - the task read back from the texts is the one in the rows of the file;
 - the cost that the planner finds is the one that tests/translate/planner.py finds on the file, or neither has a solution;
 - the plan is printed as planners do, a line for each step and a comment with the cost. Program text_vectors reads it and its source
-  part, which are the lines with numbers below the source's A: what they are worth on the file and on the source is that cost;
+  part, which are the lines with numbers below the source's A: their metric on the file and on the source is that cost, and their
+  utility what is left of all weights;
 - program judge says the same of both plans in bytes.
 Besides, every file that check's vectors accept without preferences and the heaviest files are read back from their texts.
 """
@@ -131,13 +132,14 @@ def judged(programs, data, text, metric):
     steps = [int(number) for number in STEP.findall(text)]
     costs = [value for name, value in rows(data) if name == 'ACTION']
     cost = sum(costs[step] for step in steps)
+    worth = f'metric {metric} utility {sum(value for name, value in rows(data) if name in PREFERENCES) - metric}'
     lines, errors, _ = run(programs.text_vectors, dict(vectors=record(data) + record(text.encode())))
     expect('the text is worth', lines + errors, f'read {len(steps)}\n' + ''.join(f'(a{step})\n' for step in steps)
-           + f'solved cost {cost} metric {metric}\n')
+           + f'solved cost {cost} {worth}\n')
     in_bytes = bytes(int(number) for number in STEP.findall(lines))
     written, errors, _ = run(programs.judge, dict(task=data, plan=in_bytes))
     lines = (written + errors).splitlines()
-    expect('judge writes', (lines[0], lines[-1].split()[:2]), (f'solved steps {len(steps)} cost {cost}', ['metric', str(metric)]))
+    expect('judge writes', (lines[0], lines[-1]), (f'solved steps {len(steps)} cost {cost}', worth))
     return lines[1:-1]
 
 

@@ -50,8 +50,8 @@ def written(plan):
 
 
 def worth(text):
-    """Cost and metric alone, of a verdict as program judge writes it."""
-    return re.sub(r'solved steps \d+ (cost \d+)\n(.+\n)*(metric \d+) utility .+', r'solved \1 \3', text)
+    """Cost, metric and utility alone, of a verdict as program judge writes it."""
+    return re.sub(r'solved steps \d+ (cost \d+)\n(.+\n)*(metric .+)', r'solved \1 \3', text)
 
 
 def first_lines(plan, fault):
@@ -86,8 +86,8 @@ def empty_and_comments():
             ('a comment of every byte but a newline', b';' + bytes({*range(256)} - {10}) + b'\n'), ('a comment with NUL', b';\0\n;\0\0a\n'),
             ('a comment with carriage returns', b';\r\n; \r a\r\n'), ('300 comments', b';\n' * 300)]:
         yield what, belt, text, 'read 0|goal missed'
-        yield f'{what}, before a step', belt, text + b'(a0)\n', 'read 1|(a0)|solved cost 3 metric 8'
-        yield f'{what}, behind a step', belt, b'(a0)\n' + text, 'read 1|(a0)|solved cost 3 metric 8'
+        yield f'{what}, before a step', belt, text + b'(a0)\n', 'read 1|(a0)|solved cost 3 metric 8 utility 4'
+        yield f'{what}, behind a step', belt, b'(a0)\n' + text, 'read 1|(a0)|solved cost 3 metric 8 utility 4'
         yield f'{what}, between steps', belt, b'(a0)\n' + text + b'(a1)\n', 'read 2|(a0)|(a1)|goal missed'
 
 
@@ -102,7 +102,7 @@ def last_newline():
 
 def numbers():
     for number in [0, 1, 9, 10, 19, 99, 100, 101, 126, 127]:
-        answer = f'read 1|(a{number})|solved cost {number + 1} metric {number + 1}'
+        answer = f'read 1|(a{number})|solved cost {number + 1} metric {number + 1} utility -{number + 1}'
         yield f'step {number} of 128 actions', many, b'(a%d)\n' % number, answer
     for number in [128, 129, 199, 200, 249, 250, 253, 254]:
         yield f'step {number}, a byte', many, b'(a%d)\n' % number, f'read 1|(a{number})|refused 11 0'
@@ -188,7 +188,7 @@ def filled(before, behind, size):
 def long_texts():
     """65,536 bytes are read, and a text of one more is refused with place 0."""
     for what, text, answer in [
-            ('65,536 bytes, the last line a step', filled(b'', b'(a0)\n', 65536), 'read 1|(a0)|solved cost 3 metric 8'),
+            ('65,536 bytes, the last line a step', filled(b'', b'(a0)\n', 65536), 'read 1|(a0)|solved cost 3 metric 8 utility 4'),
             ('65,536 bytes, the last line faulty', filled(b'(a0)\n', b';\n(a1)\r\n', 65536), 'refused 12 3'),
             ('65,536 newlines', b'\n' * 65536, 'refused 12 0'),
             ('32,767 comments, then a faulty line', b';\n' * 32767 + b'x\n', 'refused 12 32767'),
@@ -203,8 +203,9 @@ def long_texts():
 def long_plans():
     pairs = b'(a0)\n(a1)\n' * 1024
     for what, text, answer in [
-            ('2,047 steps', pairs[:-5], 'read 2047|solved cost 4095 metric 4100'), ('2,048 steps', pairs, 'read 2048|goal missed'),
-            ('2,048 steps that solve', b'(a1)\n' + pairs[:-5], 'read 2048|solved cost 4096 metric 4101'),
+            ('2,047 steps', pairs[:-5], 'read 2047|solved cost 4095 metric 4100 utility -4088'),
+            ('2,048 steps', pairs, 'read 2048|goal missed'),
+            ('2,048 steps that solve', b'(a1)\n' + pairs[:-5], 'read 2048|solved cost 4096 metric 4101 utility -4089'),
             ('2,048 steps among comments', b'; plan\n' + pairs.replace(b'\n(a1', b'\n;\n(a1') + b'; end\n', 'read 2048|goal missed'),
             ('2,048 steps, the last unknown', pairs[:-5] + b'(a2)\n', 'read 2048|refused 11 2047'),
             ('2,049 steps', pairs + b'(a0)\n', 'refused 10 0'),
@@ -237,12 +238,13 @@ def refused_tasks():
 def verdicts():
     """Places in a verdict and of refusal 11 count steps and not lines."""
     for what, data, text, answer in [
-            ('solved', ladder, b'(a0)\n(a1)\n', 'read 2|(a0)|(a1)|solved cost 3 metric 19'),
-            ('solved among comments', ladder, b'; plan\n(a0)\n; then\n(a1)\n; cost 3\n', 'read 2|(a0)|(a1)|solved cost 3 metric 19'),
-            ('solved with more steps', ladder, b'(a2)\n(a0)\n(a2)\n(a1)\n', 'read 4|solved cost 11 metric 27'),
-            ('the belt', belt, b'(a0)\n', 'read 1|(a0)|solved cost 3 metric 8'),
-            ('the belt, three steps', belt, b'(a0)\n(a1)\n(a0)\n', 'read 3|solved cost 7 metric 12'),
-            ('no step, solved', one, b'', 'read 0|solved cost 0 metric 0'),
+            ('solved', ladder, b'(a0)\n(a1)\n', 'read 2|(a0)|(a1)|solved cost 3 metric 19 utility 5'),
+            ('solved among comments', ladder, b'; plan\n(a0)\n; then\n(a1)\n; cost 3\n',
+             'read 2|(a0)|(a1)|solved cost 3 metric 19 utility 5'),
+            ('solved with more steps', ladder, b'(a2)\n(a0)\n(a2)\n(a1)\n', 'read 4|solved cost 11 metric 27 utility -3'),
+            ('the belt', belt, b'(a0)\n', 'read 1|(a0)|solved cost 3 metric 8 utility 4'),
+            ('the belt, three steps', belt, b'(a0)\n(a1)\n(a0)\n', 'read 3|solved cost 7 metric 12 utility 0'),
+            ('no step, solved', one, b'', 'read 0|solved cost 0 metric 0 utility 0'),
             ('no step, goal missed', ladder, b'; none\n', 'read 0|goal missed'),
             ('goal missed', ladder, b'(a0)\n', 'read 1|goal missed'), ('goal undone', ladder, b'(a0)\n(a1)\n(a2)\n', 'read 3|goal missed'),
             ('stopped at the first step', ladder, b'(a1)\n(a0)\n', 'read 2|stopped 0'),
@@ -256,11 +258,11 @@ def verdicts():
             ('44 is known, 300 is not', many, b'(a44)\n(a300)\n', 'read 2|(a44)|(a255)|refused 11 1'),
             ('0 is known, 256 is not', one, b'(a0)\n(a256)\n', 'read 2|(a0)|(a255)|refused 11 1'),
             ('A 0, a step', file('GOAL'), b'(a0)\n', 'read 1|(a0)|refused 11 0'),
-            ('A 0, no step', file('GOAL'), b';\n', 'read 0|solved cost 0 metric 0'),
-            ('deadlines met, comments are no steps', timed, b';\n;\n;\n(a0)\n', 'read 1|(a0)|solved cost 1 metric 1'),
-            ('one deadline met', timed, b'(a1)\n;\n(a0)\n', 'read 2|(a1)|(a0)|solved cost 3 metric 11'),
-            ('no deadline met', timed, b'(a1)\n(a1)\n(a0)\n', 'read 3|(a1)|(a1)|(a0)|solved cost 5 metric 29'),
-            ('no step, deadlines missed', timed, b'', 'read 0|solved cost 0 metric 24')]:
+            ('A 0, no step', file('GOAL'), b';\n', 'read 0|solved cost 0 metric 0 utility 0'),
+            ('deadlines met, comments are no steps', timed, b';\n;\n;\n(a0)\n', 'read 1|(a0)|solved cost 1 metric 1 utility 23'),
+            ('one deadline met', timed, b'(a1)\n;\n(a0)\n', 'read 2|(a1)|(a0)|solved cost 3 metric 11 utility 13'),
+            ('no deadline met', timed, b'(a1)\n(a1)\n(a0)\n', 'read 3|(a1)|(a1)|(a0)|solved cost 5 metric 29 utility -5'),
+            ('no step, deadlines missed', timed, b'', 'read 0|solved cost 0 metric 24 utility 0')]:
         yield what, data, text, answer
 
 

@@ -10,14 +10,14 @@ use plan::Solution;
 use plan::Verdict;
 use plan::Walked;
 
-// Writes what a plan that solves costs, and its metric.
+// Writes what a plan that solves costs, its metric and its utility.
 fn write_solution(file: &[u8], s: Solution) {
     let settled = plan::settle(file, s.cost, s.met);
     match settled {
         Settled::Given(w) => {
             lines::write_amount(b"solved cost ", s.cost);
-            lines::write_amount(b" metric ", w.metric);
-            io::write_all(STDOUT_FILENO, b"\n");
+            io::write_all(STDOUT_FILENO, b" ");
+            lines::write_worth(w);
         }
         Settled::Refused(f) => lines::write_refused(f),
     }
