@@ -7,5 +7,6 @@ pub mod Printing
 pub mod Answering
 pub mod Splitting
 pub mod Returned
+pub mod TextJudged
 pub mod Comments
 pub mod TwoTexts

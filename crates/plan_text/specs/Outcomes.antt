@@ -1,4 +1,4 @@
--- What reading, writing and walking a plan's text answer: document 02, request 1.
+-- What reading, writing and walking a plan's text answer, and what a text is judged as: document 02, request 1.
 use mathlib.Core.Bool.{cond}
 use mathlib.Core.List.{List, []}
 use Prim.Native.Nat.{ℕ}
@@ -7,6 +7,8 @@ use lib.ListN.{length}
 use Rattle.task.specs.Check
 use Rattle.task.specs.Check.{Answer, check}
 use Rattle.outcome.specs.Outcome.{Outcome, refused, fitted}
+use Rattle.plan.specs.Judged
+use Rattle.plan.specs.Judged.{Judged, judged}
 use Rattle.plan.specs.Walked
 use Rattle.plan.specs.Walked.{Walked, walked}
 use Rattle.plan_text.specs.PlanText.{textOf, Read, plan, faulty, readPlan}
@@ -50,3 +52,14 @@ textWalkedBy b (faulty i) = refusedAfter (check b) 12 i
 
 unfoldable pub textWalked : List ℕ → List ℕ → Walked
 textWalked b t = textWalkedBy b (readPlan t)
+
+-- Judging a text, which is walking it and then settling
+
+-- check's refusal; then 12, with the faulty line; or else what judging the plan read gives
+abbrev pub textJudgedBy : List ℕ → Answer → Read → Judged
+textJudgedBy b (Check.refused n i) r = Judged.refused n i
+textJudgedBy b (Check.accepted z) (faulty i) = Judged.refused 12 i
+textJudgedBy b (Check.accepted z) (plan p) = judged b p
+
+unfoldable pub textJudged : List ℕ → List ℕ → Judged
+textJudged b t = textJudgedBy b (check b) (readPlan t)
