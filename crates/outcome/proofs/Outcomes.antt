@@ -8,7 +8,7 @@ abbrev isWritten : Outcome → Bool
 isWritten (written n) = true
 isWritten (refused n i) = false
 
--- a length for each outcome
+-- the length of an output
 abbrev lengthOf : Outcome → ℕ
 lengthOf (written n) = n
 lengthOf (refused n i) = 0
@@ -18,3 +18,11 @@ not-written k i n e = true≢false (sym (ap isWritten e))
 
 pub same-written : (m n : ℕ) → written m ≡ written n → m ≡ n
 same-written m n e = ap lengthOf e
+
+-- and the number of a refusal
+abbrev numberOf : Outcome → ℕ
+numberOf (written n) = 0
+numberOf (refused n i) = n
+
+pub same-refused : (m i n j : ℕ) → refused m i ≡ refused n j → m ≡ n
+same-refused m i n j e = ap numberOf e

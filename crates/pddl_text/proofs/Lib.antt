@@ -1,6 +1,7 @@
 pub mod Examples
 pub mod Tells
 pub mod Told
+pub mod Outcomes
 pub mod EqualTexts
 pub mod Longest
 pub mod Listing

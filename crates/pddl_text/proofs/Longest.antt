@@ -1,27 +1,30 @@
 -- No domain and no problem of an accepted task is longer than 262,144 bytes: a row adds at most 19, ` (when (and) (and))`,
 -- and an action's line 77 more.
-use mathlib.Core.Path.{_≡_, ap}
+use mathlib.Core.Path.{_≡_, refl, sym, ap, _∙_}
 use mathlib.Core.Bool.{Bool, true, false, cond}
 use mathlib.Core.List.{List, [], _∷_, _++_, map}
 use Prim.Native.Nat.{ℕ, zero, suc, _+_, _*_, _≤_, _<_}
 use native.Mathlib.Omega.{arith}
-use lib.Dec.{T, ltb, ltb→lt, lt→ltb, leb→le}
+use lib.Dec.{T, eqb, ltb, ltb→lt, lt→ltb, leb→le}
 use lib.ListN.{length, length-append}
-use borrow.Author.Tests.{eq-eqb, le-leb}
+use borrow.Author.Tests.{eq-eqb, eqb-true, le-leb}
 use Rattle.task.specs.Lists.{all, concatMap, concatFrom, numbers}
 use Rattle.task.specs.Marks.{ADD, DELETE, GOAL, START}
 use Rattle.task.specs.Task.{Literal, Clause, Condition, Effect, Action, Task, Row, row, literalRow, clauseRows, conditionRows, effectRows, actionRows, preferenceRows, taskRows, conditionBelow, factsBelow, effectBelow, actionBelow, wellFormed}
 use Rattle.task.specs.File.{Sizes, taskOf}
-use Rattle.task.specs.Check.{accepted, check, limit}
+use Rattle.task.specs.Check
+use Rattle.task.specs.Check.{Answer, accepted, check, limit}
 use Rattle.task.specs.Spelling.{actionSpellable, spellable}
 use Rattle.task.proofs.Tests.{tests}
 use Rattle.task.proofs.Spelled.{accepted-spelling}
 use Rattle.task.proofs.Checking.{within}
+use Rattle.task.proofs.Refusals.{one-to-six}
 use Rattle.text.specs.Ascii.{ascii}
 use Rattle.text.specs.Text.{decimal}
 use Rattle.text.proofs.Decimal.{few-digits}
 use Rattle.pddl_text.specs.Pddl.{spaced, factText, notText, literalText, clauseText, conditionText, effectText, actionLine, domainText, problemText}
-use Rattle.pddl_text.specs.Outcomes.{written, outcome}
+use Rattle.pddl_text.specs.Outcomes.{Outcome, written, refused, fitted, outcomeBy, outcome}
+use Rattle.pddl_text.proofs.Outcomes.{not-written, same-refused}
 
 -- Lists, each of whose parts is behind a space
 
@@ -193,12 +196,28 @@ longest b z h =
       short-problem (taskOf b) few-facts few-actions few-rows (s .formed) (s .spelling),
     )
 
--- so areas of that length are never refused by 14
-pub never-too-short : (b : List ℕ) (z : Sizes) → check b ≡ accepted z → z .preferences ≡ 0 → (domain problem : ℕ) → 262144 ≤ domain → 262144 ≤ problem
+-- so such areas hold both texts of every accepted task without preferences
+pub enough : (b : List ℕ) (z : Sizes) → check b ≡ accepted z → z .preferences ≡ 0 → (domain problem : ℕ) → 262144 ≤ domain → 262144 ≤ problem
     → outcome b domain problem ≡ written (length (domainText (taskOf b))) (length (problemText (taskOf b)))
 unfolding outcome
-never-too-short b z h none domain problem d p =
+enough b z h none domain problem d p =
     let (of-domain, of-problem) = longest b z h in
     let fits : length (domainText (taskOf b)) ≤ domain = omega (arith, d, of-domain) in
     let fits′ : length (problemText (taskOf b)) ≤ problem = omega (arith, p, of-problem) in
     rw (h, eq-eqb (z .preferences) 0 none, le-leb (length (domainText (taskOf b))) domain fits, le-leb (length (problemText (taskOf b))) problem fits′)
+
+-- and are never refused by 14
+pub never-too-short : (b : List ℕ) (domain problem : ℕ) → 262144 ≤ domain → 262144 ≤ problem → (i : ℕ) → outcome b domain problem ≡ refused 14 i → ⊥
+unfolding outcome
+never-too-short b domain problem d p i e = by-answer (check b) refl e
+  where
+    by-answer : (a : Answer) → check b ≡ a → outcomeBy b domain problem a ≡ refused 14 i → ⊥
+    by-answer (Check.refused n j) h e = omega (arith, one-to-six b n j h .1, same-refused n j 14 i e)
+    by-answer (Check.accepted z) h e = by-preferences (eqb (z .preferences) 0) refl e
+      where
+        by-preferences : (x : Bool) → eqb (z .preferences) 0 ≡ x → cond x (fitted (taskOf b) domain problem) (refused 13 0) ≡ refused 14 i → ⊥
+        by-preferences true q e =
+            let none : z .preferences ≡ 0 = eqb-true (z .preferences) 0 q in
+            not-written 14 i (length (domainText (taskOf b))) (length (problemText (taskOf b)))
+            (sym e ∙ (rw (h, q) at (enough b z h none domain problem d p)))
+        by-preferences false q e = omega (arith, same-refused 13 0 14 i e)

@@ -8,7 +8,7 @@ use native.Mathlib.Omega.{arith}
 use lib.Dec.{leb}
 use lib.ListN.{length, take, drop}
 use lib.Seq.{take-at}
-use borrow.Author.Tests.{le-leb, lt-leb}
+use borrow.Author.Tests.{le-leb, lt-leb, leb-true}
 use Rattle.text.specs.Area.{written as put}
 use Rattle.text.proofs.Writing.{written-whole}
 use Rattle.task.specs.Check
@@ -51,6 +51,14 @@ module _ (k bytes room : ℕ) where
 
   pub roomy : k ≤ 2048 → bytes ≤ room → planFitted k bytes room ≡ written bytes
   roomy h l = rw (le-leb k 2048 h, le-leb bytes room l)
+
+  pub fits : (n : ℕ) → planFitted k bytes room ≡ written n → (k ≤ 2048) × (bytes ≡ n)
+  fits n e = go (leb k 2048) refl (leb bytes room) e
+    where
+      go : (x : Bool) → leb k 2048 ≡ x → (y : Bool) → cond x (cond y (written bytes) (refused 9 0)) (refused 10 0) ≡ written n → (k ≤ 2048) × (bytes ≡ n)
+      go true h true e = (leb-true k 2048 h, same-written bytes n e)
+      go true h false e = absurd (not-written 9 0 n e)
+      go false h y e = absurd (not-written 10 0 n e)
 
 -- Reading
 
@@ -114,12 +122,7 @@ line-below t s short h e = let l : s .line + 1 ≤ length t = (rw e at h) in ome
 -- Walking
 
 size-read : (r : Read) (room n : ℕ) → readBy room r ≡ written n → length (steps r) ≡ n
-size-read (plan p) room n e = go (leb (length p) 2048) (leb (length p) room) e
-  where
-    go : (x y : Bool) → cond x (cond y (written (length p)) (refused 9 0)) (refused 10 0) ≡ written n → length p ≡ n
-    go true true e = same-written (length p) n e
-    go true false e = absurd (not-written 9 0 n e)
-    go false y e = absurd (not-written 10 0 n e)
+size-read (plan p) room n e = fits (length p) (length p) room n e .1
 size-read (faulty i) room n e = absurd (not-written 12 i n e)
 
 -- an area that was read into begins with the plan

@@ -7,6 +7,8 @@ pub mod Printing
 pub mod Answering
 pub mod Splitting
 pub mod Returned
+pub mod RoundTrip
+pub mod Longest
 pub mod TextJudged
 pub mod Comments
 pub mod TwoTexts

@@ -67,7 +67,7 @@ line-length : (n : ℕ) → n < 256 → length (stepLine n) ≤ 6
 unfolding stepLine
 line-length n h = rw (length-append (decimal n) (41 ∷ [])) (omega (arith, few-digits 2 n (omega arith)))
 
-text-length : (p : List ℕ) → T (bytes p) → length (textOf p) ≤ 7 * length p
+pub text-length : (p : List ℕ) → T (bytes p) → length (textOf p) ≤ 7 * length p
 unfolding textOf
 text-length [] h = omega arith
 text-length (n ∷ p) h =
