@@ -38,6 +38,10 @@ extern "C" {
 /* An area of this length is never too short for a domain or a problem in PDDL. */
 #define ROUTE_RULES_MAX_PDDL 262144
 
+/* That no area of these three lengths is refused by 9 or 14 is proved: never-too-short in crates/plan_text/proofs/Longest.antt,
+ * crates/translation/proofs/Longest.antt and crates/pddl_text/proofs/Longest.antt; that no accepted file is longer than
+ * MAX_FILE: longest in crates/task/proofs/Longest.antt. */
+
 /* Refusals, with their place. 1 to 3 are tried in order. Rows then go from the first; the first faulty row decides, 4 before
  * 5 on one row; 6 comes after all rows. 7 to 9 are translate's, 10 and 11 walk's, in that order, after 1 to 6.
  * Of a plan's text 12 comes after 6, and before 10 and 11; reading alone is refused by 12, then 10, then 9. 13 and 14 are
