@@ -25,7 +25,7 @@ use Rattle.trackers.specs.Writer.{Wrote, part}
 use Rattle.trackers.specs.Places.{endAt, Starts}
 use Rattle.trackers.specs.Rows.{singleRows}
 use Rattle.trackers.specs.Trackers.{allTrackerRows}
-use Rattle.translation.specs.Parts.{sourceRows, endRows, missed, closingRows, preferenceClosings, closedRows}
+use Rattle.translation.specs.Parts.{sourceRows, endRows, missed, closingRows, preferenceClosings, preferencesTo, closedRows}
 use Rattle.trackers.proofs.Putting.{Onward, then, wrote-none, wrote-full, as-rows}
 use Rattle.trackers.proofs.Ends.{end-behind, part-is, condition-between}
 use Rattle.trackers.proofs.TrackerRows.{concat-from, rows-append, effects-append}
@@ -208,9 +208,13 @@ pub record Ending (F m : ℕ) (b₀ : List ℕ) (n i : ℕ) (out : List ℕ) (r 
 
 pub record AllClosing (F E : ℕ) (b₀ : List ℕ) (n i : ℕ) (out : List ℕ) (r c : ℕ) : Type 0 where
   pub size : length out ≡ length b₀
-  pub so-far : (m : ℕ) → E ≡ F + 3 * m + 1 → Ending F m b₀ n i out r c
+  pub so-far : Ending F (preferencesTo F E) b₀ n i out r c
 
-module _ (F E m : ℕ) (E-is : E ≡ F + 3 * m + 1) (b₀ : List ℕ) (n i : ℕ) (few : n ≤ 12000) (out : List ℕ) (r c : ℕ) where
+module _ (F E : ℕ) (b₀ : List ℕ) (n i : ℕ) (few : n ≤ 12000) (out : List ℕ) (r c : ℕ) where
+  -- as many as there are
+  abbrev m : ℕ
+  m = preferencesTo F E
+
   pub ending-on : c < E → (out' : List ℕ) (r' : ℕ) → Wrote out n r (singleRows HOLDS c) r' out'
       → Ending F m b₀ n i out r c → Ending F m b₀ n i out' r' (c + 3)
   ending-on h out' r' w t = go (t .left) (t .together) (t .onward)

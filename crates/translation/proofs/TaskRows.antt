@@ -20,7 +20,7 @@ use Rattle.trackers.specs.Writer.{Wrote, part}
 use Rattle.task.specs.Rows.{between, Stops}
 use Rattle.trackers.specs.Places.{endAt, Noted}
 use Rattle.trackers.specs.Rows.{singleRows}
-use Rattle.translation.specs.Parts.{AllActsFor, openingRows, closedRows, WroteTask}
+use Rattle.translation.specs.Parts.{AllActsFor, preferencesTo, openingRows, closedRows, WroteTask}
 use Rattle.trackers.proofs.Putting.{then, as-rows}
 use Rattle.trackers.proofs.Ends.{end-behind, part-is, condition-between}
 use Rattle.task.proofs.Tests.{concat-append}
@@ -145,18 +145,19 @@ timed t s = all-implies preferenceSpellable (λ (q : Preference). kindSpellable 
 module _ (ms vs starts : List ℕ) (F P goal mid from at : ℕ) (b o₁ o₂ : List ℕ) (n k r : ℕ) (few : n ≤ 12000)
     (goal-at : goal ≡ endAt START START ms vs 0) (mid-at : mid ≡ endAt GOAL GOAL ms vs goal) (from-at : from ≡ endAt CLAUSE LACKS ms vs mid)
     (at-at : at ≡ endAt ACTION DELETE ms vs from) (noted : Noted ms at starts) (so-many : length starts ≡ P) where
-  pub task-wrote : ((m : ℕ) → F + 3 * P ≡ F + 3 * m → Wrote b n 0 (openingRows F (F + 3 * P) m (part ms vs 0 goal) (part ms vs goal from)) k o₁)
+  pub task-wrote : Wrote b n 0 (openingRows F (F + 3 * P) (preferencesTo F (F + 3 * P + 1)) (part ms vs 0 goal) (part ms vs goal from)) k o₁
       → AllActsFor ms vs from at starts F (F + 3 * P) o₁ n k r o₂
       → WroteTask ms vs F P b n r o₂
   task-wrote opened acted t spelled spells facts many =
       let p : Placed ms vs t goal from at = placed ms vs t spelled goal mid from at goal-at mid-at from-at at-at in
       let N : F + 3 * P ≡ normal F (length (t .preferences)) = ap (λ (m : ℕ). F + 3 * m) many in
-      as-rows ((λ z. openingRows F (F + 3 * P) P (p .opening z) (p .clauses z)
+      let all : preferencesTo F (F + 3 * P + 1) ≡ P = omega arith in
+      as-rows ((λ z. openingRows F (F + 3 * P) (all z) (p .opening z) (p .clauses z)
       ++ (concatMap actionRows (map (sourceAction F (t .preferences)) (t .actions))
       ++ (end-is F (t .preferences) (F + 3 * P) N z ++ concatMap actionRows (closings F (length (t .preferences)) 0 (t .preferences)))))
       ∙ (λ z. openingRows (facts z) (normal (facts z) (many z)) (many z) (map (row START) (t .start)) (row GOAL 0 ∷ conditionRows (t .goal))
       ++ (concatMap actionRows (map (sourceAction (facts z) (t .preferences)) (t .actions))
       ++ (actionRows (endAction (facts z) (t .preferences)) ++ concatMap actionRows (closings (facts z) (length (t .preferences)) 0 (t .preferences)))))
       ∙ task-is t)
-      (then few (opened P refl)
+      (then few opened
       (acted (t .actions) (t .preferences) (p .acts) (p .prefs) (noted vs (t .preferences) (p .prefs) (so-many ∙ many) (timed t spells)) N))

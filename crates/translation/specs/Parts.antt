@@ -2,7 +2,7 @@
 use mathlib.Core.Path.{_≡_}
 use mathlib.Core.Bool.{Bool, true, false, cond}
 use mathlib.Core.List.{List, [], _∷_, _++_, map}
-use Prim.Native.Nat.{ℕ, zero, suc, _+_, _-_}
+use Prim.Native.Nat.{ℕ, zero, suc, _+_, _-_, _/_}
 use lib.Dec.{T}
 use lib.ListN.{length, drop}
 use Rattle.task.specs.Lists.{concatMap}
@@ -59,6 +59,10 @@ AllActsFor ms vs from at starts F N b n i r out =
     (l : List Action) (qs : List Preference) → drop from (paired ms vs) ≡ concatMap actionRows l ++ concatMap preferenceRows qs
     → drop at (paired ms vs) ≡ concatMap preferenceRows qs → Starts ms vs starts qs → N ≡ normal F (length qs)
     → Wrote b n i (concatMap actionRows (map (sourceAction F qs) l) ++ (endRows F N qs ++ concatMap actionRows (closings F (length qs) 0 qs))) r out
+
+-- how many preferences have their three facts from F on, before *ended*
+abbrev pub preferencesTo : ℕ → ℕ → ℕ
+preferencesTo F E = (E - F) / 3
 
 -- holds C of m preferences, from preference k on
 abbrev pub closedRows : ℕ → ℕ → ℕ → List Row

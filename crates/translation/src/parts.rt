@@ -9,7 +9,7 @@ ghost use Rattle.task.specs.File.{kindOf};
 ghost use Rattle.classical.specs.Translation.{metClause};
 ghost use Rattle.trackers.specs.Writer.{Wrote, part};
 ghost use Rattle.trackers.specs.Trackers.{WroteAt, WroteFor};
-ghost use Rattle.translation.specs.Parts.{sourceRows, endRows, missed, closedRows, closingHead, closingRows, preferenceClosings, ActsFor, ClosesFor};
+ghost use Rattle.translation.specs.Parts.{sourceRows, endRows, missed, preferencesTo, closedRows, closingHead, closingRows, preferenceClosings, ActsFor, ClosesFor};
 use task::marks;
 use task::rows;
 use trackers::places;
@@ -253,7 +253,7 @@ pub fn put_closings(
 // The goal's clauses that say that each preference is closed.
 pub fn put_all_closed(out: &mut [u8], n: usize, i: usize, facts: u32, ended: u32) -> usize
     requires { ⌜ (n ≤ 12000) × (8 + 5 * n ≤ length (now out)) × (facts ≤ 128) × (ended ≤ 1000) ⌝ }
-    ensures { λ r. ⌜ ((m : ℕ) → ended ≡ facts + 3 * m + 1 → Wrote (now (out .entry)) n i (closedRows facts 0 m) r (now (out .exit))) ⌝ }
+    ensures { λ r. ⌜ Wrote (now (out .entry)) n i (closedRows facts 0 (preferencesTo facts ended)) r (now (out .exit)) ⌝ }
 {
     let mut k = i;
     let mut c = facts + 2;

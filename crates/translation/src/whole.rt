@@ -2,7 +2,7 @@
 ghost use mathlib.Core.Path.{_≡_};
 ghost use Prim.Native.Nat.{ℕ, _+_, _*_, _≤_};
 ghost use lib.ListN.{length};
-ghost use Rattle.translation.specs.Parts.{openingRows, AllActsFor, WroteTask};
+ghost use Rattle.translation.specs.Parts.{preferencesTo, openingRows, AllActsFor, WroteTask};
 ghost use Rattle.trackers.specs.Writer.{Wrote, part};
 ghost use Rattle.translation.specs.Whole.{Counts, Fits};
 use super::parts;
@@ -23,7 +23,7 @@ fn put_opening(
     normal: u32,
 ) -> usize
     requires { ⌜ (n ≤ 12000) × (8 + 5 * n ≤ length (now out)) × (4 * length (now marks) ≤ length (now values)) × (goal ≤ length (now marks)) × (from ≤ length (now marks)) × (facts ≤ 128) × (normal ≤ 128) ⌝ }
-    ensures { λ r. ⌜ ((m : ℕ) → normal ≡ facts + 3 * m → Wrote (now (out .entry)) n 0 (openingRows facts normal m (part (now (marks .entry)) (now (values .entry)) 0 goal) (part (now (marks .entry)) (now (values .entry)) goal from)) r (now (out .exit))) ⌝ }
+    ensures { λ r. ⌜ Wrote (now (out .entry)) n 0 (openingRows facts normal (preferencesTo facts (normal + 1)) (part (now (marks .entry)) (now (values .entry)) 0 goal) (part (now (marks .entry)) (now (values .entry)) goal from)) r (now (out .exit)) ⌝ }
 {
     let k = writer::copy_rows(&mut *out, n, 0, marks, values, 0, goal);
     let k = writer::put_row(&mut *out, n, k, marks::START, normal);

@@ -1,5 +1,3 @@
-use mathlib.Core.Path.{ap}
-use Prim.Native.Nat.{ℕ, _+_}
 use Rattle.trackers.proofs.Putting.{then}
 use borrow.Author.Needs.{needs}
 use Rattle.translation.proofs.whole.put_opening.Statement.{statement}
@@ -27,7 +25,7 @@ same-length : tie.Need-same-length
 same-length c = search needs
 
 returns : tie.Need-returns
-returns c = λ m e.
+returns c =
     let z = c .before .before in
     let y = z .before .before .before .before in
     let x = y .before .before .before .before in
@@ -35,7 +33,7 @@ returns c = λ m e.
     let v = w .before .before .before .before in
     let few = v .before .before .before .before .before .pre .0 in
     then few (v .copy-rows .ensures) (then few (w .put-row .ensures) (then few (x .copy-rows2 .ensures)
-    (then few (y .put-single .ensures) (z .put-all-closed .ensures m (ap (λ (n : ℕ). n + 1) e)))))
+    (then few (y .put-single .ensures) (z .put-all-closed .ensures))))
 
 pub put-opening-spec : {M : Type 1} → statement M
 put-opening-spec =
