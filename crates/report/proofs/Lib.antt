@@ -3,5 +3,4 @@ pub mod Spelled
 pub mod Examples
 -- What the code writes
 pub mod Listing
-pub mod Signed
 pub mod Answering

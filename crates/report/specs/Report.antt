@@ -1,8 +1,8 @@
 -- The text of a judged plan: document 01, 'A belt and a gate', and request 6.
 use mathlib.Core.Bool.{Bool, true, false}
 use mathlib.Core.List.{List, _++_}
-use Prim.Native.Nat.{ℕ, suc}
-use lib.IntN.{ℤ, pos, negsuc}
+use Prim.Native.Nat.{ℕ}
+use lib.IntN.{ℤ}
 use lib.ListN.{length}
 use Rattle.task.specs.Lists.{concatFrom}
 use Rattle.task.specs.Task.{Kind, always, sometime, at-end, at-most-once, sometime-before, sometime-after, within, always-within, Preference, Task}
@@ -10,7 +10,7 @@ use Rattle.task.specs.File.{taskOf}
 use Rattle.task.specs.Verdict.{Verdict, solved, stopped, goal-missed}
 use Rattle.plan.specs.Judged.{Judged, given, refused, judged}
 use Rattle.text.specs.Ascii.{ascii}
-use Rattle.text.specs.Text.{decimal, refusedLine}
+use Rattle.text.specs.Text.{decimal, integer, refusedLine}
 
 -- kinds are spelled as in the table of marks
 abbrev pub kindWord : Kind → List ℕ
@@ -26,11 +26,6 @@ kindWord (always-within t) = ascii "always-within"
 abbrev pub outcomeWord : Bool → List ℕ
 outcomeWord true = ascii "met"
 outcomeWord false = ascii "missed"
-
--- below 0 it has a minus sign
-abbrev pub integer : ℤ → List ℕ
-integer (pos n) = decimal n
-integer (negsuc n) = ascii "-" ++ decimal (suc n)
 
 -- the plan's length and cost
 unfoldable pub solvedLine : ℕ → ℕ → List ℕ

@@ -1,5 +1,5 @@
 // The text of a judged plan, which program judge writes: a plan walked, and settled where it solves.
-pub mod lines;
+mod lines;
 mod preferences;
 
 ghost use mathlib.Core.Path.{_≡_};

@@ -1,10 +1,9 @@
 // The lines of the text, one by one. Each function writes from a place on and answers the place behind.
 ghost use mathlib.Core.Path.{_≡_};
 ghost use Prim.Native.Nat.{_+_, _^_, _≤_, _<_};
-ghost use lib.IntN.{natAbs};
 ghost use Rattle.task.specs.File.{kindOf};
 ghost use Rattle.text.specs.Area.{Wrote};
-ghost use Rattle.report.specs.Report.{kindWord, outcomeWord, integer, solvedLine, preferenceLine, amountsLine, stoppedLine};
+ghost use Rattle.report.specs.Report.{kindWord, outcomeWord, solvedLine, preferenceLine, amountsLine, stoppedLine};
 use task::marks;
 
 // Writes the kind that a mark opens.
@@ -71,34 +70,13 @@ pub fn put_solved(out: &mut [u8], at: usize, steps: usize, cost: u64) -> usize
     text::put_byte(&mut *out, b, b'\n')
 }
 
-// How far a number is from 0. Below 0 that is one more than the number with its bits flipped.
-fn magnitude(n: i64) -> u64
-    ensures { λ r. ⌜ r ≡ natAbs n ⌝ }
-{
-    if n < 0 { (!n) as u64 + 1 } else { n as u64 }
-}
-
-// Writes a number, with a minus sign where it is below 0.
-fn put_integer(out: &mut [u8], at: usize, n: i64) -> usize
-    requires { ⌜ at + 21 < 2 ^ 64 ⌝ }
-    ensures { λ r. ⌜ Wrote (now (out .entry)) at (integer n) r (now (out .exit)) ⌝ }
-    ensures { λ r. ⌜ r ≤ at + 21 ⌝ }
-{
-    if n < 0 {
-        let a = text::put_byte(&mut *out, at, b'-');
-        text::put_decimal(out, a, magnitude(n))
-    } else {
-        text::put_decimal(out, at, magnitude(n))
-    }
-}
-
 // Writes the last line of a plan that solves.
 pub fn put_amounts(out: &mut [u8], at: usize, metric: u64, utility: i64) -> usize
     requires { ⌜ at + 58 < 2 ^ 64 ⌝ }
     ensures { λ r. ⌜ Wrote (now (out .entry)) at (amountsLine metric utility) r (now (out .exit)) ⌝ }
 {
     let a = text::put_number(&mut *out, at, b"metric ", metric, b" utility ");
-    let b = put_integer(&mut *out, a, utility);
+    let b = text::put_integer(&mut *out, a, utility);
     text::put_byte(&mut *out, b, b'\n')
 }
 

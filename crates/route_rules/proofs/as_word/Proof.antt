@@ -5,7 +5,7 @@ use lib.IntN.{ℤ, natAbs}
 use mir.Syntax.{w64}
 use mir.ValLaws.{toZ-ofZ}
 use Rattle.route_rules.specs.Numbers.{signed}
-use Rattle.report.proofs.Signed.{below, not-below}
+use Rattle.text.proofs.Signed.{below, not-below}
 use Rattle.route_rules.proofs.as_word.Statement.{statement}
 use Rattle.route_rules.proofs.as_word.Tie as tie
 

@@ -1,7 +1,8 @@
 use mir.Syntax.{w64}
 use mir.ValLaws.{toZ-ofZ}
 use Rattle.text.proofs.Writing.{then}
-use Rattle.report.specs.Report.{integer, amountsLine}
+use Rattle.text.specs.Text.{integer}
+use Rattle.report.specs.Report.{amountsLine}
 use borrow.Author.Needs.{needs}
 use Rattle.report.proofs.lines.put_amounts.Statement.{statement}
 use Rattle.report.proofs.lines.put_amounts.Tie as tie
