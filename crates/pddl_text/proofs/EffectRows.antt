@@ -18,7 +18,7 @@ use Rattle.text.specs.Area.{Wrote}
 use Rattle.text.proofs.Writing.{then}
 use Rattle.pddl_text.specs.Pddl.{spaced, factText, notText, conditionText, effectText}
 use Rattle.pddl_text.specs.Rows.{rowText, Listed, listAt, endedAt}
-use Rattle.pddl_text.specs.Puts.{Puts}
+use Rattle.pddl_text.specs.Puts.{Spells, Puts}
 use Rattle.pddl_text.specs.declared.conditions.Spot.{Spot}
 use Rattle.pddl_text.proofs.Listing.{narrowed, each-text, lists}
 use Rattle.pddl_text.proofs.Emitting.{Parts}
@@ -57,6 +57,17 @@ changes-stop [] [] xs s = narrowed 3 7 3 5 (omega arith) (omega arith) xs s
 changes-stop [] (n ∷ ns) xs s = refl
 changes-stop (n ∷ ns) deletes xs s = refl
 
+module _ (ms vs : List ℕ) (from : ℕ) where
+  from-condition : (e : Effect) (xs : List Row) → drop from (paired ms vs) ≡ effectRows e ++ xs
+      → drop (from + 1) (paired ms vs) ≡ conditionRows (e .condition) ++ (changeRows e ++ xs)
+  from-condition e xs spelled =
+      let conditions : List Row = conditionRows (e .condition) in
+      drop-next from (paired ms vs) (row EFFECT 0) (conditions ++ map (row ADD) (e .adds) ++ map (row DELETE) (e .deletes) ++ xs) spelled
+      ∙ cc (append-assoc conditions (map (row ADD) (e .adds)) (map (row DELETE) (e .deletes)), append-assoc conditions (changeRows e) xs)
+
+  pub its-condition : Spells effectRows (between 3 7) ms vs from → Spells conditionRows (between 3 5) ms vs (from + 1)
+  its-condition (e, xs, spelled, s) = (e .condition, changeRows e ++ xs, from-condition e xs spelled, changes-stop (e .adds) (e .deletes) xs s)
+
 -- An effect, from what was written of its parts
 module _ (ms vs : List ℕ) (from : ℕ) (b : List ℕ) (at : ℕ) (k₁ : ℕ) (o₁ : List ℕ) (w₁ : Wrote b at (ascii "(when ") k₁ o₁)
     (c : Spot) (o₂ : List ℕ) (condition : Puts conditionRows conditionText (between 3 5) ms vs (from + 1) o₁ k₁ c o₂)
@@ -68,9 +79,7 @@ module _ (ms vs : List ℕ) (from : ℕ) (b : List ℕ) (at : ℕ) (k₁ : ℕ) 
       let a : List ℕ = spaced factText (e .adds) in
       let d : List ℕ = spaced notText (e .deletes) in
       let conditions : List Row = conditionRows (e .condition) in
-      let here : drop (from + 1) (paired ms vs) ≡ conditions ++ (changeRows e ++ xs) =
-      drop-next from (paired ms vs) (row EFFECT 0) (conditions ++ map (row ADD) (e .adds) ++ map (row DELETE) (e .deletes) ++ xs) spelled
-      ∙ cc (append-assoc conditions (map (row ADD) (e .adds)) (map (row DELETE) (e .deletes)), append-assoc conditions (changeRows e) xs) in
+      let here : drop (from + 1) (paired ms vs) ≡ conditions ++ (changeRows e ++ xs) = from-condition ms vs from e xs spelled in
       let (w₂, behind) = condition (e .condition) (changeRows e ++ xs) here (changes-stop (e .adds) (e .deletes) xs s) in
       let there : drop (c .next) (paired ms vs) ≡ changeRows e ++ xs =
       ap (λ (i : ℕ). drop i (paired ms vs)) behind ∙ drop-behind (from + 1) (paired ms vs) conditions (changeRows e ++ xs) here in

@@ -17,7 +17,7 @@ use Rattle.task.proofs.Positions.{drop-behind}
 use Rattle.text.specs.Area.{Wrote}
 use Rattle.text.proofs.Writing.{then, no-bytes}
 use Rattle.pddl_text.specs.Rows.{markAt}
-use Rattle.pddl_text.specs.Puts.{Puts}
+use Rattle.pddl_text.specs.Puts.{Spells, Puts}
 use Rattle.pddl_text.specs.declared.conditions.Spot.{Spot}
 use Rattle.pddl_text.proofs.Listing.{narrowed, opensWith, first-mark}
 
@@ -68,6 +68,10 @@ module _ {A : Type 0} (P : Parts A) (ms vs : List ℕ) where
   stops-behind [] xs s = narrowed (P .head) (P .most) (suc (P .head)) (P .most) (omega arith) (omega arith) xs s
   stops-behind (a ∷ rest) xs s = below (P .head) (P .most)
 
+  none : (xs : List Row) → Stops (between (P .head) (P .most)) xs → opensWith (between (P .head) (P .head)) xs ≡ true → ⊥
+  none [] s o = true≢false (sym o)
+  none (x ∷ xs) s o = not-both (ap (between (P .head) (P .most)) (only-one (P .head) (x .mark) o) ∙ P .inside) s
+
   module _ (b : List ℕ) (at from : ℕ) (out : List ℕ) (k i n : ℕ) (E : Emitting b at from out k i n) where
     -- behind the last part
     pub done : markAt (P .head) (P .head) ms i ≡ false → Puts (concatMap (rowsOf P)) (P .text 0) (between (P .head) (P .most)) ms vs from b at (record { at = k; next = i }) out
@@ -80,15 +84,20 @@ module _ {A : Type 0} (P : Parts A) (ms vs : List ℕ) where
             (onward k out (subst (λ (t : List ℕ). Wrote out k t k out) (sym (P .no-more n)) (no-bytes out k)), sym (add-zero i) ∙ read)
         go (a ∷ rest) rows read onward = absurd (not-both (first-mark (P .head) (P .head) ms vs i ∙ ap (opensWith (between (P .head) (P .head))) rows ∙ itself (P .head)) e)
 
+    -- the part that row i opens
+    pub next-part : markAt (P .head) (P .head) ms i ≡ true → Spells (concatMap (rowsOf P)) (between (P .head) (P .most)) ms vs from
+        → Spells (rowsOf P) (between (suc (P .head)) (P .most)) ms vs i
+    next-part e (l, xs, spelled, s) = go (E l xs spelled s .rest) (E l xs spelled s .rows)
+      where
+        go : (rest : List A) → drop i (paired ms vs) ≡ concatMap (rowsOf P) rest ++ xs → Spells (rowsOf P) (between (suc (P .head)) (P .most)) ms vs i
+        go [] rows = absurd (none xs s (sym (ap (opensWith (between (P .head) (P .head))) rows) ∙ sym (first-mark (P .head) (P .head) ms vs i) ∙ e))
+        go (a ∷ rest) rows = (a, concatMap (rowsOf P) rest ++ xs, rows ∙ append-assoc (rowsOf P a) (concatMap (rowsOf P) rest) xs, stops-behind rest xs s)
+
     -- a part more
     pub more : markAt (P .head) (P .head) ms i ≡ true → (r : Spot) (last : List ℕ) → Puts (rowsOf P) (P .piece n) (between (suc (P .head)) (P .most)) ms vs i out k r last
         → Emitting b at from last (r .at) (r .next) (n + 1)
     more e r last puts l xs spelled s = go (E l xs spelled s .rest) (E l xs spelled s .rows) (E l xs spelled s .read) (E l xs spelled s .onward)
       where
-        none : (xs : List Row) → Stops (between (P .head) (P .most)) xs → opensWith (between (P .head) (P .head)) xs ≡ true → ⊥
-        none [] s o = true≢false (sym o)
-        none (x ∷ xs) s o = not-both (ap (between (P .head) (P .most)) (only-one (P .head) (x .mark) o) ∙ P .inside) s
-
         go : (rest : List A) → drop i (paired ms vs) ≡ concatMap (rowsOf P) rest ++ xs → i + length (concatMap (rowsOf P) rest) ≡ from + length (concatMap (rowsOf P) l)
             → ((r : ℕ) (last : List ℕ) → Wrote out k (P .text n rest) r last → Wrote b at (P .text 0 l) r last)
             → Left b at from l xs last (r .at) (r .next) (n + 1)
@@ -116,6 +125,10 @@ module _ {A : Type 0} (P : Parts A) (ms vs : List ℕ) where
   looping b at from h = record { size = refl; begun = omega arith; rows-left = h; emitting = begin b at from }
 
   module _ (b : List ℕ) (at from : ℕ) (out : List ℕ) (k i n : ℕ) (L : Looping b at from out k i n) where
+    pub loop-part : markAt (P .head) (P .head) ms i ≡ true → Spells (concatMap (rowsOf P)) (between (P .head) (P .most)) ms vs from
+        → Spells (rowsOf P) (between (suc (P .head)) (P .most)) ms vs i
+    loop-part = next-part b at from out k i n (L .emitting)
+
     pub looped : markAt (P .head) (P .head) ms i ≡ true → (r : Spot) (last : List ℕ) → length last ≡ length out → i < r .next → r .next ≤ length ms
         → Puts (rowsOf P) (P .piece n) (between (suc (P .head)) (P .most)) ms vs i out k r last → Looping b at from last (r .at) (r .next) (n + 1)
     looped e r last size h l puts = record {

@@ -10,7 +10,7 @@ use Rattle.task.specs.Lists.{concatMap, concatFrom, numbers}
 use Rattle.task.specs.Marks.{START}
 use Rattle.task.specs.Task.{Task, Row, row, conditionRows, actionRows, preferenceRows, taskRows}
 use Rattle.task.specs.File.{paired}
-use Rattle.task.specs.Rows.{between}
+use Rattle.task.specs.Rows.{between, Stops}
 use Rattle.task.proofs.Tests.{all-map, concat-append}
 use Rattle.task.proofs.Bytes.{length-paired}
 use Rattle.task.proofs.Reading.{passes}
@@ -21,7 +21,7 @@ use Rattle.text.specs.Area.{Wrote}
 use Rattle.text.proofs.Writing.{then, from-start}
 use Rattle.pddl_text.specs.Pddl.{spaced, factText, conditionText, actionLine, domainText, problemText}
 use Rattle.pddl_text.specs.Rows.{Listed, listAt, endedAt}
-use Rattle.pddl_text.specs.Puts.{Puts, PutsProblem, PutsDomain}
+use Rattle.pddl_text.specs.Puts.{Spells, Puts, ActionsOver, PutsProblem, PutsDomain}
 use Rattle.pddl_text.specs.declared.conditions.Spot.{Spot}
 use Rattle.pddl_text.proofs.Listing.{each-text, lists}
 
@@ -60,6 +60,15 @@ module _ (ms vs : List ℕ) (t : Task) (spelled : paired ms vs ≡ taskRows t) w
   goal-within i e =
       omega (arith, e ∙ starts-end, sym (length-paired ms vs) ∙ ap length (spelled ∙ task-grouped t), length-append (map (row START) (t .start)) (fromGoal t), length-map (t .start) (row START))
 
+  from-goal : (i : ℕ) → i ≡ listAt 9 9 ms vs 0 .next → drop (i + 1) (paired ms vs) ≡ conditionRows (t .goal) ++ tailRows (t .actions) (t .preferences)
+  from-goal i e = (λ z. drop ((e ∙ starts-end) z + 1) (spelled z)) ∙ goal-behind t
+
+  past-goal : Stops (between 3 5) (tailRows (t .actions) (t .preferences))
+  past-goal = tail-stops (between 3 5) (past-kinds (between 3 5) tt) refl (t .actions) (t .preferences)
+
+  pub its-goal : (i : ℕ) → i ≡ listAt 9 9 ms vs 0 .next → Spells conditionRows (between 3 5) ms vs (i + 1)
+  its-goal i e = (t .goal, tailRows (t .actions) (t .preferences), from-goal i e, past-goal)
+
 module _ (ms vs : List ℕ) (b : List ℕ) (k₁ : ℕ) (o₁ : List ℕ) (w₁ : Wrote b 0 (ascii "(define (problem p) (:domain d)\n(:init (= (total-cost) 0)") k₁ o₁)
     (s : Spot) (o₂ : List ℕ) (w₂ : Wrote o₁ k₁ (listAt 9 9 ms vs 0 .text) (s .at) o₂) (read : s .next ≡ listAt 9 9 ms vs 0 .next)
     (k₃ : ℕ) (o₃ : List ℕ) (w₃ : Wrote o₂ (s .at) (ascii ")\n(:goal ") k₃ o₃)
@@ -69,10 +78,8 @@ module _ (ms vs : List ℕ) (b : List ℕ) (k₁ : ℕ) (o₁ : List ℕ) (w₁ 
   unfolding problemText
   problem-put t spelled =
       let tail : List Row = tailRows (t .actions) (t .preferences) in
-      let at-goal : s .next ≡ length (t .start) = read ∙ starts-end ms vs t spelled in
-      let here : drop (s .next + 1) (paired ms vs) ≡ conditionRows (t .goal) ++ tail =
-      (λ i. drop (at-goal i + 1) (spelled i)) ∙ goal-behind t in
-      let (w₄, behind) = goal (t .goal) tail here (tail-stops (between 3 5) (past-kinds (between 3 5) tt) refl (t .actions) (t .preferences)) in
+      let here : drop (s .next + 1) (paired ms vs) ≡ conditionRows (t .goal) ++ tail = from-goal ms vs t spelled (s .next) read in
+      let (w₄, behind) = goal (t .goal) tail here (past-goal ms vs t spelled) in
       let starts : Wrote o₁ k₁ (spaced factText (t .start)) (s .at) o₂ =
       subst (λ (l : Listed). Wrote o₁ k₁ (l .text) (s .at) o₂) (starts-listed ms vs t spelled) w₂ in (
         from-start (then w₁ (then starts (then w₃ (then w₄ w₅)))),
@@ -80,6 +87,12 @@ module _ (ms vs : List ℕ) (b : List ℕ) (k₁ : ℕ) (o₁ : List ℕ) (w₁ 
       )
 
 -- The domain
+
+past-actions : (t : Task) → Stops (between 1 7) (concatMap preferenceRows (t .preferences))
+past-actions t = preferences-stop (between 1 7) (past-kinds (between 1 7) tt) (t .preferences)
+
+pub its-actions : (ms vs : List ℕ) (facts from : ℕ) → ActionsOver facts ms vs from → Spells (concatMap actionRows) (between 1 7) ms vs from
+its-actions ms vs facts from (t, same, rows) = (t .actions, concatMap preferenceRows (t .preferences), rows, past-actions t)
 
 module _ (ms vs : List ℕ) (facts from : ℕ) (b : List ℕ)
     (k₁ : ℕ) (o₁ : List ℕ)
@@ -91,5 +104,5 @@ module _ (ms vs : List ℕ) (facts from : ℕ) (b : List ℕ)
   pub domain-put : PutsDomain ms vs facts from b k₅ o₅
   unfolding domainText
   domain-put t same rows =
-      let (w₄, behind) = lines (t .actions) (concatMap preferenceRows (t .preferences)) rows (preferences-stop (between 1 7) (past-kinds (between 1 7) tt) (t .preferences)) in
+      let (w₄, behind) = lines (t .actions) (concatMap preferenceRows (t .preferences)) rows (past-actions t) in
       from-start (then w₁ (then (subst (λ (F : ℕ). Wrote o₁ k₁ (spaced factText (numbers 0 F)) k₂ o₂) same w₂) (then w₃ (then w₄ w₅))))

@@ -12,7 +12,11 @@ use Rattle.text.specs.Area.{Wrote, Filled}
 use Rattle.pddl_text.specs.Pddl.{domainText, problemText}
 use Rattle.pddl_text.specs.declared.conditions.Spot.{Spot}
 
--- where the rows from row `from` on spell a, and none with such a mark follows: the text of a, from place `at` on
+-- the rows from row `from` on spell some a, and none with such a mark follows
+abbrev pub Spells : {A : Type 0} → (A → List Row) → (ℕ → Bool) → List ℕ → List ℕ → ℕ → Type 0
+Spells {A} rowsOf goes ms vs from = (a : A) × (xs : List Row) × (drop from (paired ms vs) ≡ rowsOf a ++ xs) × Stops goes xs
+
+-- for each such a: the text of a, from place `at` on
 abbrev pub Puts : {A : Type 0} → (A → List Row) → (A → List ℕ) → (ℕ → Bool) → List ℕ → List ℕ → ℕ → List ℕ → ℕ → Spot → List ℕ → Type 0
 Puts {A} rowsOf textOf goes ms vs from b at r out =
     (a : A) (xs : List Row) → drop from (paired ms vs) ≡ rowsOf a ++ xs → Stops goes xs
@@ -31,3 +35,11 @@ PutsDomain ms vs facts from b r out = (t : Task) → facts ≡ t .facts → Acti
 -- the rows are some task's
 abbrev pub Spelled : List ℕ → List ℕ → Type 0
 Spelled ms vs = (t : Task) × (paired ms vs ≡ taskRows t)
+
+-- of so many facts
+abbrev pub SpelledOver : ℕ → List ℕ → List ℕ → Type 0
+SpelledOver facts ms vs = (t : Task) × (facts ≡ t .facts) × (paired ms vs ≡ taskRows t)
+
+-- and from row `from` on they are those behind its goal's condition
+abbrev pub ActionsOver : ℕ → List ℕ → List ℕ → ℕ → Type 0
+ActionsOver facts ms vs from = (t : Task) × (facts ≡ t .facts) × ActionsAt t ms vs from

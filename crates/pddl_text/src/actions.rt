@@ -5,7 +5,7 @@ ghost use Rattle.task.specs.Lists.{concatMap, concatFrom};
 ghost use Rattle.task.specs.Task.{effectRows, actionRows};
 ghost use Rattle.task.specs.Rows.{between};
 ghost use Rattle.pddl_text.specs.Pddl.{spaced, effectText, actionLine};
-ghost use Rattle.pddl_text.specs.Puts.{Puts};
+ghost use Rattle.pddl_text.specs.Puts.{Spells, Puts};
 use super::conditions;
 use super::conditions::Spot;
 use task::marks;
@@ -13,7 +13,7 @@ use task::rows;
 
 // Writes the effect that row `from` opens.
 fn put_effect(out: &mut [u8], at: usize, marks: &[u8], values: &[u8], from: usize) -> Spot
-    requires { ⌜ (4 * length (now marks) ≤ length (now values)) × (length (now marks) ≤ 12000) × (from < length (now marks)) × (at < 2 ^ 52) ⌝ }
+    requires { ⌜ (4 * length (now marks) ≤ length (now values)) × (length (now marks) ≤ 12000) × (from < length (now marks)) × (at < 2 ^ 52) × Spells effectRows (between 3 7) (now marks) (now values) from ⌝ }
     ensures { λ r. ⌜ Puts effectRows effectText (between 3 7) (now (marks .entry)) (now (values .entry)) from (now (out .entry)) at r (now (out .exit)) ⌝ }
     ensures { λ r. ⌜ (from < r .next) × (r .next ≤ length (now (marks .entry))) × (r .at ≤ at + 31 * (r .next - from)) ⌝ }
 {
@@ -38,7 +38,7 @@ fn put_effect(out: &mut [u8], at: usize, marks: &[u8], values: &[u8], from: usiz
 
 // Writes the effects whose rows begin at `from`, each behind a space.
 fn put_effects(out: &mut [u8], at: usize, marks: &[u8], values: &[u8], from: usize) -> Spot
-    requires { ⌜ (4 * length (now marks) ≤ length (now values)) × (length (now marks) ≤ 12000) × (from ≤ length (now marks)) × (at < 2 ^ 51) ⌝ }
+    requires { ⌜ (4 * length (now marks) ≤ length (now values)) × (length (now marks) ≤ 12000) × (from ≤ length (now marks)) × (at < 2 ^ 51) × Spells (concatMap effectRows) (between 2 7) (now marks) (now values) from ⌝ }
     ensures { λ r. ⌜ Puts (concatMap effectRows) (spaced effectText) (between 2 7) (now (marks .entry)) (now (values .entry)) from (now (out .entry)) at r (now (out .exit)) ⌝ }
     ensures { λ r. ⌜ (from ≤ r .next) × (r .next ≤ length (now (marks .entry))) × (r .at ≤ at + 32 * (r .next - from)) ⌝ }
 {
@@ -62,7 +62,7 @@ fn put_action(
     values: &[u8],
     from: usize,
 ) -> Spot
-    requires { ⌜ (4 * length (now marks) ≤ length (now values)) × (length (now marks) ≤ 12000) × (from < length (now marks)) × (at < 2 ^ 50) ⌝ }
+    requires { ⌜ (4 * length (now marks) ≤ length (now values)) × (length (now marks) ≤ 12000) × (from < length (now marks)) × (at < 2 ^ 50) × Spells actionRows (between 2 7) (now marks) (now values) from ⌝ }
     ensures { λ r. ⌜ Puts actionRows (actionLine number) (between 2 7) (now (marks .entry)) (now (values .entry)) from (now (out .entry)) at r (now (out .exit)) ⌝ }
     ensures { λ r. ⌜ (from < r .next) × (r .next ≤ length (now (marks .entry))) × (r .at ≤ at + 160 * (r .next - from)) ⌝ }
 {
@@ -92,7 +92,7 @@ fn put_action(
 
 // Writes the lines of the actions whose rows begin at `from`.
 pub fn put_actions(out: &mut [u8], at: usize, marks: &[u8], values: &[u8], from: usize) -> Spot
-    requires { ⌜ (4 * length (now marks) ≤ length (now values)) × (length (now marks) ≤ 12000) × (from ≤ length (now marks)) × (at < 2 ^ 48) ⌝ }
+    requires { ⌜ (4 * length (now marks) ≤ length (now values)) × (length (now marks) ≤ 12000) × (from ≤ length (now marks)) × (at < 2 ^ 48) × Spells (concatMap actionRows) (between 1 7) (now marks) (now values) from ⌝ }
     ensures { λ r. ⌜ Puts (concatMap actionRows) (concatFrom actionLine 0) (between 1 7) (now (marks .entry)) (now (values .entry)) from (now (out .entry)) at r (now (out .exit)) ⌝ }
     ensures { λ r. ⌜ (from ≤ r .next) × (r .next ≤ length (now (marks .entry))) × (r .at ≤ at + 160 * (r .next - from)) ⌝ }
 {

@@ -7,7 +7,7 @@ ghost use Rattle.task.specs.Rows.{between};
 ghost use Rattle.text.specs.Area.{Wrote};
 ghost use Rattle.pddl_text.specs.Pddl.{factText, notText, clauseText, conditionText};
 ghost use Rattle.pddl_text.specs.Rows.{rowText, markAt, listAt};
-ghost use Rattle.pddl_text.specs.Puts.{Puts};
+ghost use Rattle.pddl_text.specs.Puts.{Spells, Puts};
 use task::marks;
 use task::rows;
 
@@ -87,7 +87,7 @@ pub fn put_list(
 
 // Writes the clause that row `from` opens.
 fn put_clause(out: &mut [u8], at: usize, marks: &[u8], values: &[u8], from: usize) -> Spot
-    requires { ⌜ (4 * length (now marks) ≤ length (now values)) × (length (now marks) ≤ 12000) × (from < length (now marks)) × (at < 2 ^ 55) ⌝ }
+    requires { ⌜ (4 * length (now marks) ≤ length (now values)) × (length (now marks) ≤ 12000) × (from < length (now marks)) × (at < 2 ^ 55) × Spells clauseRows (between 4 5) (now marks) (now values) from ⌝ }
     ensures { λ r. ⌜ Puts clauseRows clauseText (between 4 5) (now (marks .entry)) (now (values .entry)) from (now (out .entry)) at r (now (out .exit)) ⌝ }
     ensures { λ r. ⌜ (from < r .next) × (r .next ≤ length (now (marks .entry))) × (r .at ≤ at + 30 * (r .next - from)) ⌝ }
 {
@@ -109,7 +109,7 @@ fn put_clause(out: &mut [u8], at: usize, marks: &[u8], values: &[u8], from: usiz
 
 // Writes the condition whose rows begin at `from`.
 pub fn put_condition(out: &mut [u8], at: usize, marks: &[u8], values: &[u8], from: usize) -> Spot
-    requires { ⌜ (4 * length (now marks) ≤ length (now values)) × (length (now marks) ≤ 12000) × (from ≤ length (now marks)) × (at < 2 ^ 54) ⌝ }
+    requires { ⌜ (4 * length (now marks) ≤ length (now values)) × (length (now marks) ≤ 12000) × (from ≤ length (now marks)) × (at < 2 ^ 54) × Spells conditionRows (between 3 5) (now marks) (now values) from ⌝ }
     ensures { λ r. ⌜ Puts conditionRows conditionText (between 3 5) (now (marks .entry)) (now (values .entry)) from (now (out .entry)) at r (now (out .exit)) ⌝ }
     ensures { λ r. ⌜ (from ≤ r .next) × (r .next ≤ length (now (marks .entry))) × (r .at ≤ at + 31 * (r .next - from) + 5) ⌝ }
 {

@@ -7,7 +7,7 @@ ghost use mathlib.Core.Path.{_≡_};
 ghost use Prim.Native.Nat.{_*_, _≤_};
 ghost use lib.ListN.{length};
 ghost use Rattle.task.specs.File.{taskOf};
-ghost use Rattle.pddl_text.specs.Puts.{Spelled};
+ghost use Rattle.pddl_text.specs.Puts.{SpelledOver};
 ghost use Rattle.pddl_text.specs.Outcomes.{refused, outcome, domainAfter, problemAfter};
 ghost use Rattle.pddl_text.specs.Answers.{answer, PutsTexts};
 use task::Checked;
@@ -39,7 +39,7 @@ fn put_texts(
     domain: &mut [u8],
     problem: &mut [u8],
 ) -> Outcome
-    requires { ⌜ (4 * length (now marks) ≤ length (now values)) × (length (now marks) ≤ 12000) × (facts ≤ 128) × Spelled (now marks) (now values) ⌝ }
+    requires { ⌜ (4 * length (now marks) ≤ length (now values)) × (length (now marks) ≤ 12000) × (facts ≤ 128) × SpelledOver facts (now marks) (now values) ⌝ }
     ensures { λ r. ⌜ PutsTexts (now (marks .entry)) (now (values .entry)) facts (now (domain .entry)) (now (problem .entry)) r (now (domain .exit)) (now (problem .exit)) ⌝ }
 {
     let mut nothing: [u8; 1] = [0; 1];

@@ -4,7 +4,7 @@ ghost use lib.ListN.{length};
 ghost use Rattle.task.specs.Lists.{numbers};
 ghost use Rattle.text.specs.Area.{Wrote};
 ghost use Rattle.pddl_text.specs.Pddl.{spaced, factText};
-ghost use Rattle.pddl_text.specs.Puts.{Spelled, PutsProblem, PutsDomain};
+ghost use Rattle.pddl_text.specs.Puts.{Spelled, ActionsOver, PutsProblem, PutsDomain};
 use super::actions;
 use super::conditions;
 use super::conditions::Spot;
@@ -49,7 +49,7 @@ pub fn put_problem(out: &mut [u8], marks: &[u8], values: &[u8]) -> Spot
 
 // Writes the domain; the first action stands at row `from`.
 pub fn put_domain(out: &mut [u8], facts: usize, marks: &[u8], values: &[u8], from: usize) -> usize
-    requires { ⌜ (4 * length (now marks) ≤ length (now values)) × (length (now marks) ≤ 12000) × (from ≤ length (now marks)) × (facts ≤ 128) ⌝ }
+    requires { ⌜ (4 * length (now marks) ≤ length (now values)) × (length (now marks) ≤ 12000) × (from ≤ length (now marks)) × (facts ≤ 128) × ActionsOver facts (now marks) (now values) from ⌝ }
     ensures { λ r. ⌜ PutsDomain (now (marks .entry)) (now (values .entry)) facts from (now (out .entry)) r (now (out .exit)) ⌝ }
 {
     let k = text::put_word(

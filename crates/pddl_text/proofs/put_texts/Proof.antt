@@ -9,13 +9,20 @@ slice-aggregate-put-problem : tie.Need-slice-aggregate-put-problem
 slice-aggregate-put-problem c = search needs
 
 put-problem-requires : tie.Need-put-problem-requires
-put-problem-requires c κs = search needs
+put-problem-requires c κs =
+    let start = c .before .before .before .before .before in
+    let (t, same, spelled) = start .pre .3 in
+    (search needs, search needs, (t, spelled))
 
 slice-aggregate-put-domain : tie.Need-slice-aggregate-put-domain
 slice-aggregate-put-domain c = search needs
 
 put-domain-requires : tie.Need-put-domain-requires
-put-domain-requires c κs = search needs
+put-domain-requires c κs =
+    let p = c .before .before in
+    let start = p .before .before .before .before .before .before in
+    let (t, same, spelled) = start .pre .3 in
+    (search needs, search needs, search needs, search needs, (t, same, p .put-problem .ensures .0 t spelled .1))
 
 refuse-requires : tie.Need-refuse-requires
 refuse-requires c κs = search needs
@@ -31,10 +38,20 @@ returns c = λ t spelled same.
     (c .refuse .ensures ∙ r, left)
 
 put-problem-requires-2 : tie.Need-put-problem-requires-2
-put-problem-requires-2 c κs = search needs
+put-problem-requires-2 c κs =
+    let g = c .before in
+    let p = g .before .before .before .before .before .before in
+    let start = p .before .before .before .before .before .before in
+    let (t, same, spelled) = start .pre .3 in
+    (search needs, search needs, (t, spelled))
 
 put-domain-requires-2 : tie.Need-put-domain-requires-2
-put-domain-requires-2 c κs = search needs
+put-domain-requires-2 c κs =
+    let g = c .before .before .before .before .before in
+    let p = g .before .before .before .before .before .before in
+    let start = p .before .before .before .before .before .before in
+    let (t, same, spelled) = start .pre .3 in
+    (search needs, search needs, search needs, search needs, (t, same, p .put-problem .ensures .0 t spelled .1))
 
 same-length : tie.Need-same-length
 same-length c = search needs

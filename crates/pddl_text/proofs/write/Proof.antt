@@ -6,7 +6,7 @@ use lib.ListN.{length, length-take, length-drop}
 use Rattle.task.specs.File.{taskOf}
 use Rattle.task.specs.Answers.{answer as checked, asSizes}
 use Rattle.task.proofs.Answered.{lengths}
-use Rattle.pddl_text.proofs.Answering.{turned-down, has-preferences, few-facts, spelled, texts-put}
+use Rattle.pddl_text.proofs.Answering.{turned-down, has-preferences, few-facts, facts, spelled, texts-put}
 use borrow.Author.Needs.{needs}
 use Rattle.pddl_text.proofs.write.Statement.{statement}
 use Rattle.pddl_text.proofs.write.Tie as tie
@@ -80,6 +80,7 @@ put-texts-requires c κs =
       few-facts (now (a .file)) (now (a .domain)) (now (a .problem)) (k .check .result) (k .check .ensures) (n .before .c .given .0 .0) (n .before .c .given .1),
       (
         taskOf (now (a .file)),
+        facts (now (a .file)) (now (a .domain)) (now (a .problem)) (k .check .result) (k .check .ensures) (n .before .c .given .0 .0) (n .before .c .given .1),
         spelled (now (a .file)) (now (a .domain)) (now (a .problem)) (k .check .result) (k .check .ensures) (n .before .c .given .0 .0) (n .before .c .given .1),
       ),
     )

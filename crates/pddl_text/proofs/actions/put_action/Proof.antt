@@ -6,7 +6,7 @@ use denote.Ref.{now}
 use Rattle.text.specs.Ascii.{ascii}
 use Rattle.text.specs.Text.{decimal}
 use Rattle.text.specs.Area.{Wrote}
-use Rattle.pddl_text.proofs.LineRows.{line-put}
+use Rattle.pddl_text.proofs.LineRows.{its-precondition, its-effects, line-put}
 use borrow.Author.Needs.{needs}
 use Rattle.pddl_text.proofs.actions.put_action.Statement.{statement}
 use Rattle.pddl_text.proofs.actions.put_action.Tie as tie
@@ -27,7 +27,10 @@ add-put-condition : tie.Need-add-put-condition
 add-put-condition c = search needs
 
 put-condition-requires : tie.Need-put-condition-requires
-put-condition-requires c κs = search needs
+put-condition-requires c κs =
+    let start = c .before .before .before .before .before .before .before .before .before .before .before in
+    let a = start .args in
+    (search needs, search needs, search needs, search needs, its-precondition (now (a .marks)) (now (a .values)) (a .from) (start .pre .4))
 
 slice-aggregate-put-number-3 : tie.Need-slice-aggregate-put-number-3
 slice-aggregate-put-number-3 c = search needs
@@ -42,7 +45,17 @@ put-number-requires-2 : tie.Need-put-number-requires-2
 put-number-requires-2 c κs = search needs
 
 put-effects-requires : tie.Need-put-effects-requires
-put-effects-requires c κs = search needs
+put-effects-requires c κs =
+    let p = c .before .before .before .before .before .before .before .before .before in
+    let n = p .before .before .before .before in
+    let start = n .before .before .before .before .before .before .before .before in
+    let a = start .args in (
+      search needs,
+      search needs,
+      search needs,
+      search needs,
+      its-effects (now (a .marks)) (now (a .values)) (a .from) (n .put-number .last .0) (n .put-number .result) (p .put-condition .result) (p .put-condition .last .0) (p .put-condition .ensures .0) (start .pre .4),
+    )
 
 slice-aggregate-put-word : tie.Need-slice-aggregate-put-word
 slice-aggregate-put-word c = search needs

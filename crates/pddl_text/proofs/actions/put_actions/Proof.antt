@@ -4,7 +4,7 @@ use Prim.Native.Nat.{_+_, _*_, _-_, _≤_, _<_}
 use denote.Ref.{now}
 use lib.ListN.{length}
 use Rattle.pddl_text.proofs.Listing.{there}
-use Rattle.pddl_text.proofs.Emitting.{Looping, looping, looped, all-done}
+use Rattle.pddl_text.proofs.Emitting.{Looping, looping, loop-part, looped, all-done}
 use Rattle.pddl_text.proofs.LineRows.{actions}
 use Rattle.pddl_text.proofs.actions.put_actions.Statement.{statement}
 use Rattle.pddl_text.proofs.actions.put_actions.Tie as tie
@@ -32,7 +32,22 @@ has-mark-requires : tie.Need-has-mark-requires Inv-loop μ-loop
 has-mark-requires c κs = search needs
 
 put-action-requires : tie.Need-put-action-requires Inv-loop μ-loop
-put-action-requires c κs = let h = read (c .before) in let b = c .before .before .before .loop .inv .2 .begun in search needs
+put-action-requires c κs =
+    let g = c .before in
+    let t = g .before in
+    let l = t .before in
+    let start = l .before .before .before .before in
+    let a = start .args in
+    let L = l .loop .inv .2 in
+    let h = read g in
+    let begun = L .begun in (
+      search needs,
+      search needs,
+      search needs,
+      search needs,
+      loop-part actions (now (a .marks)) (now (a .values)) (now (a .out)) (a .at) (a .from) (l .loop .out) (l .loop .k) (l .loop .i) (l .loop .n) L
+          (sym (t .has-mark .ensures) ∙ g .if1 .taken) (start .pre .4),
+    )
 
 add-n : tie.Need-add-n Inv-loop μ-loop
 add-n c = let b = c .before .before .before .before .before .before .loop .inv .2 .rows-left in search needs

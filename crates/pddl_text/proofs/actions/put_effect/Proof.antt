@@ -1,5 +1,5 @@
 use denote.Ref.{now}
-use Rattle.pddl_text.proofs.EffectRows.{effect-put}
+use Rattle.pddl_text.proofs.EffectRows.{its-condition, effect-put}
 use borrow.Author.Needs.{needs}
 use Rattle.pddl_text.proofs.actions.put_effect.Statement.{statement}
 use Rattle.pddl_text.proofs.actions.put_effect.Tie as tie
@@ -14,7 +14,10 @@ add-put-condition : tie.Need-add-put-condition
 add-put-condition c = search needs
 
 put-condition-requires : tie.Need-put-condition-requires
-put-condition-requires c κs = search needs
+put-condition-requires c κs =
+    let start = c .before .before .before .before .before .before .before .before .before in
+    let g = start .args in
+    (search needs, search needs, search needs, search needs, its-condition (now (g .marks)) (now (g .values)) (g .from) (start .pre .4))
 
 slice-aggregate-put-word-2 : tie.Need-slice-aggregate-put-word-2
 slice-aggregate-put-word-2 c = search needs

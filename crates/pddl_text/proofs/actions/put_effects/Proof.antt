@@ -5,7 +5,7 @@ use denote.Ref.{now}
 use lib.ListN.{length}
 use Rattle.text.proofs.Writing.{then}
 use Rattle.pddl_text.proofs.Listing.{there}
-use Rattle.pddl_text.proofs.Emitting.{Looping, looping, looped, all-done}
+use Rattle.pddl_text.proofs.Emitting.{Looping, looping, loop-part, looped, all-done}
 use Rattle.pddl_text.proofs.EffectRows.{effects}
 use Rattle.pddl_text.proofs.actions.put_effects.Statement.{statement}
 use Rattle.pddl_text.proofs.actions.put_effects.Tie as tie
@@ -36,7 +36,20 @@ put-byte-requires : tie.Need-put-byte-requires Inv-loop μ-loop
 put-byte-requires c κs = let h = read (c .before) in search needs
 
 put-effect-requires : tie.Need-put-effect-requires Inv-loop μ-loop
-put-effect-requires c κs = let h = read (c .before .before .before .before .before) in search needs
+put-effect-requires c κs =
+    let g = c .before .before .before .before .before in
+    let t = g .before in
+    let l = t .before in
+    let start = l .before .before .before .before in
+    let a = start .args in
+    let h = read g in (
+      search needs,
+      search needs,
+      search needs,
+      search needs,
+      loop-part effects (now (a .marks)) (now (a .values)) (now (a .out)) (a .at) (a .from) (l .loop .out) (l .loop .k) (l .loop .i) (l .loop .inv .1) (l .loop .inv .2)
+          (sym (t .has-mark .ensures) ∙ g .if1 .taken) (start .pre .4),
+    )
 
 loop-less : tie.Need-loop-less Inv-loop μ-loop
 loop-less c = search needs

@@ -5,7 +5,7 @@ use denote.Ref.{now}
 use lib.ListN.{length}
 use Rattle.text.proofs.Writing.{then}
 use Rattle.pddl_text.proofs.Listing.{there}
-use Rattle.pddl_text.proofs.Emitting.{Looping, looping, looped, all-done}
+use Rattle.pddl_text.proofs.Emitting.{Looping, looping, loop-part, looped, all-done}
 use Rattle.pddl_text.proofs.ClauseRows.{clauses}
 use Rattle.pddl_text.proofs.conditions.put_condition.Statement.{statement}
 use Rattle.pddl_text.proofs.conditions.put_condition.Tie as tie
@@ -43,7 +43,22 @@ put-byte-requires : tie.Need-put-byte-requires Inv-loop μ-loop
 put-byte-requires c κs = let h = read (c .before) in search needs
 
 put-clause-requires : tie.Need-put-clause-requires Inv-loop μ-loop
-put-clause-requires c κs = let h = read (c .before .before .before .before .before) in search needs
+put-clause-requires c κs =
+    let s = c .before .before .before in
+    let g = s .before .before in
+    let t = g .before in
+    let l = t .before in
+    let w = l .before .before .before in
+    let start = w .before .before .before .before .before .before in
+    let a = start .args in
+    let h = read g in (
+      search needs,
+      search needs,
+      search needs,
+      search needs,
+      loop-part clauses (now (a .marks)) (now (a .values)) (w .put-word .last .0) (w .put-word .result) (a .from) (l .loop .out) (l .loop .k) (l .loop .i) (l .loop .inv .2) (l .loop .inv .3)
+          (sym (t .has-mark .ensures) ∙ g .if1 .taken) (start .pre .4),
+    )
 
 loop-less : tie.Need-loop-less Inv-loop μ-loop
 loop-less c = search needs

@@ -1,5 +1,5 @@
 use denote.Ref.{now}
-use Rattle.pddl_text.proofs.TextRows.{domain-put}
+use Rattle.pddl_text.proofs.TextRows.{its-actions, domain-put}
 use borrow.Author.Needs.{needs}
 use Rattle.pddl_text.proofs.texts.put_domain.Statement.{statement}
 use Rattle.pddl_text.proofs.texts.put_domain.Tie as tie
@@ -20,7 +20,13 @@ put-word-requires-2 : tie.Need-put-word-requires-2
 put-word-requires-2 c κs = search needs
 
 put-actions-requires : tie.Need-put-actions-requires
-put-actions-requires c κs = search needs
+put-actions-requires c κs =
+    let w = c .before .before .before in
+    let f = w .before .before .before .before .before in
+    let h = f .before .before .before .before in
+    let start = h .before .before .before .before .before .before in
+    let a = start .args in
+    (search needs, search needs, search needs, search needs, its-actions (now (a .marks)) (now (a .values)) (a .facts) (a .from) (start .pre .4))
 
 slice-aggregate-put-word-3 : tie.Need-slice-aggregate-put-word-3
 slice-aggregate-put-word-3 c = search needs

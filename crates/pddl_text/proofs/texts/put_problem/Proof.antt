@@ -2,7 +2,7 @@ use native.Mathlib.Omega.{arith}
 use Prim.Native.Nat.{_+_, _≤_}
 use denote.Ref.{now}
 use lib.ListN.{length}
-use Rattle.pddl_text.proofs.TextRows.{goal-within, problem-put}
+use Rattle.pddl_text.proofs.TextRows.{goal-within, its-goal, problem-put}
 use borrow.Author.Needs.{needs}
 use Rattle.pddl_text.proofs.texts.put_problem.Statement.{statement}
 use Rattle.pddl_text.proofs.texts.put_problem.Tie as tie
@@ -33,7 +33,13 @@ add-put-condition : tie.Need-add-put-condition
 add-put-condition c = search needs
 
 put-condition-requires : tie.Need-put-condition-requires
-put-condition-requires c κs = let h = within (c .before .before .before .before .before .before .before .before .before) in search needs
+put-condition-requires c κs =
+    let l = c .before .before .before .before .before .before .before .before .before in
+    let start = l .before .before .before .before .before .before .before .before .before .before in
+    let a = start .args in
+    let (t, spelled) = start .pre .2 in
+    let h = within l in
+    (search needs, search needs, search needs, search needs, its-goal (now (a .marks)) (now (a .values)) t spelled (l .put-list .result .next) (l .put-list .ensures .1 .0))
 
 slice-aggregate-put-word-3 : tie.Need-slice-aggregate-put-word-3
 slice-aggregate-put-word-3 c = search needs
