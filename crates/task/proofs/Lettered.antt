@@ -2,13 +2,13 @@
 use mathlib.Core.Path.{_≡_, refl}
 use mathlib.Core.Bool.{true, false, cond}
 use mathlib.Core.List.{List, [], _∷_, map}
-use Prim.Native.Nat.{ℕ}
+use Prim.Native.Nat.{ℕ, _-_}
 use Prim.Native.Char.{Char}
+use lib.ListN.{getD}
 use Rattle.task.specs.Lists.{one}
-use Rattle.task.specs.Task.{Kind, always, sometime, at-end, at-most-once, sometime-before, sometime-after, Action}
+use Rattle.task.specs.Task.{Kind, always, sometime, at-end, at-most-once, sometime-before, sometime-after, Condition, Action, Preference, Task, two-sided}
 use Rattle.task.specs.File.{taskOf}
-use Rattle.task.specs.Meaning.{after, Seen, neither, metric}
-use Rattle.task.specs.Meaning.{met as isMet}
+use Rattle.task.specs.Meaning.{after, isMet, metric}
 
 pub data Outcome : Type 0 where
   met missed held lacking : Outcome
@@ -23,19 +23,50 @@ pub record Example : Type 0 where
 abbrev example : Char → Outcome → Outcome → Example
 example l g s = record { letter = l; given = g; said = s }
 
--- A preference by its states: φ alone, ψ alone, both or neither
+-- A task whose states are by number: fact 0 is φ, fact 1 is ψ, and action n leads to state n
 
-abbrev φ : Seen
-φ = record { φ = true; ψ = false }
+abbrev neither : ℕ
+neither = 0
 
-abbrev ψ : Seen
-ψ = record { φ = false; ψ = true }
+abbrev φ : ℕ
+φ = 1
 
-abbrev both : Seen
-both = record { φ = true; ψ = true }
+abbrev ψ : ℕ
+ψ = 2
 
-abbrev outcome : Kind → List Seen → Outcome
-outcome k xs = cond (isMet k xs) met missed
+abbrev both : ℕ
+both = 3
+
+abbrev facts-of : ℕ → List ℕ
+facts-of n = getD ([] ∷ one 0 ∷ one 1 ∷ (0 ∷ 1 ∷ []) ∷ []) n []
+
+abbrev holding : ℕ → Condition
+holding n = one (one (record { holds = true; fact = n }))
+
+abbrev leading : ℕ → Action
+leading n =
+    record {
+      cost = 0;
+      precondition = [];
+      effects = one (record { condition = []; adds = facts-of n; deletes = facts-of (both - n) });
+    }
+
+abbrev rule : Kind → Preference
+rule k = record { kind = k; weight = 1; first = holding 0; second = cond (two-sided k) (holding 1) [] }
+
+abbrev small : Kind → ℕ → Task
+small k n =
+    record {
+      facts = 2;
+      start = facts-of n;
+      goal = [];
+      actions = map leading (neither ∷ φ ∷ ψ ∷ both ∷ []);
+      preferences = one (rule k);
+    }
+
+-- a rule of kind k, from state n on, by a plan
+abbrev outcome : Kind → ℕ → List ℕ → Outcome
+outcome k n p = cond (isMet (small k n) p (rule k)) met missed
 
 -- The belt's 98 bytes: sizes, marks, values
 abbrev pub belt : List ℕ
@@ -54,16 +85,16 @@ addsAndDeletes = record { cost = 0; precondition = []; effects = one (record { c
 
 abbrev pub examples : List Example
 examples =
-    example "a" (outcome always (neither ∷ [])) missed
-    ∷ example "b" (outcome sometime (φ ∷ [])) met
-    ∷ example "c" (outcome at-end (φ ∷ neither ∷ [])) missed
-    ∷ example "d" (outcome at-most-once (φ ∷ φ ∷ neither ∷ [])) met
-    ∷ example "e" (outcome at-most-once (φ ∷ neither ∷ φ ∷ [])) missed
-    ∷ example "f" (outcome at-most-once (neither ∷ neither ∷ [])) met
-    ∷ example "g" (outcome sometime-before (both ∷ neither ∷ [])) missed
-    ∷ example "h" (outcome sometime-before (ψ ∷ φ ∷ [])) met
-    ∷ example "i" (outcome sometime-after (neither ∷ both ∷ [])) met
-    ∷ example "j" (outcome sometime-after (φ ∷ ψ ∷ [])) met
+    example "a" (outcome always neither []) missed
+    ∷ example "b" (outcome sometime φ []) met
+    ∷ example "c" (outcome at-end φ (neither ∷ [])) missed
+    ∷ example "d" (outcome at-most-once φ (φ ∷ neither ∷ [])) met
+    ∷ example "e" (outcome at-most-once φ (neither ∷ φ ∷ [])) missed
+    ∷ example "f" (outcome at-most-once neither (neither ∷ [])) met
+    ∷ example "g" (outcome sometime-before both (neither ∷ [])) missed
+    ∷ example "h" (outcome sometime-before ψ (φ ∷ [])) met
+    ∷ example "i" (outcome sometime-after neither (both ∷ [])) met
+    ∷ example "j" (outcome sometime-after φ (ψ ∷ [])) met
     ∷ example "k" (metric-of (metric (taskOf belt) (one 0))) (metric-of 8)
     ∷ example "l" (cond (after (λ n. false) addsAndDeletes 0) held lacking) held
     ∷ []
