@@ -15,3 +15,7 @@ pub mod Faithful
 pub mod Spellable
 pub mod Written
 pub mod Examples
+-- Document 01's attacks
+pub mod Before
+pub mod Wrong
+pub mod Refuted
