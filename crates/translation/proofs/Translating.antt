@@ -10,7 +10,7 @@ use lib.Seq.{sets, sets-eq, length-sets, take-at, drop-append-add, drop-drop}
 use borrow.Author.Tests.{le-leb, lt-leb, leb-true}
 use Rattle.task.specs.Task.{Task, Row, taskRows}
 use Rattle.task.specs.File
-use Rattle.task.specs.File.{paired, sizesOf, taskOf, bytes16, fileOf}
+use Rattle.task.specs.File.{paired, sizes, sizesOf, taskOf, bytes16, fileOf}
 use Rattle.task.specs.Check
 use Rattle.task.specs.Check.{check}
 use Rattle.task.specs.Answers.{answer as checked, asSizes, refusalIn}
@@ -144,9 +144,17 @@ module _ (b area : List ℕ) (n : ℕ) where
           let d : Written b z = written-file b z e (leb-true (z .facts + 3 * z .preferences + 2 + further (taskOf b .preferences)) 128 p) (leb-true (z .actions + 2 * z .preferences + 1) 128 q)
           (leb-true (compiledRows b) 12000 r) in
           let front : take n (compiled b ++ drop n area) ≡ compiled b = first-bytes (sym (same-written (8 + 5 * compiledRows b) n h)) in
+          let own : z ≡ sizes b = accepted-spelling b z e .same in
+          let sized : sizesOf (taskOf b) ≡ sizes b = accepted-spelling b z e .sized ∙ own in
           record {
-            accepting = ap check front ∙ d .accepting ∙ ap (λ (y : File.Sizes). Check.accepted (translatedSizes y (further (taskOf b .preferences)) (compiledRows b))) (accepted-spelling b z e .same);
+            accepting = ap check front ∙ d .accepting ∙ ap (λ (y : File.Sizes). Check.accepted (translatedSizes y (further (taskOf b .preferences)) (compiledRows b))) own;
             faithfully = subst⁻¹ (λ (l : List ℕ). Faithful (taskOf b) (taskOf l)) front (d .faithfully);
+            source-actions = ap (λ (y : File.Sizes). y .actions) sized;
+            written-actions =
+                ap (λ (l : List ℕ). length (taskOf l .actions)) front
+                ∙ ap (λ (t : Task). length (t .actions)) (d .reading)
+                ∙ ap (λ (y : File.Sizes). y .actions) (translated-sizes (taskOf b))
+                ∙ ap (λ (y : File.Sizes). y .actions + 2 * y .preferences + 1) sized;
           }
 
   delivered : outcome b (length area) ≡ written n → Delivered b (compiled b ++ drop n area) n

@@ -4,7 +4,7 @@ use mathlib.Core.Bool.{Bool, cond, _&&_}
 use mathlib.Core.List.{List}
 use Prim.Native.Nat.{ℕ, _+_, _*_}
 use lib.Dec.{leb}
-use lib.ListN.{take}
+use lib.ListN.{length, take}
 use Rattle.task.specs.File.{Sizes, sizes, taskOf}
 use Rattle.task.specs.Check
 use Rattle.task.specs.Check.{Answer, check}
@@ -28,7 +28,10 @@ outcomeBy b room (Check.accepted z) = cond (smallEnough z (further (taskOf b .pr
 unfoldable pub outcome : List ℕ → ℕ → Outcome
 outcome b room = outcomeBy b room (check b)
 
--- demand 3: the first n bytes of the area hold a task that is faithful to the one in b
+-- demand 3: the first n bytes of the area hold a task that is faithful to the one in b. A and P being the sizes in b, source
+-- steps are the numbers below A, and the steps of a solution numbers below A + 2P + 1
 pub record Delivered (b area : List ℕ) (n : ℕ) : Type 0 where
   pub accepting : check (take n area) ≡ Check.accepted (translatedSizes (sizes b) (further (taskOf b .preferences)) (compiledRows b))
   pub faithfully : Faithful (taskOf b) (taskOf (take n area))
+  pub source-actions : length (taskOf b .actions) ≡ sizes b .actions
+  pub written-actions : length (taskOf (take n area) .actions) ≡ sizes b .actions + 2 * sizes b .preferences + 1
