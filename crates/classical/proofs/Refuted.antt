@@ -17,7 +17,7 @@ use Rattle.classical.proofs.Runs.{wins, solves-win}
 use Rattle.classical.proofs.Faithful.{faithful}
 use Rattle.classical.proofs.Wrong.{Translator, translatedBy, opens, inSource, inEnd, ends, forgone, right}
 use Rattle.classical.proofs.Wrong.{fixed, never-ends, opening-only, follows-first, last-only, all-but-last, reads-reached}
-use Rattle.classical.proofs.Wrong.{counts-states, forgo-met, own-state, denied-at-once, one-step-less, late-forgiven}
+use Rattle.classical.proofs.Wrong.{counts-states, forgo-met, own-state, denied-at-once, one-step-less, one-step-more, late-forgiven}
 
 -- What shows that a task c is not faithful to a source s, and the test that it does
 
@@ -88,6 +88,7 @@ attacks =
     ∷ attack own-state (lit (one (rule sometime-before fact0 fact0))) (mispriced (0 ∷ 1 ∷ 2 ∷ []))
     ∷ attack denied-at-once (lit (one (rule always (alone (holdsFact 0 ∷ holdsFact 1 ∷ [])) []))) (mispriced (1 ∷ 2 ∷ []))
     ∷ attack one-step-less (lit (one (rule (within 1) fact0 []))) (mispriced (0 ∷ 1 ∷ 3 ∷ []))
+    ∷ attack one-step-more (lit (one (rule (always-within 0) [] fact0))) (mispriced (0 ∷ 1 ∷ 2 ∷ []))
     ∷ attack late-forgiven (lit (one (rule (always-within 0) [] fact0))) (mispriced (0 ∷ 1 ∷ 2 ∷ []))
     ∷ []
 

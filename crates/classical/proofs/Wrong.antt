@@ -1,5 +1,5 @@
 -- Wrong translators, each the right one with a part replaced: what document 01 says a reviewer will try, and its mistakes that
--- would pass a quick test, and two more about deadlines.
+-- would pass a quick test, and three more about deadlines.
 use mathlib.Core.Path.{_≡_, refl}
 use mathlib.Core.Bool.{Bool, true, false, cond}
 use mathlib.Core.List.{List, [], _∷_, _++_, map}
@@ -8,7 +8,7 @@ use lib.Dec.{eqb}
 use lib.ListN.{length}
 use Rattle.task.specs.Lists.{one, concatMap, concatFrom, sum}
 use Rattle.task.specs.Marks.{ALWAYS, AT-MOST-ONCE, SOMETIME-BEFORE, WITHIN, ALWAYS-WITHIN}
-use Rattle.task.specs.Task.{Kind, within, Clause, Condition, Effect, Action, Preference, Task, kindMark, stepsRows}
+use Rattle.task.specs.Task.{Kind, within, always-within, Clause, Condition, Effect, Action, Preference, Task, kindMark, stepsRows}
 use Rattle.task.specs.File.{values}
 use Rattle.task.specs.Meaning.{isTrue, opening, preferenceAt}
 use Rattle.classical.specs.Translation.{holdsFact, lacksFact, deny, alone, effect, factS, factB, normal, ended, further, beforeD}
@@ -89,6 +89,13 @@ right-trackers t = refl
 abbrev pub instead : ℕ → Trackers → Trackers
 instead m f k = cond (eqb (kindMark k) m) (f k) (trackersOf k)
 
+-- The right translation of other preferences: f of each
+
+abbrev pub translatedAs : (Preference → Preference) → Translator
+translatedAs f t =
+    translated
+    (record { facts = t .facts; start = t .start; goal = t .goal; actions = t .actions; preferences = map f (t .preferences) })
+
 -- What a reviewer will try
 
 -- one fixed task that nothing solves: its goal is a fact that no action adds
@@ -110,10 +117,7 @@ opening-only =
 abbrev pub follows-first : Translator
 follows-first t =
     let q : Preference = preferenceAt t 0 in
-    let copy : Preference → Preference =
-    λ (p : Preference). record { kind = q .kind; weight = p .weight; first = q .first; second = q .second } in
-    translated
-    (record { facts = t .facts; start = t .start; goal = t .goal; actions = t .actions; preferences = map copy (t .preferences) })
+    translatedAs (λ (p : Preference). record { kind = q .kind; weight = p .weight; first = q .first; second = q .second }) t
 
 -- Mistakes that would pass a quick test
 
@@ -164,9 +168,19 @@ denied-at-once =
 abbrev pub steps : Kind → ℕ
 steps k = sum (values (stepsRows k))
 
+-- a preference of another kind
+abbrev pub of-kind : Kind → Preference → Preference
+of-kind k p = record { kind = k; weight = p .weight; first = p .first; second = p .second }
+
 -- within t is followed as within t − 1
 abbrev pub one-step-less : Translator
-one-step-less = byTrackers (instead WITHIN (λ k last S B E φ ψ. trackersOf (within (steps k - 1)) last S B E φ ψ))
+one-step-less =
+    translatedAs (λ (p : Preference). cond (eqb (kindMark (p .kind)) WITHIN) (of-kind (within (steps (p .kind) - 1)) p) p)
+
+-- always-within t is followed as always-within t + 1
+abbrev pub one-step-more : Translator
+one-step-more =
+    translatedAs (λ (p : Preference). cond (eqb (kindMark (p .kind)) ALWAYS-WITHIN) (of-kind (always-within (steps (p .kind) + 1)) p) p)
 
 -- always-within: ψ deletes B, also where it comes too late
 abbrev pub late-forgiven : Translator
