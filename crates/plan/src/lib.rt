@@ -81,10 +81,10 @@ pub fn walk(file: &[u8], plan: &[u8]) -> Walked
     let Checked::Accepted(z) = c else {
         return Walked::Refused(task::refusal_of(c));
     };
-    let known = steps_known(z.actions, plan);
     if 2048 < plan.len() {
         return refuse(10, 0);
     }
+    let known = steps_known(z.actions, plan);
     if known < plan.len() {
         return refuse(11, known as u16);
     }

@@ -38,19 +38,19 @@ returns c =
     turned-down (now (a .file)) (now (a .plan)) (k .check .result) (k .check .ensures) (c .before .enum-told .given .0 .0) (c .before .enum-told .given .1)
     (c .refusal-of .result) (c .refusal-of .ensures)
 
-steps-known-requires : tie.Need-steps-known-requires
-steps-known-requires c κs = search needs
-
 refuse-requires : tie.Need-refuse-requires
 refuse-requires c κs = search needs
 
 returns-2 : tie.Need-returns-2
 returns-2 c =
-    let n = c .before .before .before in
+    let n = c .before .before in
     let k = n .before .before .before in
     let a = k .before .before .before .args in
     c .refuse .ensures
     ∙ too-long (now (a .file)) (now (a .plan)) (k .check .result) (k .check .ensures) (n .before .c .given .0 .0) (n .before .c .given .1) (search needs)
+
+steps-known-requires : tie.Need-steps-known-requires
+steps-known-requires c κs = search needs
 
 cast-refuse : tie.Need-cast-refuse
 cast-refuse c = search needs
@@ -60,8 +60,8 @@ refuse-requires-2 c κs = search needs
 
 returns-3 : tie.Need-returns-3
 returns-3 c =
-    let s = c .before .before .before in
-    let n = s .before in
+    let s = c .before .before in
+    let n = s .before .before in
     let k = n .before .before .before in
     let a = k .before .before .before .args in
     c .refuse2 .ensures
@@ -92,8 +92,8 @@ part-run-end-2 c = let h = parts (c .before .before .before .before .before) in 
 
 run-requires : tie.Need-run-requires
 run-requires c κs =
-    let s = c .before .before .before .before .before in
-    let n = s .before in
+    let s = c .before .before .before .before in
+    let n = s .before .before in
     let k = n .before .before .before in
     let a = k .before .before .before .args in
     let h = parts n in (
@@ -104,8 +104,8 @@ run-requires c κs =
 
 returns-4 : tie.Need-returns-4
 returns-4 c =
-    let s = c .before .before .before .before .before .before in
-    let n = s .before in
+    let s = c .before .before .before .before .before in
+    let n = s .before .before in
     let k = n .before .before .before in
     let a = k .before .before .before .args in
     run-on (now (a .file)) (now (a .plan)) (k .check .result) (k .check .ensures) (n .before .c .given .0 .0) (n .before .c .given .1) (search needs)
@@ -120,9 +120,9 @@ walk-spec =
     enum-told
     refusal-of-requires
     returns
-    steps-known-requires
     refuse-requires
     returns-2
+    steps-known-requires
     cast-refuse
     refuse-requires-2
     returns-3
