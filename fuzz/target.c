@@ -10,7 +10,7 @@
 #include <string.h>
 #include <sys/mman.h>
 
-enum { PAGE = 4096, GUARD = 0xA5, GUARDS = 64, TEXT = 2048 };
+enum { PAGE = 4096, GUARD = 0xA5, GUARDS = 64, TEXT = ROUTE_RULES_MAX_REPORT };
 
 /* `room` bytes between two pages without access. */
 typedef struct { uint8_t *base; size_t room; } Pages;
@@ -162,16 +162,24 @@ static void try_translate(Area file, size_t room, int at_end)
         untouched(out.at, room);
 }
 
+/* A report is refused as walk is, and then by 9. */
 static void try_report(Area file, Area plan, size_t room, int at_end)
 {
-    Area text = lend(text_pages, room, at_end);
-    size_t length = route_rules_report(file.at, file.length, plan.at, plan.length, text.at, room);
+    uint64_t words[8], walked[8];
+    Area answer = lend(answer_pages, 64, at_end), text = lend(text_pages, room, at_end);
+    uint32_t number = route_rules_report(file.at, file.length, plan.at, plan.length, text.at, room,
+                                         (route_rules_reported *)answer.at);
+    uint32_t refused = plain_walk(file.at, file.length, plan.at, plan.length, walked);
+    size_t length = number == 0 ? ((const route_rules_reported *)answer.at)->length : 0;
+    memset(words, 0, sizeof words);
+    words[0] = refused != 0 ? walked[0] : 0;
+    words[1] = length;
+    same_answer(number, answer, refused != 0 ? refused : number, words);
     guarded(text);
-    if (length < 9 || length > TEXT) fail("a report of another length");
-    if (length < room) {
-        untouched(text.at + length, room - length);
-        if (text.at[length - 1] != '\n') fail("a report without a last newline");
-    }
+    if (refused == 0 && number != 0 && (number != ROUTE_RULES_SHORT_OUTPUT || room >= TEXT)) fail("a refusal that is not report's");
+    if (length > room) fail("a report longer than its area");
+    untouched(text.at + length, room - length);
+    if (number == 0 && (length < 10 || text.at[length - 1] != '\n')) fail("a report without a line");
 }
 
 /* ---- inputs */

@@ -8,8 +8,9 @@
  * An area is a pointer and its length in bytes. The pointer is never NULL, also where the length is 0. The areas of one
  * call do not overlap, unless both are only read.
  *
- * All functions but report return 0, or the number of a refusal. They write every word of the answer: where a call is
- * refused `place` says where and all else is 0, where it is not `place` is 0. A refusal leaves every other area as it was.
+ * Every function returns 0, or the number of a refusal, and that is never 0 (crates/route_rules/proofs/Done.antt). It writes
+ * every word of the answer: where a call is refused `place` says where and all else is 0, where it is not `place` is 0. A
+ * refusal leaves every other area as it was.
  * `spare` is 0. A later release may give a spare word a meaning, and adds functions and refusals, but moves nothing. */
 #ifndef ROUTE_RULES_H
 #define ROUTE_RULES_H
@@ -38,14 +39,17 @@ extern "C" {
 /* An area of this length is never too short for a domain or a problem in PDDL. */
 #define ROUTE_RULES_MAX_PDDL 262144
 
-/* That no area of these three lengths is refused by 9 or 14 is proved: never-too-short in crates/plan_text/proofs/Longest.antt,
- * crates/translation/proofs/Longest.antt and crates/pddl_text/proofs/Longest.antt; that no accepted file is longer than
- * MAX_FILE: longest in crates/task/proofs/Longest.antt. */
+/* An area of this length is never too short for a report. */
+#define ROUTE_RULES_MAX_REPORT 2048
+
+/* That no area of these four lengths is refused by 9 or 14 is proved: never-too-short in crates/plan_text/proofs/Longest.antt,
+ * crates/translation/proofs/Longest.antt and crates/pddl_text/proofs/Longest.antt, and Longest of report; that no accepted file
+ * is longer than MAX_FILE: longest in crates/task/proofs/Longest.antt. */
 
 /* Refusals, with their place. 1 to 3 are tried in order. Rows then go from the first; the first faulty row decides, 4 before
  * 5 on one row; 6 comes after all rows. 7 to 9 are translate's, 10 and 11 walk's, in that order, after 1 to 6.
  * Of a plan's text 12 comes after 6, and before 10 and 11; reading alone is refused by 12, then 10, then 9. 13 and 14 are
- * pddl's, in that order, after 1 to 6; 15 is settle's, after 1 to 6. */
+ * pddl's, in that order, after 1 to 6; 15 is settle's, after 1 to 6. A report is refused as walk is, and then by 9. */
 enum {
     ROUTE_RULES_SHORT_FILE = 1,       /* under 8 bytes; 0 */
     ROUTE_RULES_SIZE = 2,             /* a size out of range; 0 */
@@ -165,17 +169,25 @@ typedef struct route_rules_texts {
 uint32_t route_rules_pddl(const uint8_t *file, size_t file_length, uint8_t *domain, size_t domain_length, uint8_t *problem,
                           size_t problem_length, route_rules_texts *answer);
 
+/* The length of the text in bytes. */
+typedef struct route_rules_reported {
+    uint64_t place;
+    uint64_t length;
+    uint64_t spare[6];
+} route_rules_reported;
+
+/* Writes the lines of program judge about a plan on the task in a file into the first `length` bytes of the output and no
+ * others; or it is refused by 1 to 6, 10, 11 or 9, and the output is as it was. */
+uint32_t route_rules_report(const uint8_t *file, size_t file_length, const uint8_t *plan, size_t plan_length, uint8_t *out,
+                            size_t out_length, route_rules_reported *answer);
+
 /* Every answer has eight words; the functions write them all. */
 typedef char route_rules_answers_have_eight_words[sizeof(route_rules_checked) == 64 && sizeof(route_rules_translated) == 64 &&
                                                           sizeof(route_rules_walked) == 64 && sizeof(route_rules_settled) == 64 &&
-                                                          sizeof(route_rules_listed) == 64 && sizeof(route_rules_texts) == 64
+                                                          sizeof(route_rules_listed) == 64 && sizeof(route_rules_texts) == 64 &&
+                                                          sizeof(route_rules_reported) == 64
                                                       ? 1
                                                       : -1];
-
-/* Writes the lines of program judge about a plan on the task in a file, or its line of a refusal: as much of the text as the
- * area has room for, and nothing behind it. It returns the length of the whole text; 2,048 bytes hold every text. */
-size_t route_rules_report(const uint8_t *file, size_t file_length, const uint8_t *plan, size_t plan_length, uint8_t *out,
-                          size_t out_length);
 
 #ifdef __cplusplus
 }

@@ -41,6 +41,9 @@ pub const MAX_TEXT: usize = 65_536;
 /// An area of this length is never too short for a domain or a problem in PDDL.
 pub const MAX_PDDL: usize = 262_144;
 
+/// An area of this length is never too short for a report.
+pub const MAX_REPORT: usize = 2_048;
+
 /// The four sizes of an accepted file.
 #[derive(Clone, Copy, PartialEq, Eq, Debug)]
 pub struct Sizes {
@@ -133,7 +136,8 @@ extern "C" {
         plan_length: usize,
         out: *mut u8,
         out_length: usize,
-    ) -> usize;
+        answer: *mut Answer,
+    ) -> u32;
 }
 
 /// A function that fills one area from another.
@@ -253,10 +257,10 @@ pub fn pddl(file: &[u8], domain: &mut [u8], problem: &mut [u8]) -> Result<(usize
     Ok((words[1] as usize, words[2] as usize))
 }
 
-/// Writes the lines of program judge about a plan on the task in a file, as far as the output has room, and answers the
-/// length of the whole text.
-pub fn report(file: &[u8], plan: &[u8], out: &mut [u8]) -> usize {
-    unsafe {
+/// Writes the lines of program judge about a plan on the task in a file into the start of the output, and answers their length;
+/// or it is refused by 1 to 6, 10, 11 or 9, and the output is as it was.
+pub fn report(file: &[u8], plan: &[u8], out: &mut [u8]) -> Result<usize, Refusal> {
+    let words = answered(|answer| unsafe {
         route_rules_report(
             file.as_ptr(),
             file.len(),
@@ -264,6 +268,8 @@ pub fn report(file: &[u8], plan: &[u8], out: &mut [u8]) -> usize {
             plan.len(),
             out.as_mut_ptr(),
             out.len(),
+            answer,
         )
-    }
+    })?;
+    Ok(words[1] as usize)
 }

@@ -1,24 +1,53 @@
 """Programs run in a folder of their own."""
 import os
+import resource
+import signal
 import subprocess
 import tempfile
+from collections import namedtuple
 
 FOLDER = None  # what stands for the content of a file that is a folder
+Link = namedtuple('Link', 'to')  # and of one that is a link
+HERE = os.path.dirname(os.path.abspath(__file__))
+FAULTS = os.path.join(HERE, '../target/faults.so')
 
 
-def run(program, files):
-    """What the program writes on standard output and on standard error, and the files behind it. Files are {name: content}."""
+def make(path, content):
+    if content is FOLDER:
+        os.mkdir(path)
+    elif isinstance(content, Link):
+        os.symlink(content.to, path)
+    else:
+        with open(path, 'wb') as out:
+            out.write(content)
+
+
+def content(path):
+    if os.path.islink(path):
+        return Link(os.readlink(path))
+    return FOLDER if os.path.isdir(path) else open(path, 'rb').read()
+
+
+def faults(name, **after):
+    """The environment in which a file's reads, writes and closes fail, or are short, by tests/faults.c."""
+    if not os.path.exists(FAULTS) or os.path.getmtime(FAULTS) < os.path.getmtime(os.path.join(HERE, 'faults.c')):
+        os.makedirs(os.path.dirname(FAULTS), exist_ok=True)
+        subprocess.run(['gcc', '-shared', '-fPIC', '-O1', '-Wall', '-o', FAULTS, os.path.join(HERE, 'faults.c')], check=True)
+    return dict(os.environ, LD_PRELOAD=os.path.abspath(FAULTS), FAULT_FILE=name,
+                **{f'FAULT_{fault.upper()}': str(n) for fault, n in after.items()})
+
+
+def run(program, files, env=None, most=None):
+    """What the program writes on standard output and on standard error, and the files after it. Files are {name: content};
+    where `most` is given no file may grow longer."""
+    def limited():
+        if most is not None:
+            signal.signal(signal.SIGXFSZ, signal.SIG_IGN)
+            resource.setrlimit(resource.RLIMIT_FSIZE, (most, most))
+
     with tempfile.TemporaryDirectory() as folder:
-        for name, content in files.items():
-            path = os.path.join(folder, name)
-            if content is FOLDER:
-                os.mkdir(path)
-            else:
-                with open(path, 'wb') as out:
-                    out.write(content)
-        done = subprocess.run([os.path.abspath(program)], cwd=folder, capture_output=True)
-        left = {}
-        for name in os.listdir(folder):
-            path = os.path.join(folder, name)
-            left[name] = FOLDER if os.path.isdir(path) else open(path, 'rb').read()
+        for name, of in files.items():
+            make(os.path.join(folder, name), of)
+        done = subprocess.run([os.path.abspath(program)], cwd=folder, capture_output=True, env=env, preexec_fn=limited)
+        left = {name: content(os.path.join(folder, name)) for name in os.listdir(folder)}
     return done.stdout.decode(), done.stderr.decode(), left

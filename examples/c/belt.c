@@ -121,10 +121,21 @@ static void walk_text(const uint8_t *file, size_t length, const char *text)
     walked("walk_text", number, &answer);
 }
 
+static void report(const uint8_t *file, size_t length, const uint8_t *plan, size_t steps)
+{
+    static uint8_t text[ROUTE_RULES_MAX_REPORT];
+    route_rules_reported answer;
+    uint32_t number = route_rules_report(file, length, plan, steps, text, sizeof text, &answer);
+    if (number != 0)
+        refused("report", number, answer.place);
+    else
+        fwrite(text, 1, answer.length, stdout);
+}
+
 int main(int count, char **words)
 {
     /* A byte more than the longest accepted file and plan: a longer one is refused as its whole would be. */
-    static uint8_t file[ROUTE_RULES_MAX_FILE + 1], plan[ROUTE_RULES_MAX_STEPS + 1], text[2048];
+    static uint8_t file[ROUTE_RULES_MAX_FILE + 1], plan[ROUTE_RULES_MAX_STEPS + 1];
     if (count != 3) return 2;
     size_t length = read_file(words[1], file, sizeof file);
     size_t steps = read_file(words[2], plan, sizeof plan);
@@ -145,7 +156,7 @@ int main(int count, char **words)
     walk_text(file, length, "; from a planner\n(a0)\n");
     walk_text(file, length, "; from a planner\n(a00)\n"); /* line 1 has a leading zero */
 
-    size_t written = route_rules_report(file, length, plan, steps, text, sizeof text);
-    fwrite(text, 1, written, stdout);
+    report(file, length, plan, steps);
+    report(file, length, (const uint8_t *)"\2", 1); /* no action 2 */
     return 0;
 }

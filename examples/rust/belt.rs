@@ -4,7 +4,7 @@
 #[path = "../../include/route_rules.rs"]
 mod route_rules;
 
-use route_rules::{Refusal, Verdict, MAX_COST, MAX_FILE, MAX_PDDL, MAX_TEXT};
+use route_rules::{Refusal, Verdict, MAX_COST, MAX_FILE, MAX_PDDL, MAX_REPORT, MAX_TEXT};
 use std::fs;
 
 fn refused(refusal: Refusal) -> String {
@@ -88,6 +88,14 @@ fn walk_text(file: &[u8], text: &[u8]) {
     println!("walk_text: {line}");
 }
 
+fn report(file: &[u8], plan: &[u8]) {
+    let mut text = vec![0; MAX_REPORT];
+    match route_rules::report(file, plan, &mut text) {
+        Ok(length) => print!("{}", String::from_utf8_lossy(&text[..length])),
+        Err(refusal) => println!("report: {}", refused(refusal)),
+    }
+}
+
 fn main() {
     let mut names = std::env::args().skip(1);
     let mut read = || fs::read(names.next().expect("a file's name")).expect("a file");
@@ -109,7 +117,6 @@ fn main() {
     walk_text(&file, b"; from a planner\n(a0)\n");
     walk_text(&file, b"; from a planner\n(a00)\n"); // line 1 has a leading zero
 
-    let mut text = [0; 2048];
-    let length = route_rules::report(&file, &plan, &mut text);
-    print!("{}", String::from_utf8_lossy(&text[..length]));
+    report(&file, &plan);
+    report(&file, &[2]); // no action 2
 }

@@ -1,5 +1,6 @@
 #!/usr/bin/env python3
-"""What program judge does with its two files: one that is missing, that is a folder, that is longer than any accepted one.
+"""What program judge does with its two files: one that is missing, that is a folder, that is longer than any accepted one, or
+that can't be read to its end.
 
 tests/judge/program.py PROGRAM     PROGRAM is target/bin/judge
 """
@@ -11,7 +12,7 @@ HERE = os.path.dirname(os.path.abspath(__file__))
 ACCOUNT = runpy.run_path(os.path.join(HERE, '../check/vectors.py'))
 file, goal, BELT = ACCOUNT['file'], ACCOUNT['goal'], ACCOUNT['BELT']
 PROGRAMS = runpy.run_path(os.path.join(HERE, '../programs.py'))
-FOLDER, run = PROGRAMS['FOLDER'], PROGRAMS['run']
+FOLDER, run, faults = PROGRAMS['FOLDER'], PROGRAMS['run'], PROGRAMS['faults']
 
 belt = file(BELT, F=2)
 longest = file(goal(12000))
@@ -38,13 +39,30 @@ CASES = [
     ('an unknown step behind the 2,048th', dict(task=belt, plan=bytes(2048) + b'\7'), 'refused 10 0\n'),
 ]
 
+# A read that fails is told, however much was read before; a read that gives less than was asked for is not the last.
+both = dict(task=belt, plan=b'\0\1\0')
+READS = [
+    ('a task that comes byte by byte', ('task', dict(piece=1)), 'solved steps 3 cost 7\n0 always 5 missed\n1 sometime 7 met\nmetric 12 utility 0\n'),
+    ('a plan that comes byte by byte', ('plan', dict(piece=1)), 'solved steps 3 cost 7\n0 always 5 missed\n1 sometime 7 met\nmetric 12 utility 0\n'),
+    ('a task whose first read fails', ('task', dict(read=0)), 'no file\n'),
+    ('a plan whose first read fails', ('plan', dict(read=0)), 'no file\n'),
+    ('a task whose second read fails', ('task', dict(piece=50, read=1)), 'no file\n'),
+    ('a task that is read, but not its end', ('task', dict(read=1)), 'no file\n'),
+    ('a plan whose first step is read', ('plan', dict(piece=1, read=1)), 'no file\n'),
+    ('a plan that is read, but not its end', ('plan', dict(read=1)), 'no file\n'),
+]
+
 
 def main(program):
     for what, files, text in CASES:
         got, errors, left = run(program, files)
         if (got, errors, left) != (text, '', files):
             sys.exit(f'{what}: {got!r} {errors!r}, and not {text!r}, or a file changed')
-    print(f'program judge: {len(CASES)} cases as they should be')
+    for what, (name, of), text in READS:
+        got = run(program, both, env=faults(name, **of))
+        if got != (text, '', both):
+            sys.exit(f'{what}: {got}, and not {text!r}, or a file changed')
+    print(f'program judge: {len(CASES) + len(READS)} cases as they should be')
 
 
 if __name__ == '__main__':

@@ -1,5 +1,6 @@
 #!/usr/bin/env python3
-"""What program pddl does with its files: `domain.pddl` and `problem.pddl` made, replaced or left alone, and the lines it writes.
+"""What program pddl does with its files: `domain.pddl` and `problem.pddl` made, replaced, left alone or emptied, and the lines it
+writes.
 
 tests/pddl/program.py PROGRAM     PROGRAM is target/bin/pddl
 
@@ -13,7 +14,7 @@ HERE = os.path.dirname(os.path.abspath(__file__))
 ACCOUNT = runpy.run_path(os.path.join(HERE, '../check/vectors.py'))
 file, goal, BELT = ACCOUNT['file'], ACCOUNT['goal'], ACCOUNT['BELT']
 PROGRAMS = runpy.run_path(os.path.join(HERE, '../programs.py'))
-FOLDER, run = PROGRAMS['FOLDER'], PROGRAMS['run']
+FOLDER, Link, run, faults = PROGRAMS['FOLDER'], PROGRAMS['Link'], PROGRAMS['run'], PROGRAMS['faults']
 
 belt = file(BELT, F=2)
 small = file('GOAL')
@@ -84,14 +85,31 @@ WRITTEN = [
     ('the longest problem', LONGEST_PROBLEM, LONGEST_PROBLEM_TEXTS),
 ]
 
-# A text that can't be opened, the files before and those left. One text beside an old one would mislead: none is written, and
-# the domain, which is opened first, is then empty.
+# A text that can't be opened: all files are left as they were.
 UNOPENED = [
-    ('domain.pddl is a folder', {'domain.pddl': FOLDER}, {'domain.pddl': FOLDER}),
-    ('domain.pddl is a folder, and an old problem', {**old, 'domain.pddl': FOLDER}, {**old, 'domain.pddl': FOLDER}),
-    ('problem.pddl is a folder', {'problem.pddl': FOLDER}, {'domain.pddl': b'', 'problem.pddl': FOLDER}),
-    ('problem.pddl is a folder, and an old domain', {**old, 'problem.pddl': FOLDER}, {'domain.pddl': b'', 'problem.pddl': FOLDER}),
+    ('domain.pddl is a folder', {'domain.pddl': FOLDER}),
+    ('domain.pddl is a folder, and an old problem', {**old, 'domain.pddl': FOLDER}),
+    ('problem.pddl is a folder', {'problem.pddl': FOLDER}),
+    ('problem.pddl is a folder, and an old domain', {**old, 'problem.pddl': FOLDER}),
+    ('domain.pddl is a link into no folder', {**old, 'domain.pddl': Link('none/domain')}),
+    ('problem.pddl is a link into no folder', {**old, 'problem.pddl': Link('none/problem')}),
+    ('problem.pddl is a link into no folder, and no domain', {'problem.pddl': Link('none/problem')}),
 ]
+
+# A file that can't be read to its end, or a text that can't be written: what goes wrong, the files before and those left. One text
+# beside an old or a cut one would mislead: both are then empty.
+emptied = dict.fromkeys(old, b'')
+FAULTS = [
+    ('a compiled whose second read fails', dict(env=faults('compiled', piece=50, read=1)), old, old),
+    ('a compiled that is read, but not its end', dict(env=faults('compiled', read=1)), old, old),
+    ('a domain to /dev/full', {}, {**old, 'domain.pddl': Link('/dev/full')}, {**emptied, 'domain.pddl': Link('/dev/full')}),
+    ('a problem to /dev/full', {}, {**old, 'problem.pddl': Link('/dev/full')}, {**emptied, 'problem.pddl': Link('/dev/full')}),
+    ('a domain that may grow to 250 bytes', dict(most=250), old, emptied),
+] + [(f'{what} {name}', dict(env=faults(name, **of)), old, emptied) for name in old for what, of in [
+    ('a full disk at the first byte of', dict(write=0)),
+    ('a full disk at byte 100 of', dict(piece=100, write=1)),
+    ('a failing close of', dict(close=0)),
+]]
 
 
 def main(program):
@@ -108,11 +126,18 @@ def main(program):
                 wrong = [name for name in {**made, **got[2]} if got[2].get(name) != made.get(name)]
                 sys.exit(f'{what}: {got[:2]}, and not nothing, or other files: {wrong}')
             count += 1
-    for what, before, left in UNOPENED:
-        got = run(program, dict(compiled=REQUEST, **before))
+    for what, wrong, before, left in [(what, {}, before, before) for what, before in UNOPENED] + FAULTS:
+        got = run(program, dict(compiled=REQUEST, **before), **wrong)
         if got != ('no file\n', '', dict(compiled=REQUEST, **left)):
             sys.exit(f'{what}: {str(got)[:1000]}, and not no file and {left}')
-    count += len(UNOPENED)
+    texts = {'domain.pddl': REQUEST_TEXTS[0].encode(), 'problem.pddl': REQUEST_TEXTS[1].encode()}
+    for name in old:
+        linked = {'compiled': REQUEST, name: Link('elsewhere')}
+        if run(program, linked) != ('', '', {**texts, **linked, 'elsewhere': texts[name]}):
+            sys.exit(f'{name} is a link to a file that is missing')
+        if run(program, dict(compiled=REQUEST), env=faults(name, piece=7)) != ('', '', dict(compiled=REQUEST, **texts)):
+            sys.exit(f'{name} in pieces')
+    count += len(UNOPENED) + len(FAULTS) + 2 * len(old)
     print(f'program pddl: {count} cases as they should be')
 
 

@@ -1,5 +1,5 @@
 #!/usr/bin/env python3
-"""What program translate does with its files: `compiled` made, replaced or left alone, and the lines it writes.
+"""What program translate does with its files: `compiled` made, replaced, left alone or emptied, and the lines it writes.
 
 tests/translate/program.py PROGRAM     PROGRAM is target/bin/translate
 """
@@ -12,7 +12,7 @@ HERE = os.path.dirname(os.path.abspath(__file__))
 ACCOUNT = runpy.run_path(os.path.join(HERE, '../check/vectors.py'))
 check, file, goal, BELT = ACCOUNT['check'], ACCOUNT['file'], ACCOUNT['goal'], ACCOUNT['BELT']
 PROGRAMS = runpy.run_path(os.path.join(HERE, '../programs.py'))
-FOLDER, run = PROGRAMS['FOLDER'], PROGRAMS['run']
+FOLDER, Link, run, faults = PROGRAMS['FOLDER'], PROGRAMS['Link'], PROGRAMS['run'], PROGRAMS['faults']
 
 belt = file(BELT, F=2)
 longest = file(goal(12000))
@@ -34,6 +34,17 @@ REFUSED = [
     ('the longest task', dict(task=longest, compiled=old), 'refused 8 0\n'),
 ]
 
+# A file that can't be read to its end, or not be written: what goes wrong, and what is left in `compiled`. A compiled that could
+# not be written whole is empty, whatever stood there.
+FAULTS = [
+    ('a task whose second read fails', dict(env=faults('task', piece=50, read=1)), old),
+    ('a task that is read, but not its end', dict(env=faults('task', read=1)), old),
+    ('a compiled that takes no byte', dict(env=faults('compiled', write=0)), b''),
+    ('a compiled that takes 100 bytes', dict(env=faults('compiled', piece=100, write=1)), b''),
+    ('a compiled whose last byte is not taken', dict(env=faults('compiled', piece=472, write=1)), b''),
+    ('a compiled that may grow to 100 bytes', dict(most=100), b''),
+    ('a compiled whose close fails', dict(env=faults('compiled', close=0)), b''),
+]
 
 # ---- deadlines, their trackers row by row
 
@@ -78,6 +89,19 @@ def main(program):
     for longer in [old, compiled, bytes(100000)]:
         if run(program, dict(task=belt, compiled=longer)) != ('', '', made):
             sys.exit(f'the belt, over a compiled of {len(longer)} bytes')
+    for what, wrong, left in FAULTS:
+        got = run(program, dict(task=belt, compiled=old), **wrong)
+        if got != ('no file\n', '', dict(task=belt, compiled=left)):
+            sys.exit(f'{what}: {got}')
+    full = dict(task=belt, compiled=Link('/dev/full'))
+    if run(program, full) != ('no file\n', '', full):
+        sys.exit('compiled is a link to /dev/full')
+    linked = dict(task=belt, compiled=Link('elsewhere'))
+    if run(program, linked) != ('', '', dict(linked, elsewhere=compiled)):
+        sys.exit('compiled is a link to a file that is missing')
+    for name, pieces in [('task', 1), ('compiled', 7)]:
+        if run(program, dict(task=belt), env=faults(name, piece=pieces)) != ('', '', made):
+            sys.exit(f'{name} in pieces')
     for preference, trackers, closings, facts in DEADLINES:
         task = file(f'GOAL ACTION 4 {preference}', F=2)
         got = run(program, dict(task=task))
@@ -89,7 +113,7 @@ def main(program):
     most = run(program, dict(task=file(goal(11991))))
     if most[:2] != ('', '') or len(most[2]['compiled']) != 60008:
         sys.exit('the longest translation')
-    print(f'program translate: {len(REFUSED) + len(DEADLINES) + 6} cases as they should be')
+    print(f'program translate: {len(REFUSED) + len(FAULTS) + len(DEADLINES) + 10} cases as they should be')
 
 
 if __name__ == '__main__':

@@ -9,17 +9,24 @@ pub enum Content {
     Missing,
 }
 
-// Reads as much of an open file as the buffer has room for.
+// Reads an open file to its end, or as much of it as the buffer has room for. A read that fails counts for the whole file: what
+// came before it is no file.
 fn read_open(fd: i32, buf: &mut [u8]) -> Content
     ensures { λ r. ⌜ Fits r (now (buf .exit)) ⌝ }
 {
-    let got = libc::read(fd, &mut *buf);
-    if got < 0 {
-        return Content::Missing;
+    let mut done = 0;
+    while done < buf.len() {
+        let got = libc::read(fd, &mut buf[done..]);
+        if got < 0 {
+            return Content::Missing;
+        }
+        let n = io::count(got, &buf[done..]);
+        if n == 0 {
+            return Content::Bytes(done);
+        }
+        done += n;
     }
-    let n = io::count(got, buf);
-    let more = io::read_full(fd, &mut buf[n..]);
-    Content::Bytes(n + more)
+    Content::Bytes(done)
 }
 
 // Reads a file into the start of a buffer, as much of it as fits.
@@ -33,6 +40,82 @@ pub fn read(name: &[u8], buf: &mut [u8]) -> Content
     let r = read_open(fd, buf);
     libc::close(fd);
     r
+}
+
+// Whether a file was opened, which is then closed.
+fn opened(fd: i32) -> bool {
+    if fd < 0 {
+        return false;
+    }
+    libc::close(fd);
+    true
+}
+
+// What came of trying to open a file for writing: it was there, it was missing and is now made, or it can't be opened.
+enum Tried {
+    Old,
+    New,
+    Closed,
+}
+
+// Tries to open a file for writing, and leaves its bytes as they are. A link to a file that is missing counts as one that was
+// there.
+fn try_open(name: &[u8]) -> Tried {
+    if opened(os::open_append(name)) {
+        return Tried::Old;
+    }
+    if opened(os::create(name)) {
+        return Tried::New;
+    }
+    if opened(os::open_overwrite(name)) {
+        return Tried::Old;
+    }
+    Tried::Closed
+}
+
+fn is_open(tried: Tried) -> bool {
+    match tried {
+        Tried::Closed => false,
+        _ => true,
+    }
+}
+
+// Takes back what trying to open a file has made.
+fn take_back(name: &[u8], tried: Tried) {
+    match tried {
+        Tried::New => {
+            os::unlink(name);
+        }
+        _ => {}
+    }
+}
+
+// Whether two files can be opened for writing. Neither is emptied, and where one can't be opened neither is made.
+pub fn both_open(a: &[u8], b: &[u8]) -> bool {
+    let of_a = try_open(a);
+    let of_b = try_open(b);
+    let both = is_open(of_a) & is_open(of_b);
+    if !both {
+        take_back(a, of_a);
+        take_back(b, of_b);
+    }
+    both
+}
+
+// Writes a file, and answers whether it now holds the bytes alone: every write and the close went well.
+pub fn write(name: &[u8], bytes: &[u8]) -> bool {
+    let fd = os::open_overwrite(name);
+    if fd < 0 {
+        return false;
+    }
+    let all = io::write_all(fd, bytes);
+    let closed = libc::close(fd);
+    all & (closed == 0)
+}
+
+// Empties a file.
+pub fn empty(name: &[u8]) {
+    opened(os::open_overwrite(name));
 }
 
 // Prints that a file is missing.

@@ -1,6 +1,7 @@
 // Program judge: judges the plan in the file `plan` on the task in the file `task`, and writes what it is worth.
 use files::Content;
 use libc::STDOUT_FILENO;
+use outcome::Outcome;
 
 fn main() {
     // Both buffers have room for more than any file that is judged, so a longer one gets the answer of the whole file.
@@ -16,7 +17,13 @@ fn main() {
         files::say_missing();
         return;
     };
+    // This holds every report.
     let mut out = [0u8; 2048];
-    let k = report::write_report(text::front(&task, n), text::front(&plan, m), &mut out);
-    io::write_all(STDOUT_FILENO, text::front(&out, k));
+    let answer = report::write_report(text::front(&task, n), text::front(&plan, m), &mut out);
+    match answer {
+        Outcome::Written(k) => {
+            io::write_all(STDOUT_FILENO, text::front(&out, k));
+        }
+        Outcome::Refused(f) => files::say_refused(f),
+    }
 }

@@ -2,27 +2,20 @@
 use files::Content;
 use pddl_text::Outcome;
 
-// Writes an open file, which then holds the text alone.
-fn write_text(fd: i32, text: &[u8]) {
-    io::write_all(fd, text);
-    libc::close(fd);
-}
-
-// Writes the two files, where both can be opened.
+// Writes the two files, where both can be opened. Where one could not be written both are empty: a text beside an old or a cut
+// one would mislead.
 fn write_texts(domain: &[u8], problem: &[u8]) {
-    let d = os::open_overwrite(b"domain.pddl");
-    if d < 0 {
+    if !files::both_open(b"domain.pddl", b"problem.pddl") {
         files::say_missing();
         return;
     }
-    let p = os::open_overwrite(b"problem.pddl");
-    if p < 0 {
-        libc::close(d);
+    let d = files::write(b"domain.pddl", domain);
+    let p = files::write(b"problem.pddl", problem);
+    if !(d & p) {
+        files::empty(b"domain.pddl");
+        files::empty(b"problem.pddl");
         files::say_missing();
-        return;
     }
-    write_text(d, domain);
-    write_text(p, problem);
 }
 
 fn main() {

@@ -111,7 +111,7 @@ cheap [] h k = omega arith
 cheap (a ∷ l) h zero = leb→le (a .cost) 1000000 (search tests)
 cheap (a ∷ l) h (suc k) = cheap l (search tests) k
 
-cost-bound : (t : Task) → T (spellable t) → (p : List ℕ) → cost t p ≤ 1000000 * length p
+pub cost-bound : (t : Task) → T (spellable t) → (p : List ℕ) → cost t p ≤ 1000000 * length p
 cost-bound t s [] = omega arith
 cost-bound t s (k ∷ ks) =
     let one : actionAt t k .cost ≤ 1000000 = cheap (t .actions) (search tests) k in

@@ -1,7 +1,7 @@
 -- What reading, writing and walking answer, from what the code has found.
 use mathlib.Core.Path.{_≡_, refl, sym, ap, _∙_}
 use mathlib.Core.Bool.{Bool, true, false, cond, true≢false}
-use mathlib.Core.List.{List, _++_}
+use mathlib.Core.List.{List}
 use Prim.Native.Nat.{ℕ, _+_, _≤_, _<_}
 use native.Mathlib.Nat.{zero-add}
 use native.Mathlib.Omega.{arith}
@@ -23,7 +23,7 @@ use Rattle.plan.specs.Walked
 use Rattle.plan.specs.Walked.{Walked, unsettled, walked}
 use Rattle.plan_text.specs.PlanText.{linesOf, Read, plan, faulty, readLines, readPlan}
 use Rattle.outcome.specs.Outcome.{Outcome, written, refused, areaAfter}
-use Rattle.outcome.proofs.Outcomes.{not-written, same-written}
+use Rattle.outcome.proofs.Outcomes.{not-written, same-written, put-down}
 use Rattle.plan_text.specs.Outcomes.{planFitted, readBy, readOutcome, steps, stepsIn, refusedAfter, textWalkedBy, textWalked}
 use Rattle.plan_text.specs.Scan.{isOpening, Count, all, faultyAt, count, counted, begun, start, stepsFrom}
 use Rattle.plan_text.specs.declared.scan.Scan.{Scan}
@@ -32,13 +32,9 @@ use Rattle.plan_text.proofs.Splitting.{by-lines}
 
 -- An outcome and its area
 
-pub turned-down : (bytes area : List ℕ) (o a : Outcome) (n i : ℕ) → a ≡ refused n i → o ≡ refused n i → (a ≡ o) × (area ≡ areaAfter bytes area o)
-turned-down bytes area o a n i x y = (x ∙ sym y, sym (ap (areaAfter bytes area) y))
-
 pub put-whole : (bytes area out : List ℕ) (n : ℕ) (o : Outcome) → length bytes ≡ n → n ≤ length area → out ≡ put bytes 0 area → o ≡ written n
     → (written n ≡ o) × (out ≡ areaAfter bytes area o)
-put-whole bytes area out n o e h w y =
-    (sym y, w ∙ written-whole bytes area (omega arith) ∙ ap (λ (k : ℕ). bytes ++ drop k area) e ∙ sym (ap (areaAfter bytes area) y))
+put-whole bytes area out n o e h w y = put-down bytes area out n o e (w ∙ written-whole bytes area (omega arith)) y
 
 -- Room
 

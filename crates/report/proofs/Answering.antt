@@ -1,44 +1,77 @@
--- The text from the rows, and the text of the task that they spell.
-use mathlib.Core.Path.{_≡_, ap, _∙_, subst}
-use mathlib.Core.List.{List}
-use Prim.Native.Nat.{ℕ}
+-- The text from the rows, and the text of the task that they spell; what comes of writing it.
+use mathlib.Core.Path.{_≡_, refl, sym, ap, _∙_, subst}
+use mathlib.Core.List.{List, []}
+use Prim.Native.Nat.{ℕ, _≤_, _<_}
+use lib.Dec.{leb}
 use lib.ListN.{length}
+use borrow.Author.Tests.{le-leb, lt-leb}
 use Rattle.task.specs.Task.{Row, Task, taskRows}
 use Rattle.task.specs.File.{Sizes, taskOf}
 use Rattle.task.specs.Check.{check, accepted}
 use Rattle.task.specs.Check
 use Rattle.task.proofs.Checking.{partsOf}
 use Rattle.task.proofs.Answered.{parts-spell}
+use Rattle.plan.specs.Judged
 use Rattle.plan.specs.Judged.{Judged, judged}
-use Rattle.plan.specs.Walked.{Walked, walked}
+use Rattle.plan.specs.Walked
+use Rattle.plan.specs.Walked.{Walk, Walked, given, unsettled, walked}
 use Rattle.plan.specs.Settled.{andSettled}
 use Rattle.plan.proofs.Settling.{walk-then-settle}
 use Rattle.text.specs.Area.{Filled}
-use Rattle.report.specs.Report.{reportOf, reportOn}
+use Rattle.text.proofs.Writing.{from-start, no-bytes}
+use Rattle.outcome.specs.Outcome.{Outcome, written, refused, fitted}
+use Rattle.outcome.proofs.Outcomes.{not-written}
+use Rattle.report.specs.Report.{reportOf, reportOn, reportBy, reportOutcome}
 use Rattle.report.specs.Rows.{reportOfRows}
 use Rattle.report.proofs.Spelled.{task-report}
 
 spelled-report : (t : Task) (xs : List Row) → xs ≡ taskRows t → (n : ℕ) (j : Judged) → reportOfRows xs n j ≡ reportOf t n j
 spelled-report t xs e n j = ap (λ (ys : List Row). reportOfRows ys n j) e ∙ task-report t n j
 
--- For a caller that has walked the plan p on the file b, and lends the two parts of the file
+-- The outcome by what walk gave
 
-module _ (b p : List ℕ) (w : Walked) (q : w ≡ walked b p) (out : List ℕ) (r : ℕ) (out′ : List ℕ) where
-  judged-is : andSettled b w ≡ judged b p
-  judged-is = ap (andSettled b) q ∙ walk-then-settle b p
+-- an outcome for each answer of walk
+abbrev passedOn : Walked → Outcome
+passedOn (given w) = written 0
+passedOn (Walked.refused n i) = refused n i
 
-  pub on-accepted : (z : Sizes) → check b ≡ accepted z
-      → Filled out (reportOfRows (partsOf b z) (length p) (andSettled b w)) r out′
-      → Filled out (reportOn b p) r out′
-  unfolding reportOn
-  on-accepted z h =
-      subst (λ (l : List ℕ). Filled out l r out′)
-      (spelled-report (taskOf b) _ (parts-spell b z h) (length p) (andSettled b w)
-      ∙ ap (reportOf (taskOf b) (length p)) judged-is)
+as-given : (bytes room : ℕ) (j : Judged) (w : Walk) → given w ≡ unsettled j → reportBy bytes room j ≡ fitted bytes room
+as-given bytes room (Judged.given v) w e = refl
+as-given bytes room (Judged.refused n i) w e = absurd (not-written n i 0 (sym (ap passedOn e)))
 
-  -- no rows are read for a refused file
-  pub on-refused : (n i : ℕ) → check b ≡ Check.refused n i → (xs : List Row)
-      → Filled out (reportOfRows xs (length p) (andSettled b w)) r out′ → Filled out (reportOn b p) r out′
+as-refused : (bytes room : ℕ) (j : Judged) (n i : ℕ) → Walked.refused n i ≡ unsettled j → reportBy bytes room j ≡ refused n i
+as-refused bytes room (Judged.given v) n i e = absurd (not-written n i 0 (ap passedOn e))
+as-refused bytes room (Judged.refused m k) n i e = sym (ap passedOn e)
+
+-- For a caller that has walked the plan p on the file b
+
+module _ (b p : List ℕ) where
+  pub not-walked : (room n i : ℕ) → Walked.refused n i ≡ walked b p → reportOutcome b p room ≡ refused n i
+  unfolding walked reportOutcome
+  not-walked room n i q = as-refused (length (reportOn b p)) room (judged b p) n i q
+
+  module _ (w : Walk) (q : given w ≡ walked b p) where
+    -- the text, where the two parts of the file are lent
+    pub on-accepted : (z : Sizes) → check b ≡ accepted z → (out : List ℕ) (r : ℕ) (out′ : List ℕ)
+        → Filled out (reportOfRows (partsOf b z) (length p) (andSettled b (given w))) r out′
+        → Filled out (reportOn b p) r out′
+    unfolding reportOn
+    on-accepted z h out r out′ =
+        subst (λ (l : List ℕ). Filled out l r out′)
+        (spelled-report (taskOf b) _ (parts-spell b z h) (length p) (andSettled b (given w))
+        ∙ ap (reportOf (taskOf b) (length p)) (ap (andSettled b) q ∙ walk-then-settle b p))
+
+    by-length : (room : ℕ) → reportOutcome b p room ≡ fitted (length (reportOn b p)) room
+    unfolding walked reportOutcome
+    by-length room = as-given (length (reportOn b p)) room (judged b p) w q
+
+    pub too-short : (room : ℕ) → room < length (reportOn b p) → reportOutcome b p room ≡ refused 9 0
+    too-short room h = by-length room ∙ rw (lt-leb (length (reportOn b p)) room h)
+
+    pub roomy : (room : ℕ) → length (reportOn b p) ≤ room → reportOutcome b p room ≡ written (length (reportOn b p))
+    roomy room h = by-length room ∙ rw (le-leb (length (reportOn b p)) room h)
+
+  -- a refused file has no text
+  pub on-refused : (n i : ℕ) → check b ≡ Check.refused n i → (out : List ℕ) → Filled out (reportOn b p) 0 out
   unfolding reportOn judged
-  on-refused n i h xs =
-      subst (λ (l : List ℕ). Filled out l r out′) (ap (reportOfRows xs (length p)) judged-is ∙ rw h)
+  on-refused n i h out = rw h (from-start (no-bytes out 0))

@@ -1,6 +1,6 @@
 -- The text of a judged plan: document 01, 'A belt and a gate', and request 6.
 use mathlib.Core.Bool.{Bool, true, false}
-use mathlib.Core.List.{List, _++_}
+use mathlib.Core.List.{List, [], _++_}
 use Prim.Native.Nat.{ℕ}
 use lib.IntN.{ℤ}
 use lib.ListN.{length}
@@ -10,7 +10,9 @@ use Rattle.task.specs.File.{taskOf}
 use Rattle.task.specs.Verdict.{Verdict, solved, stopped, goal-missed}
 use Rattle.plan.specs.Judged.{Judged, given, refused, judged}
 use Rattle.text.specs.Ascii.{ascii}
-use Rattle.text.specs.Text.{decimal, integer, refusedLine}
+use Rattle.text.specs.Text.{decimal, integer}
+use Rattle.outcome.specs.Outcome
+use Rattle.outcome.specs.Outcome.{Outcome, fitted}
 
 -- kinds are spelled as in the table of marks
 abbrev pub kindWord : Kind → List ℕ
@@ -49,9 +51,10 @@ verdictText lines n (solved cost metric utility met) = solvedLine n cost ++ line
 verdictText lines n (stopped step) = stoppedLine step
 verdictText lines n goal-missed = ascii "goal missed\n"
 
+-- a refused plan has no text
 abbrev pub textWith : ((ℕ → Bool) → List ℕ) → ℕ → Judged → List ℕ
 textWith lines n (given v) = verdictText lines n v
-textWith lines n (refused number place) = refusedLine number place
+textWith lines n (refused number place) = []
 
 -- a line per preference, numbered from 0
 abbrev pub preferenceLines : Task → (ℕ → Bool) → List ℕ
@@ -61,6 +64,16 @@ preferenceLines t met =
 abbrev pub reportOf : Task → ℕ → Judged → List ℕ
 reportOf t = textWith (preferenceLines t)
 
--- what program judge writes on the task file b and the plan p
+-- the lines of program judge on the task file b and the plan p
 unfoldable pub reportOn : List ℕ → List ℕ → List ℕ
 reportOn b p = reportOf (taskOf b) (length p) (judged b p)
+
+-- What comes of writing the text
+
+-- a text of so many bytes, for an area of so many
+abbrev pub reportBy : ℕ → ℕ → Judged → Outcome
+reportBy bytes room (given v) = fitted bytes room
+reportBy bytes room (refused number place) = Outcome.refused number place
+
+unfoldable pub reportOutcome : List ℕ → List ℕ → ℕ → Outcome
+reportOutcome b p room = reportBy (length (reportOn b p)) room (judged b p)

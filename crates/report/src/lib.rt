@@ -8,12 +8,15 @@ ghost use lib.ListN.{length};
 ghost use Rattle.task.specs.File.{paired};
 ghost use Rattle.task.specs.Verdict.{solved};
 ghost use Rattle.state.specs.Member.{bit};
-ghost use Rattle.plan.specs.Walked.{given, walked as walkedPlan};
+ghost use Rattle.plan.specs.Walked.{given, walked};
 ghost use Rattle.plan.specs.Settled.{priced, andSettled};
-ghost use Rattle.plan.specs.Answers.{asVerdict, walkedAs, settledAs};
+ghost use Rattle.plan.specs.Answers.{asVerdict, settledAs};
 ghost use Rattle.text.specs.Area.{Wrote, Filled};
-ghost use Rattle.report.specs.Report.{reportOn};
+ghost use Rattle.outcome.specs.Outcome.{areaAfter};
+ghost use Rattle.outcome.specs.Answers.{answer};
+ghost use Rattle.report.specs.Report.{reportOn, reportOutcome};
 ghost use Rattle.report.specs.Rows.{verdictOfRows, reportOfRows};
+use outcome::Outcome;
 use plan::Settled;
 use plan::Solution;
 use plan::Verdict;
@@ -38,7 +41,7 @@ fn put_worth(
     lines::put_amounts(&mut *out, b, w.metric, w.utility)
 }
 
-// Writes the text of a plan that solves, from what settle answers.
+// Writes the text of a plan that solves, from what settle answers: it refuses nothing that walk gave.
 fn put_settled(
     steps: usize,
     s: Solution,
@@ -52,7 +55,7 @@ fn put_settled(
 {
     match settled {
         Settled::Given(w) => put_worth(steps, s, w, marks, values, out),
-        Settled::Refused(f) => text::put_refused(out, 0, f.number as u64, f.place as u64),
+        Settled::Refused(_) => 0,
     }
 }
 
@@ -78,43 +81,44 @@ fn put_verdict(
     }
 }
 
-// Writes the text of a plan of so many steps, walked on the task in a file whose rows are lent. It answers the text's length:
-// where that is more than the area has, the text is cut.
-fn write_walked(
-    file: &[u8],
-    steps: usize,
-    walked: Walked,
-    marks: &[u8],
-    values: &[u8],
-    out: &mut [u8],
-) -> usize
-    requires { ⌜ (4 * length (now marks) ≤ length (now values)) × (length (now marks) ≤ 12000) ⌝ }
-    ensures { λ r. ⌜ Filled (now (out .entry)) (reportOfRows (paired (now (marks .entry)) (now (values .entry))) steps (andSettled (now (file .entry)) (walkedAs walked))) r (now (out .exit)) ⌝ }
-{
-    match walked {
-        Walked::Given(v) => put_verdict(file, steps, v, marks, values, out),
-        Walked::Refused(f) => text::put_refused(out, 0, f.number as u64, f.place as u64),
-    }
-}
-
-// Writes the text of a plan that was walked on the task in a file. A file that check refused has no rows to lend.
-fn write_on(file: &[u8], plan: &[u8], walked: Walked, out: &mut [u8]) -> usize
-    requires { ⌜ walkedAs walked ≡ walkedPlan (now file) (now plan) ⌝ }
+// Writes the text of the verdict on a plan, as far as the area has room, and answers its length. A refused file has no text.
+fn put_text(file: &[u8], plan: &[u8], v: Verdict, out: &mut [u8]) -> usize
+    requires { ⌜ given (asVerdict v) ≡ walked (now file) (now plan) ⌝ }
     ensures { λ r. ⌜ Filled (now (out .entry)) (reportOn (now (file .entry)) (now (plan .entry))) r (now (out .exit)) ⌝ }
 {
     let steps = plan.len();
     let c = task::check(file);
     let Checked::Accepted(z) = c else {
-        return write_walked(file, steps, walked, &file[..0], &file[..0], out);
+        return 0;
     };
     let middle = 8 + z.rows;
-    write_walked(file, steps, walked, &file[8..middle], &file[middle..], out)
+    put_verdict(file, steps, v, &file[8..middle], &file[middle..], out)
 }
 
-// Walks a plan on the task in a file, settles it where it solves, and writes the lines of program judge. It answers the text's
-// length: where that is more than the area has, the text is cut.
-pub fn write_report(file: &[u8], plan: &[u8], out: &mut [u8]) -> usize
-    ensures { λ r. ⌜ Filled (now (out .entry)) (reportOn (now (file .entry)) (now (plan .entry))) r (now (out .exit)) ⌝ }
+// Writes the text of the verdict on a plan where the area has room for it. It is made in an area that holds every text, so that
+// nothing is written before its length is known.
+fn write_verdict(file: &[u8], plan: &[u8], v: Verdict, out: &mut [u8]) -> Outcome
+    requires { ⌜ given (asVerdict v) ≡ walked (now file) (now plan) ⌝ }
+    ensures { λ r. ⌜ answer r ≡ reportOutcome (now (file .entry)) (now (plan .entry)) (length (now (out .entry))) ⌝ }
+    ensures { λ r. ⌜ now (out .exit) ≡ areaAfter (reportOn (now (file .entry)) (now (plan .entry))) (now (out .entry)) (reportOutcome (now (file .entry)) (now (plan .entry)) (length (now (out .entry)))) ⌝ }
 {
-    write_on(file, plan, plan::walk(file, plan), out)
+    let mut whole: [u8; 2048] = [0; 2048];
+    let n = put_text(file, plan, v, &mut whole);
+    if out.len() < n {
+        return outcome::refuse(9, 0);
+    }
+    text::put_word(&mut *out, 0, text::front(&whole, n));
+    Outcome::Written(n)
+}
+
+// Walks a plan on the task in a file, settles it where it solves, and writes the lines of program judge to the area's start.
+pub fn write_report(file: &[u8], plan: &[u8], out: &mut [u8]) -> Outcome
+    ensures { λ r. ⌜ answer r ≡ reportOutcome (now (file .entry)) (now (plan .entry)) (length (now (out .entry))) ⌝ }
+    ensures { λ r. ⌜ now (out .exit) ≡ areaAfter (reportOn (now (file .entry)) (now (plan .entry))) (now (out .entry)) (reportOutcome (now (file .entry)) (now (plan .entry)) (length (now (out .entry)))) ⌝ }
+{
+    let w = plan::walk(file, plan);
+    match w {
+        Walked::Given(v) => write_verdict(file, plan, v, &mut *out),
+        Walked::Refused(f) => Outcome::Refused(f),
+    }
 }

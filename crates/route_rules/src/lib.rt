@@ -2,8 +2,7 @@
 ghost use mathlib.Core.Path.{_≡_};
 ghost use Prim.Native.Nat.{ℕ};
 ghost use lib.ListN.{length};
-ghost use Rattle.text.specs.Area.{Filled};
-ghost use Rattle.report.specs.Report.{reportOn};
+ghost use Rattle.report.specs.Report.{reportOn, reportOutcome};
 ghost use Rattle.task.specs.Check.{check};
 ghost use Rattle.task.specs.Answers.{answer as ofChecked};
 ghost use Rattle.state.specs.Member.{bit};
@@ -215,10 +214,16 @@ pub extern "C" fn route_rules_pddl(
     put_texts(pddl_text::write(file, domain, problem), answer)
 }
 
-// Writes what program judge writes about a plan on a task, as far as the area has room, and returns its length.
+// Writes the lines of program judge about a plan on the task in a file into the area `out`. A refusal leaves that area as it was.
 #[no_mangle]
-pub extern "C" fn route_rules_report(file: &[u8], plan: &[u8], out: &mut [u8]) -> usize
-    ensures { λ r. ⌜ Filled (now (out .entry)) (reportOn (now (file .entry)) (now (plan .entry))) r (now (out .exit)) ⌝ }
+pub extern "C" fn route_rules_report(
+    file: &[u8],
+    plan: &[u8],
+    out: &mut [u8],
+    answer: &mut [u64; 8],
+) -> u32
+    ensures { λ r. ⌜ call r (now (answer .exit)) ≡ ofOutcome (reportOutcome (now (file .entry)) (now (plan .entry)) (length (now (out .entry)))) ⌝ }
+    ensures { λ r. ⌜ now (out .exit) ≡ areaAfter (reportOn (now (file .entry)) (now (plan .entry))) (now (out .entry)) (reportOutcome (now (file .entry)) (now (plan .entry)) (length (now (out .entry)))) ⌝ }
 {
-    report::write_report(file, plan, out)
+    put_outcome(report::write_report(file, plan, out), answer)
 }

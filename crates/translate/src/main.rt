@@ -2,15 +2,12 @@
 use files::Content;
 use outcome::Outcome;
 
-// Writes `compiled`, which then holds the translation alone.
+// Writes `compiled`, which then holds the translation alone, or nothing where it could not be written.
 fn write_compiled(translation: &[u8]) {
-    let fd = os::open_overwrite(b"compiled");
-    if fd < 0 {
+    if !files::write(b"compiled", translation) {
+        files::empty(b"compiled");
         files::say_missing();
-        return;
     }
-    io::write_all(fd, translation);
-    libc::close(fd);
 }
 
 fn main() {

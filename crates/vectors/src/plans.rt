@@ -1,7 +1,20 @@
 // Reports on plans, where a task's record comes before its plan's.
+use super::lines;
 use super::records;
 use super::records::Next;
 use libc::STDOUT_FILENO;
+use outcome::Outcome;
+
+fn write_report(file: &[u8], plan: &[u8]) {
+    let mut out = [0u8; 2048];
+    let answer = report::write_report(file, plan, &mut out);
+    match answer {
+        Outcome::Written(k) => {
+            io::write_all(STDOUT_FILENO, text::front(&out, k));
+        }
+        Outcome::Refused(f) => lines::write_refused(f),
+    }
+}
 
 // Writes the report on the next plan, and answers whether there was one.
 pub fn report_next(fd: i32) -> bool {
@@ -15,7 +28,6 @@ pub fn report_next(fd: i32) -> bool {
     let Next::Record(m) = of_plan else {
         return false;
     };
-    let mut out = [0u8; 2048];
-    let k = report::write_report(text::front(&task, n), text::front(&plan, m), &mut out);
-    io::write_all(STDOUT_FILENO, text::front(&out, k))
+    write_report(text::front(&task, n), text::front(&plan, m));
+    true
 }

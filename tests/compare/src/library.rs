@@ -4,7 +4,7 @@
 mod route_rules;
 
 pub use route_rules::{
-    check, refused, settle, walk, walk_text, Refusal, Sizes, Verdict, Worth, MAX_PDDL,
+    check, refused, settle, walk, walk_text, Refusal, Sizes, Verdict, Worth, MAX_PDDL, MAX_REPORT,
 };
 
 /// Fills an area before it is lent, and stands behind it.
@@ -13,13 +13,6 @@ pub const GUARD: u8 = 0xA5;
 /// An area of `room` bytes, with 16 more behind it that are not lent.
 pub fn area(room: usize) -> Vec<u8> {
     vec![GUARD; room + 16]
-}
-
-/// The text about a plan in an area of `room` bytes, and the length that is answered.
-pub fn report(file: &[u8], plan: &[u8], room: usize) -> (Vec<u8>, usize) {
-    let mut out = area(room);
-    let length = route_rules::report(file, plan, &mut out[..room]);
-    (out, length)
 }
 
 /// What an operation leaves in an area of `room` bytes, and the length or the refusal that it answers.
@@ -41,6 +34,10 @@ pub fn read_plan(text: &[u8], room: usize) -> Left {
 
 pub fn write_plan(plan: &[u8], room: usize) -> Left {
     left(room, |out| route_rules::write_plan(plan, out))
+}
+
+pub fn report(file: &[u8], plan: &[u8], room: usize) -> Left {
+    left(room, |out| route_rules::report(file, plan, out))
 }
 
 /// What writing PDDL leaves in two areas, and the two lengths or the refusal that it answers.

@@ -47,7 +47,8 @@ fn walked(file: &[u8], plan: &[u8]) -> Result<bool, String> {
     let worth =
         library::settle(file, cost, met).map_err(|refusal| format!("a walk's own: {refusal:?}"))?;
     let line = format!("\nmetric {} utility {}\n", worth.metric, worth.utility);
-    let (out, length) = library::report(file, plan, 2_048);
+    let (out, answer) = library::report(file, plan, library::MAX_REPORT);
+    let length = answer.map_err(|refusal| format!("a report refused: {refusal:?}"))?;
     if !out[..length].ends_with(line.as_bytes()) {
         return Err(format!("the report doesn't end with {line:?}"));
     }

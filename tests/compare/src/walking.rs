@@ -3,28 +3,21 @@
 use crate::library::{self, refusal, Refusal, Sizes, Verdict};
 use crate::tally::Tally;
 
-/// Every answer of walk, as the beginning of the report.
-const ANSWERS: [&str; 11] = [
+/// Every answer of a report: a refusal, or the beginning of the text.
+const ANSWERS: [&str; 12] = [
     "refused 1 ",
     "refused 2 ",
     "refused 3 ",
     "refused 4 ",
     "refused 5 ",
     "refused 6 ",
+    "refused 9 ",
     "refused 10 ",
     "refused 11 ",
     "solved ",
     "stopped ",
     "goal missed",
 ];
-
-/// What the area has to hold: as much of the text as fits, and nothing else.
-fn expected(text: &str, room: usize) -> Vec<u8> {
-    let mut out = library::area(room);
-    let n = text.len().min(room);
-    out[..n].copy_from_slice(&text.as_bytes()[..n]);
-    out
-}
 
 fn sizes(sizes: peer::Sizes) -> Sizes {
     Sizes {
@@ -64,22 +57,40 @@ fn numbers(file: &[u8], plan: &[u8]) -> Result<(), String> {
     same("walk", library::walk(file, plan), walked)
 }
 
+/// The area for a report: mostly of the length that is always enough, now and then just enough, a byte less or a small one.
+fn room_for(case: &peer::random::Case, seed: u64) -> usize {
+    let length = peer::report::lines(&case.file, &case.plan).map_or(0, |text| text.len());
+    match seed % 8 {
+        0 => case.room % 64,
+        1 => length,
+        2 => length.saturating_sub(1),
+        _ => library::MAX_REPORT,
+    }
+}
+
+/// The report's answer, held to the independent implementation's, as what it begins with.
+fn reported(file: &[u8], plan: &[u8], room: usize) -> Result<String, String> {
+    let text = peer::report::write(file, plan, room);
+    let shown = match &text {
+        Ok(bytes) => String::from_utf8_lossy(bytes).into_owned(),
+        Err(refusal) => peer::refused_text(*refusal),
+    };
+    let (out, answer) = library::report(file, plan, room);
+    let wrong = format!("report: the library answers {answer:?}, the independent implementation {shown:?}, or the areas differ");
+    match (out, answer) == library::expected(room, text) {
+        true => Ok(shown),
+        false => Err(wrong),
+    }
+}
+
 pub fn compare(first: u64, count: u64) -> Result<(), String> {
     let mut tally = Tally::new(&ANSWERS);
     for seed in first..first + count {
         let case = peer::random::case(seed);
-        numbers(&case.file, &case.plan).map_err(|why| format!("seed {seed}: {why}"))?;
-        let text = peer::report(&case.file, &case.plan);
-        // Mostly an area that has room, now and then one that cuts the text.
-        let room = if seed % 8 == 0 { case.room % 64 } else { 1024 };
-        let (out, length) = library::report(&case.file, &case.plan, room);
-        if length != text.len() || out != expected(&text, room) {
-            let shown = String::from_utf8_lossy(&out[..length.min(room)]).into_owned();
-            return Err(format!(
-                "seed {seed}: the library writes\n{shown}and the independent implementation\n{text}"
-            ));
-        }
-        let answer = ANSWERS.iter().find(|answer| text.starts_with(**answer));
+        let at = |why| format!("seed {seed}: {why}");
+        numbers(&case.file, &case.plan).map_err(at)?;
+        let shown = reported(&case.file, &case.plan, room_for(&case, seed)).map_err(at)?;
+        let answer = ANSWERS.iter().find(|answer| shown.starts_with(**answer));
         tally.count(answer.expect("an answer"));
     }
     tally.finish()

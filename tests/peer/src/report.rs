@@ -4,20 +4,31 @@ use crate::decode::decode;
 use crate::settle::{is_met, worth};
 use crate::task::Task;
 use crate::walk::{admit, verdict, Verdict};
-use crate::Refusal;
+use crate::{refuse, Refusal};
 use std::fmt::Write;
 
-/// What program judge writes when both files can be opened.
+/// What program judge writes when both files can be read.
 pub fn report(file: &[u8], plan: &[u8]) -> String {
-    let walked = decode(file).and_then(|task| {
-        admit(&task, plan)?;
-        Ok((verdict(&task, plan), task))
-    });
-    match walked {
-        Ok((Verdict::Solved { cost, met }, task)) => solved_text(&task, plan.len(), cost, met),
-        Ok((Verdict::Stopped(step), _)) => format!("stopped {step}\n"),
-        Ok((Verdict::GoalMissed, _)) => "goal missed\n".to_string(),
-        Err(refusal) => refused_text(refusal),
+    lines(file, plan).unwrap_or_else(refused_text)
+}
+
+/// The lines about a plan, or the refusal (1 to 6, 10, 11).
+pub fn lines(file: &[u8], plan: &[u8]) -> Result<String, Refusal> {
+    let task = decode(file)?;
+    admit(&task, plan)?;
+    Ok(match verdict(&task, plan) {
+        Verdict::Solved { cost, met } => solved_text(&task, plan.len(), cost, met),
+        Verdict::Stopped(step) => format!("stopped {step}\n"),
+        Verdict::GoalMissed => "goal missed\n".to_string(),
+    })
+}
+
+/// The same for an area of so many bytes, or then 9.
+pub fn write(file: &[u8], plan: &[u8], room: usize) -> Result<Vec<u8>, Refusal> {
+    let text = lines(file, plan)?;
+    match text.len() <= room {
+        true => Ok(text.into_bytes()),
+        false => refuse(9, 0),
     }
 }
 

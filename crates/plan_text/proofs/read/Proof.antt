@@ -6,7 +6,8 @@ use borrow.Author.Tests.{not-true, not-false}
 use Rattle.text.specs.Area.{written as put}
 use Rattle.plan_text.specs.Outcomes.{readOutcome, stepsIn}
 use Rattle.outcome.specs.Answers.{answer}
-use Rattle.plan_text.proofs.Answering.{turned-down, put-whole, too-many, too-small, roomy, too-long, bad-line, by-size, steps-found, line-below}
+use Rattle.outcome.proofs.Outcomes.{turned-down}
+use Rattle.plan_text.proofs.Answering.{put-whole, too-many, too-small, roomy, too-long, bad-line, by-size, steps-found, line-below}
 use borrow.Author.Needs.{needs}
 use Rattle.plan_text.proofs.read.Statement.{statement}
 use Rattle.plan_text.proofs.read.Tie as tie

@@ -6,7 +6,8 @@ use Rattle.plan_text.specs.PlanText.{textOf}
 use Rattle.outcome.specs.Outcome.{written}
 use Rattle.plan_text.specs.Outcomes.{writeOutcome}
 use Rattle.outcome.specs.Answers.{answer}
-use Rattle.plan_text.proofs.Answering.{turned-down, put-whole, too-many, too-small, roomy}
+use Rattle.outcome.proofs.Outcomes.{turned-down}
+use Rattle.plan_text.proofs.Answering.{put-whole, too-many, too-small, roomy}
 use borrow.Author.Needs.{needs}
 use Rattle.plan_text.proofs.write.Statement.{statement}
 use Rattle.plan_text.proofs.write.Tie as tie

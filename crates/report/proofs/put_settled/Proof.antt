@@ -1,3 +1,5 @@
+use denote.Ref.{now}
+use Rattle.text.proofs.Writing.{no-bytes}
 use borrow.Author.Needs.{needs}
 use Rattle.report.proofs.put_settled.Statement.{statement}
 use Rattle.report.proofs.put_settled.Tie as tie
@@ -8,17 +10,8 @@ enum-known-settled c = search needs
 put-worth-requires : tie.Need-put-worth-requires
 put-worth-requires c κs = search needs
 
-enum-known-settled-2 : tie.Need-enum-known-settled-2
-enum-known-settled-2 c = search needs
-
-cast-put-refused : tie.Need-cast-put-refused
-cast-put-refused c = search needs
-
-cast-put-refused-2 : tie.Need-cast-put-refused-2
-cast-put-refused-2 c = search needs
-
-put-refused-requires : tie.Need-put-refused-requires
-put-refused-requires c κs = search needs
+enum-told : tie.Need-enum-told
+enum-told c = search needs
 
 same-length : tie.Need-same-length
 same-length c = search needs
@@ -28,25 +21,10 @@ returns c =
     let p = c .before .before in
     rw (p .before .before .before .settled .given .1) (p .put-worth .ensures)
 
-same-length-2 : tie.Need-same-length-2
-same-length-2 c = search needs
-
 returns-2 : tie.Need-returns-2
-returns-2 c =
-    let p = c .before .before in
-    rw (p .before .before .before .before .before .settled2 .given .1) (p .put-refused .ensures .0)
+returns-2 c = rw (c .enum-told .given .1) (no-bytes (now (c .before .before .before .before .before .args .out)) 0)
 
 pub put-settled-spec : {M : Type 1} → statement M
 put-settled-spec =
     tie.close
-    (tie.spec
-    enum-known-settled
-    put-worth-requires
-    enum-known-settled-2
-    cast-put-refused
-    cast-put-refused-2
-    put-refused-requires
-    same-length
-    returns
-    same-length-2
-    returns-2)
+    (tie.spec enum-known-settled put-worth-requires enum-told same-length returns returns-2)

@@ -1,0 +1,2 @@
+-- What a write that failed leaves of a task file
+pub mod Cut
