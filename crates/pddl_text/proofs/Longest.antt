@@ -23,7 +23,7 @@ use Rattle.text.specs.Ascii.{ascii}
 use Rattle.text.specs.Text.{decimal}
 use Rattle.text.proofs.Decimal.{few-digits}
 use Rattle.pddl_text.specs.Pddl.{spaced, factText, notText, literalText, clauseText, conditionText, effectText, actionLine, domainText, problemText}
-use Rattle.pddl_text.specs.Outcomes.{Outcome, written, refused, fitted, outcomeBy, outcome}
+use Rattle.pddl_text.specs.Outcomes.{written, refused, fitted, outcomeBy, outcome}
 use Rattle.pddl_text.proofs.Outcomes.{not-written, same-refused}
 
 -- Lists, each of whose parts is behind a space

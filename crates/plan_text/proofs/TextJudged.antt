@@ -5,7 +5,6 @@ use Prim.Native.Nat.{ℕ}
 use Rattle.task.specs.Check
 use Rattle.task.specs.Check.{Answer, check}
 use Rattle.plan.specs.Judged.{judgedBy, judged}
-use Rattle.plan.specs.Walked.{Walked}
 use Rattle.plan.specs.Settled.{andSettled}
 use Rattle.plan.proofs.Settling.{walk-then-settle}
 use Rattle.plan_text.specs.PlanText.{Read, plan, faulty, readPlan}

@@ -1,5 +1,4 @@
 // The lines of the text, one by one. Each function writes from a place on and answers the place behind.
-ghost use mathlib.Core.Path.{_≡_};
 ghost use Prim.Native.Nat.{_+_, _^_, _≤_, _<_};
 ghost use Rattle.task.specs.File.{kindOf};
 ghost use Rattle.text.specs.Area.{Wrote};

@@ -10,7 +10,7 @@ use Rattle.task.specs.File.{taskOf}
 use Rattle.task.specs.Check
 use Rattle.task.specs.Check.{Answer, check}
 use Rattle.task.proofs.Refusals.{one-to-six}
-use Rattle.outcome.specs.Outcome.{written, refused, fitted}
+use Rattle.outcome.specs.Outcome.{refused, fitted}
 use Rattle.outcome.proofs.Outcomes.{not-written, same-refused}
 use Rattle.classical.specs.Translation.{further, compiledRows}
 use Rattle.translation.specs.Translated.{smallEnough, rowsFitted, outcomeBy, outcome}

@@ -1,6 +1,5 @@
 // The whole translated task.
-ghost use mathlib.Core.Path.{_≡_};
-ghost use Prim.Native.Nat.{ℕ, _+_, _*_, _≤_};
+ghost use Prim.Native.Nat.{_+_, _*_, _≤_};
 ghost use lib.ListN.{length};
 ghost use Rattle.translation.specs.Parts.{preferencesTo, openingRows, AllActsFor, WroteTask};
 ghost use Rattle.trackers.specs.Writer.{Wrote, part};

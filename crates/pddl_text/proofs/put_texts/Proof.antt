@@ -40,8 +40,8 @@ returns c = λ t spelled same.
 put-problem-requires-2 : tie.Need-put-problem-requires-2
 put-problem-requires-2 c κs =
     let g = c .before in
-    let p = g .before .before .before .before .before .before in
-    let start = p .before .before .before .before .before .before in
+    let counted = g .before .before .before .before .before .before in
+    let start = counted .before .before .before .before .before .before in
     let (t, same, spelled) = start .pre .3 in
     (search needs, search needs, (t, spelled))
 
