@@ -18,6 +18,10 @@ belt = file(BELT, F=2)
 longest = file(goal(12000))
 four_lines = 'solved steps 1 cost 3\n0 always 5 missed\n1 sometime 7 met\nmetric 8 utility 4\n'
 
+LONGEST = ('solved steps 2048 cost 2048000000\n' + ''.join(f'{k} sometime-before 1000000 missed\n' for k in range(16))
+           + 'metric 2064000000 utility -2048000000\n')
+assert len(LONGEST) == 606
+
 # What each case is for, its files, and what the program has to write.
 CASES = [
     ('the belt', dict(task=belt, plan=b'\0'), four_lines),
@@ -37,6 +41,7 @@ CASES = [
     ('2,049 steps', dict(task=belt, plan=bytes(2049)), 'refused 10 0\n'),
     ('100,000 steps', dict(task=belt, plan=bytes(100000)), 'refused 10 0\n'),
     ('an unknown step behind the 2,048th', dict(task=belt, plan=bytes(2048) + b'\7'), 'refused 10 0\n'),
+    ('the longest report', dict(task=file('GOAL ACTION 1000000' + ' sometime-before 1000000 SECOND' * 16), plan=bytes(2048)), LONGEST),
 ]
 
 # A read that fails is told, however much was read before; a read that gives less than was asked for is not the last.

@@ -102,7 +102,13 @@ pub fn both_open(a: &[u8], b: &[u8]) -> bool {
     both
 }
 
-// Writes a file, and answers whether it now holds the bytes alone: every write and the close went well.
+// Empties a file.
+pub fn empty(name: &[u8]) {
+    opened(os::open_overwrite(name));
+}
+
+// Writes a file, and answers whether it now holds the bytes alone: it was opened, and every write and the close went well. Where
+// one of these failed the file is emptied, so that nothing takes a part for the whole.
 pub fn write(name: &[u8], bytes: &[u8]) -> bool {
     let fd = os::open_overwrite(name);
     if fd < 0 {
@@ -110,12 +116,11 @@ pub fn write(name: &[u8], bytes: &[u8]) -> bool {
     }
     let all = io::write_all(fd, bytes);
     let closed = libc::close(fd);
-    all & (closed == 0)
-}
-
-// Empties a file.
-pub fn empty(name: &[u8]) {
-    opened(os::open_overwrite(name));
+    let whole = all & (closed == 0);
+    if !whole {
+        empty(name);
+    }
+    whole
 }
 
 // Prints that a file is missing.

@@ -9,9 +9,8 @@ fn write_texts(domain: &[u8], problem: &[u8]) {
         files::say_missing();
         return;
     }
-    let d = files::write(b"domain.pddl", domain);
-    let p = files::write(b"problem.pddl", problem);
-    if !(d & p) {
+    let whole = files::write(b"domain.pddl", domain) && files::write(b"problem.pddl", problem);
+    if !whole {
         files::empty(b"domain.pddl");
         files::empty(b"problem.pddl");
         files::say_missing();

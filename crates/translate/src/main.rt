@@ -5,7 +5,6 @@ use outcome::Outcome;
 // Writes `compiled`, which then holds the translation alone, or nothing where it could not be written.
 fn write_compiled(translation: &[u8]) {
     if !files::write(b"compiled", translation) {
-        files::empty(b"compiled");
         files::say_missing();
     }
 }
