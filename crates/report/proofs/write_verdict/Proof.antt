@@ -61,7 +61,7 @@ returns-2 c =
     let n = w .put-text .result in
     let size : n ≡ length (reportOn b p) = w .put-text .ensures .size in
     let fits : length (reportOn b p) ≤ length out = omega (arith, e .if1 .left, size) in
-    let whole : take n (w .put-text .last .1 .1 .1 .0) ≡ reportOn b p = at-front _ (reportOn b p) n _ (w .put-text .ensures) (longest b p) in
+    let whole : take n (w .put-text .last .1 .1 .1 .0) ≡ reportOn b p = at-front _ (reportOn b p) n _ (w .put-text .ensures) (omega (arith, longest b p)) in
     put-down (reportOn b p) out (q .put-word .last .0) n (reportOutcome b p (length out)) (sym size)
     (q .put-word .ensures .area ∙ ap (λ (l : List ℕ). put l 0 out) (f .front .ensures ∙ whole) ∙ written-whole (reportOn b p) out fits)
     (roomy b p (asVerdict (s .args .v)) (s .pre) (length out) fits ∙ ap written (sym size))
