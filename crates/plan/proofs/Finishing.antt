@@ -14,7 +14,7 @@ use Rattle.task.specs.Meaning.{State as Facts, isTrue, seen, preferenceAt}
 use Rattle.task.specs.Monitor.{Monitor, step}
 use Rattle.task.proofs.Tests.{tests}
 use Rattle.state.specs.Member.{bit, member}
-use Rattle.state.specs.Conditions.{start, evaluateAt}
+use Rattle.state.specs.Conditions.{begin, evaluateAt}
 use Rattle.state.specs.declared.conditions.Evaluated.{Evaluated}
 use Rattle.state.specs.declared.State.{State}
 use Rattle.state.proofs.Bits.{beyond-law}
@@ -31,12 +31,12 @@ use Rattle.plan.proofs.TaskRead.{goal-read}
 use Rattle.plan.proofs.Meeting.{met-is}
 
 module _ (t : Task) (ms vs : List ℕ) (R : Reads t ms vs) (p : Position) (μ : Preference → Monitor) (goal : ℕ)
-    (there : goal ≡ length (t .start) + 1) (e : Evaluated) (read : e ≡ evaluateAt (member (p .state)) start ms vs goal) where
+    (there : goal ≡ length (t .start) + 1) (e : Evaluated) (read : e ≡ evaluateAt (member (p .state)) begin ms vs goal) where
   abbrev σ : Facts
   σ = member (p .state)
 
   goal-is : e .holds ≡ isTrue σ (t .goal)
-  goal-is = ap (λ (x : Evaluated). x .holds) (read ∙ ap (evaluateAt σ start ms vs) there) ∙ goal-read t ms vs R σ
+  goal-is = ap (λ (x : Evaluated). x .holds) (read ∙ ap (evaluateAt σ begin ms vs) there) ∙ goal-read t ms vs R σ
 
   pub missed : e .holds ≡ false → goal-missed ≡ lastVerdict t σ μ (p .cost)
   missed false-one = rw (sym goal-is ∙ false-one)

@@ -20,7 +20,7 @@ use Rattle.task.proofs.Passing.{secondRows}
 use Rattle.task.proofs.Reading.{mark-at}
 use Rattle.task.proofs.Positions.{drop-next, drop-behind, preferences-stop}
 use Rattle.task.proofs.Steps.{behind-steps}
-use Rattle.state.specs.Conditions.{inCondition, start, evaluateAt}
+use Rattle.state.specs.Conditions.{inCondition, begin, lookedAt, evaluateAt}
 use Rattle.state.specs.declared.conditions.Evaluated.{Evaluated}
 use Rattle.state.proofs.ConditionRows.{condition-at, condition-ends}
 use Rattle.plan.specs.Monitors.{headRows, isTwoSided, Sides-of}
@@ -33,12 +33,12 @@ no-second (c ∷ ψ) t = absurd t
 
 module _ (ms vs : List ℕ) (σ : Facts) where
   -- where the loop over a condition ends
-  not-before : (i : ℕ) → i ≤ evaluateAt σ start ms vs i .next
-  not-before i = condition-ends σ start ms vs i .0
+  not-before : (i : ℕ) → i ≤ evaluateAt σ begin ms vs i .next
+  not-before i = condition-ends σ begin ms vs i .0
 
-  pub few-rows : (i : ℕ) (r : Evaluated) → r ≡ evaluateAt σ start ms vs i → r .next ≤ i + length ms
+  pub few-rows : (i : ℕ) (r : Evaluated) → r ≡ evaluateAt σ begin ms vs i → r .next ≤ i + length ms
   few-rows i r e =
-      omega (arith, condition-ends σ start ms vs i .1, length-drop i (paired ms vs), length-paired ms vs, ap (λ (x : Evaluated). x .next) e)
+      omega (arith, condition-ends σ begin ms vs i .1, length-drop i (paired ms vs), length-paired ms vs, ap (λ (x : Evaluated). x .next) e)
 
   module _ (i : ℕ) (h : i < length ms) (q : Preference) (qs : List Preference)
       (e : drop i (paired ms vs) ≡ concatMap preferenceRows (q ∷ qs)) (ok : T (preferenceSpellable q)) where
@@ -59,7 +59,7 @@ module _ (ms vs : List ℕ) (σ : Facts) where
     behind-head = behind-steps ms vs i q more e ∙ append-assoc (conditionRows (q .first)) (secondRows q) more
 
     first-is : Stops inCondition (secondRows q ++ more)
-        → evaluateAt σ start ms vs from ≡ record { holds = isTrue σ (q .first); next = from + length (conditionRows (q .first)) }
+        → evaluateAt σ begin ms vs from ≡ record { holds = isTrue σ (q .first); looked = lookedAt σ (q .first); next = from + length (conditionRows (q .first)) }
     first-is stop = condition-at σ ms vs from (q .first) (secondRows q ++ more) behind-head stop
 
     -- how many rows the preference has
@@ -71,15 +71,15 @@ module _ (ms vs : List ℕ) (σ : Facts) where
           length-append (conditionRows (q .first)) (secondRows q),
         )
 
-    module _ (r : Evaluated) (first-read : r ≡ evaluateAt σ start ms vs (i + headRows (getD ms i 0))) where
+    module _ (r : Evaluated) (first-read : r ≡ evaluateAt σ begin ms vs (i + headRows (getD ms i 0))) where
       first-whole : Stops inCondition (secondRows q ++ more)
-          → r ≡ record { holds = isTrue σ (q .first); next = from + length (conditionRows (q .first)) }
-      first-whole stop = first-read ∙ ap (evaluateAt σ start ms vs) from-is ∙ first-is stop
+          → r ≡ record { holds = isTrue σ (q .first); looked = lookedAt σ (q .first); next = from + length (conditionRows (q .first)) }
+      first-whole stop = first-read ∙ ap (evaluateAt σ begin ms vs) from-is ∙ first-is stop
 
       pub one-side : isTwoSided (getD ms i 0) ≡ false → Sides-of q i σ (record { phi = r .holds; psi = true; next = r .next })
       one-side e₁ =
           let one : two-sided (q .kind) ≡ false = sym (ap isTwoSided mark-is ∙ side-count (q .kind)) ∙ e₁ in
-          let whole : r ≡ record { holds = isTrue σ (q .first); next = from + length (conditionRows (q .first)) } =
+          let whole : r ≡ record { holds = isTrue σ (q .first); looked = lookedAt σ (q .first); next = from + length (conditionRows (q .first)) } =
           first-whole (rw one (preferences-stop inCondition kind-past qs)) in
           let empty-second : q .second ≡ [] = no-second (q .second) (subst (λ (b : Bool). T (b || isEmpty (q .second))) one (search tests)) in
           let no-rows : length (secondRows q) ≡ 0 = rw one in
@@ -89,17 +89,17 @@ module _ (ms vs : List ℕ) (σ : Facts) where
             next = ap (λ (x : Evaluated). x .next) whole ∙ omega (arith, all-rows, no-rows);
           }
 
-      pub two-sides : isTwoSided (getD ms i 0) ≡ true → (x : Evaluated) → x ≡ evaluateAt σ start ms vs (r .next + 1)
+      pub two-sides : isTwoSided (getD ms i 0) ≡ true → (x : Evaluated) → x ≡ evaluateAt σ begin ms vs (r .next + 1)
           → Sides-of q i σ (record { phi = r .holds; psi = x .holds; next = x .next })
       two-sides e₁ x second-read =
           let two : two-sided (q .kind) ≡ true = sym (ap isTwoSided mark-is ∙ side-count (q .kind)) ∙ e₁ in
           let at : ℕ = from + length (conditionRows (q .first)) in
-          let whole : r ≡ record { holds = isTrue σ (q .first); next = at } = first-whole (rw two refl) in
+          let whole : r ≡ record { holds = isTrue σ (q .first); looked = lookedAt σ (q .first); next = at } = first-whole (rw two refl) in
           let behind-second : drop (at + 1) (paired ms vs) ≡ conditionRows (q .second) ++ more =
           drop-next at (paired ms vs) (row SECOND 0) (conditionRows (q .second) ++ more)
           (drop-behind from (paired ms vs) (conditionRows (q .first)) (secondRows q ++ more) behind-head ∙ rw two) in
-          let second-whole : x ≡ record { holds = isTrue σ (q .second); next = at + 1 + length (conditionRows (q .second)) } =
-          second-read ∙ ap (λ (y : Evaluated). evaluateAt σ start ms vs (y .next + 1)) whole
+          let second-whole : x ≡ record { holds = isTrue σ (q .second); looked = lookedAt σ (q .second); next = at + 1 + length (conditionRows (q .second)) } =
+          second-read ∙ ap (λ (y : Evaluated). evaluateAt σ begin ms vs (y .next + 1)) whole
           ∙ condition-at σ ms vs (at + 1) (q .second) more behind-second (preferences-stop inCondition kind-past qs) in
           let rows : length (secondRows q) ≡ 1 + length (conditionRows (q .second)) = rw two (omega arith) in
           record {
@@ -109,8 +109,8 @@ module _ (ms vs : List ℕ) (σ : Facts) where
           }
 
   -- the loop goes on behind the opening row
-  pub later : (i : ℕ) (r : Evaluated) (m : ℕ) → r ≡ evaluateAt σ start ms vs (i + headRows m) → i < r .next
+  pub later : (i : ℕ) (r : Evaluated) (m : ℕ) → r ≡ evaluateAt σ begin ms vs (i + headRows m) → i < r .next
   later i r m e = omega (arith, head-least m, not-before (i + headRows m), ap (λ (x : Evaluated). x .next) e)
 
-  pub later-still : (i : ℕ) (x : Evaluated) → x ≡ evaluateAt σ start ms vs (i + 1) → i < x .next
+  pub later-still : (i : ℕ) (x : Evaluated) → x ≡ evaluateAt σ begin ms vs (i + 1) → i < x .next
   later-still i x e = omega (arith, not-before (i + 1), ap (λ (y : Evaluated). y .next) e)

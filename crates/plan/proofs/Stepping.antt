@@ -14,10 +14,10 @@ use Rattle.task.specs.Spelling.{preferenceSpellable}
 use Rattle.task.specs.Meaning.{State as Facts, isTrue, actionAt, applies}
 use Rattle.task.proofs.Tests.{tests}
 use Rattle.state.specs.Member.{member}
-use Rattle.state.specs.Conditions.{start, evaluateAt}
-use Rattle.state.specs.Effects.{none, applyAt, resultOf, Result}
+use Rattle.state.specs.Conditions.{begin, lookedAt, evaluateAt}
+use Rattle.state.specs.Effects.{Changes}
 use Rattle.state.specs.declared.conditions.Evaluated.{Evaluated}
-use Rattle.state.specs.declared.effects.Applied.{Applied}
+use Rattle.state.specs.declared.effects.Changed.{Changed}
 use Rattle.state.specs.declared.State.{State}
 use Rattle.plan.specs.Places.{actionRow}
 use Rattle.plan.specs.Reads.{Reads}
@@ -26,12 +26,12 @@ use Rattle.plan.specs.declared.steps.Position.{Position}
 use Rattle.plan.proofs.TaskRead.{at, cost-read, precondition-read, effects-read}
 
 module _ (t : Task) (ms vs : List ℕ) (R : Reads t ms vs) (k : ℕ) (h : k < length (t .actions)) (p : Position)
-    (i : ℕ) (there : i ≡ actionRow t k) (e : Evaluated) (read : e ≡ evaluateAt (member (p .state)) start ms vs (i + 1)) where
+    (i : ℕ) (there : i ≡ actionRow t k) (e : Evaluated) (read : e ≡ evaluateAt (member (p .state)) begin ms vs (i + 1)) where
   abbrev σ : Facts
   σ = member (p .state)
 
-  whole : e ≡ record { holds = isTrue σ (actionAt t k .precondition); next = at t ms vs R k h + length (conditionRows (actionAt t k .precondition)) }
-  whole = read ∙ ap (λ (n : ℕ). evaluateAt σ start ms vs (n + 1)) there ∙ precondition-read t ms vs R k h σ
+  whole : e ≡ record { holds = isTrue σ (actionAt t k .precondition); looked = lookedAt σ (actionAt t k .precondition); next = at t ms vs R k h + length (conditionRows (actionAt t k .precondition)) }
+  whole = read ∙ ap (λ (n : ℕ). evaluateAt σ begin ms vs (n + 1)) there ∙ precondition-read t ms vs R k h σ
 
   applying : e .holds ≡ applies t σ k
   applying =
@@ -41,16 +41,10 @@ module _ (t : Task) (ms vs : List ℕ) (R : Reads t ms vs) (k : ℕ) (h : k < le
   pub stopped : e .holds ≡ false → applies t σ k ≡ false
   stopped false-one = sym applying ∙ false-one
 
-  module _ (true-one : e .holds ≡ true) (a : Applied) (moved : resultOf a ≡ applyAt σ none ms vs (e .next)) where
-    reached : member (a .state) ≡ applyAt σ none ms vs (e .next) .state
-    reached = ap (λ (r : Result). r .state) moved
-
+  module _ (true-one : e .holds ≡ true) (a : Changed) (moved : Changes σ ms vs (e .next) a) where
     pub led : (c : ℕ) → i < length ms → c ≡ p .cost + valueAt vs i → Leads t k p (record { state = a .state; cost = c })
     led c within cost = record {
       applying = sym applying ∙ true-one;
-      state =
-          reached
-          ∙ ap (λ (n : ℕ). applyAt σ none ms vs n .state) (ap (λ (x : Evaluated). x .next) whole)
-          ∙ effects-read t ms vs R k h σ;
+      state = effects-read t ms vs R k h σ a (subst (λ (x : Evaluated). Changes σ ms vs (x .next) a) whole moved);
       cost = cost ∙ ap (λ (n : ℕ). p .cost + n) (ap (valueAt vs) there ∙ cost-read t ms vs R k h (subst (λ (n : ℕ). n < length ms) there within));
     }

@@ -17,9 +17,9 @@ use Rattle.task.proofs.Tests.{all-map}
 use Rattle.task.proofs.Bytes.{length-paired}
 use Rattle.task.proofs.Reading.{passes, fold, run-stop, run-through, run-ends}
 use Rattle.state.specs.Member.{empty}
-use Rattle.state.specs.Effects.{Result}
+use Rattle.state.specs.Effects.{allMarked, Result}
 use Rattle.state.specs.Opening.{openRow, opened, openAt}
-use Rattle.state.proofs.EffectRows.{allMarked, marked-all}
+use Rattle.state.proofs.EffectRows.{marked-all}
 
 starts-read : (f : Facts) (ns : List ℕ) → fold openRow f (map (row START) ns) ≡ allMarked true f ns
 starts-read f [] = refl

@@ -1,7 +1,7 @@
 use mathlib.Core.Path.{_≡_, sym, ap, _∙_}
 use Prim.Native.Nat.{ℕ, _+_}
 use lib.ListN.{getD}
-use Rattle.state.specs.Conditions.{start, evaluateAt}
+use Rattle.state.specs.Conditions.{begin, evaluateAt}
 use Rattle.plan.specs.Monitors.{headRows}
 use native.Mathlib.Omega.{arith}
 use borrow.Author.Needs.{needs}
@@ -16,10 +16,10 @@ use Rattle.plan.proofs.monitors.read_sides.Tie as tie
 
 -- the first condition begins behind the opening row, and behind the steps
 first-read : (d : tie.After-condition) → let a = d .before .before .before .before .before .args in
-    d .condition .result ≡ evaluateAt (member (a .s)) start (now (a .marks)) (now (a .values)) (a .i + headRows (getD (now (a .marks)) (a .i) 0))
+    d .condition .result ≡ evaluateAt (member (a .s)) begin (now (a .marks)) (now (a .values)) (a .i + headRows (getD (now (a .marks)) (a .i) 0))
 first-read d =
     let a = d .before .before .before .before .before .args in
-    d .condition .ensures ∙ ap (λ (n : ℕ). evaluateAt (member (a .s)) start (now (a .marks)) (now (a .values)) (a .i + n)) (d .before .head-rows .ensures)
+    d .condition .ensures .0 ∙ ap (λ (n : ℕ). evaluateAt (member (a .s)) begin (now (a .marks)) (now (a .values)) (a .i + n)) (d .before .head-rows .ensures)
 
 shared-slice-read-mark : tie.Need-shared-slice-read-mark
 shared-slice-read-mark c = search needs
@@ -67,11 +67,11 @@ returns-2 c =
       omega (
         arith,
         later (now (a .marks)) (now (a .values)) (member (a .s)) (a .i) (d .condition .result) (getD (now (a .marks)) (a .i) 0) (first-read d),
-        later-still (now (a .marks)) (now (a .values)) (member (a .s)) (d .condition .result .next) (c .condition2 .result) (c .condition2 .ensures),
+        later-still (now (a .marks)) (now (a .values)) (member (a .s)) (d .condition .result .next) (c .condition2 .result) (c .condition2 .ensures .0),
       ),
       λ q qs e ok. two-sides (now (a .marks)) (now (a .values)) (member (a .s)) (a .i) (search needs) q qs e ok (d .condition .result) (first-read d)
           (sym (c .before .before .before .is-two-sided .ensures) ∙ not-false _ (c .before .before .if1 .left))
-          (c .condition2 .result) (c .condition2 .ensures),
+          (c .condition2 .result) (c .condition2 .ensures .0),
     )
 
 pub read-sides-spec : {M : Type 1} → statement M

@@ -15,7 +15,7 @@ returns : tie.Need-returns
 returns c = λ t R prefs there μ are.
     let g = c .before .before in
     let a = g .before .before .before .before .before .args in
-    missed t (now (a .marks)) (now (a .values)) R (a .p) μ (a .goal) there (g .condition .result) (g .condition .ensures)
+    missed t (now (a .marks)) (now (a .values)) R (a .p) μ (a .goal) there (g .condition .result) (g .condition .ensures .0)
     (not-true _ (c .if1 .taken))
 
 find-requires : tie.Need-find-requires
@@ -25,7 +25,7 @@ returns-2 : tie.Need-returns-2
 returns-2 c = λ t R prefs there μ are.
     let g = c .before .before .before in
     let a = g .before .before .before .before .before .args in
-    solved-is t (now (a .marks)) (now (a .values)) R (a .p) μ (a .goal) there (g .condition .result) (g .condition .ensures)
+    solved-is t (now (a .marks)) (now (a .values)) R (a .p) μ (a .goal) there (g .condition .result) (g .condition .ensures .0)
     (not-false _ (c .before .if1 .left)) (a .at) prefs (a .ms) are (g .before .watch .result) (g .before .watch .ensures)
     (c .find .result) (c .find .ensures) (search needs)
 

@@ -20,7 +20,7 @@ returns c =
     let a = n .before .before .before .before .args in (
       tt,
       λ t R k h there. stopped t (now (a .marks)) (now (a .values)) R k h (a .p) (a .from) there
-          (n .condition .result) (n .condition .ensures) (not-true _ (c .if1 .taken)),
+          (n .condition .result) (n .condition .ensures .0) (not-true _ (c .if1 .taken)),
     )
 
 after-requires : tie.Need-after-requires
@@ -45,7 +45,7 @@ returns-2 c =
     let a = b .args in (
       search needs,
       λ t R k h there. led t (now (a .marks)) (now (a .values)) R k h (a .p) (a .from) there
-          (n .condition .result) (n .condition .ensures) (not-false _ (e .if1 .left)) (m .after .result) (m .after .ensures)
+          (n .condition .result) (n .condition .ensures .0) (not-false _ (e .if1 .left)) (m .after .result) (m .after .ensures)
           _ (b .pre .2) (ap (λ (x : ℕ). a .p .cost + x) (v .value-at .ensures)),
     )
 
