@@ -92,8 +92,7 @@ module _ (s : Facts) where
   lost-step : (p : Bool) (n : ℕ) (x : Row) → readRow s (reading false p n) x ≡ reading false (cond (eqb (x .mark) CLAUSE) false p) n
   lost-step p n x = go (eqb (x .mark) CLAUSE)
     where
-      go : (b : Bool) → record { clauses = cond b (record { earlier = false; present = false }) (record { earlier = false; present = p }); looked = cond b n n }
-          ≡ reading false (cond b false p) n
+      go : (b : Bool) → cond b (reading false false n) (reading false p n) ≡ reading false (cond b false p) n
       go true = refl
       go false = refl
 

@@ -13,13 +13,14 @@ use Rattle.state.proofs.effects.mark_all.Statement.{statement}
 use Rattle.state.proofs.effects.mark_all.Tie as tie
 
 abbrev Inv-loop : tie.InvT-loop
-Inv-loop marks values at mark fires f₀ i₀ f i = (at ≤ i) × (markAt mark fires (member f) marks values i ≡ markAt mark fires (member f₀) marks values at)
+Inv-loop marks values at mark fires f₀ i₀ f i =
+    (at ≤ i) × (i ≤ length marks) × (markAt mark fires (member f) marks values i ≡ markAt mark fires (member f₀) marks values at)
 
 abbrev μ-loop : tie.MeasureT-loop
 μ-loop marks values at mark fires f₀ i₀ f i = length marks - i
 
 loop-holds : tie.Need-loop-holds Inv-loop μ-loop
-loop-holds c = (search needs, refl)
+loop-holds c = (search needs, search needs, refl)
 
 shared-slice-read-if1 : tie.Need-shared-slice-read-if1 Inv-loop μ-loop
 shared-slice-read-if1 c = search needs
@@ -30,7 +31,7 @@ returns c =
     let a = l .before .before .before .args in (
       sym (stops-at (markRow (a .fires)) (λ (n : ℕ). eqb n (a .mark)) ending (member (l .loop .f)) (now (a .marks)) (now (a .values)) (l .loop .i) (search needs)
       (ne-eqb _ _ (c .if1 .taken)))
-      ∙ l .loop .inv .1,
+      ∙ l .loop .inv .2,
       search needs,
     )
 
@@ -51,11 +52,12 @@ loop-again c =
     let l = c .before .before .before .before .before in
     let a = l .before .before .before .args in (
       search needs,
+      search needs,
       ap (λ (g : Facts). markAt (a .mark) (a .fires) g (now (a .marks)) (now (a .values)) (l .loop .i + 1))
       (c .marked-if .ensures ∙ rw (c .before .value-at .ensures))
       ∙ sym (goes-on (markRow (a .fires)) (λ (n : ℕ). eqb n (a .mark)) ending (member (l .loop .f)) (now (a .marks)) (now (a .values)) (l .loop .i) (search needs)
       (eq-eqb _ _ (c .before .before .if1 .left)))
-      ∙ l .loop .inv .1,
+      ∙ l .loop .inv .2,
     )
 
 returns-2 : tie.Need-returns-2 Inv-loop μ-loop
@@ -63,7 +65,7 @@ returns-2 c =
     let l = c .before in
     let a = l .before .before .before .args in (
       sym (ends-at (markRow (a .fires)) (λ (n : ℕ). eqb n (a .mark)) ending (member (l .loop .f)) (now (a .marks)) (now (a .values)) (l .loop .i) (search needs))
-      ∙ l .loop .inv .1,
+      ∙ l .loop .inv .2,
       search needs,
     )
 
