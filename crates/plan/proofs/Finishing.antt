@@ -1,62 +1,71 @@
 -- The verdict behind the last step.
 use mathlib.Core.Path.{_≡_, refl, sym, ap, _∙_, fun-ext}
 use mathlib.Core.Bool.{Bool, true, false, cond}
-use mathlib.Core.List.{List, map}
+use mathlib.Core.List.{List, [], map}
 use Prim.Native.Nat.{ℕ, _+_, _^_, _≤_, _<_}
 use native.Mathlib.Omega.{arith}
-use lib.Dec.{T, ltb}
+use lib.Dec.{ltb}
 use lib.ListN.{length, getD, length-map, List·getD-eq-default}
 use borrow.Author.Tests.{ltb-true, ltb-false}
-use Rattle.task.specs.Lists.{all}
-use Rattle.task.specs.Task.{Task, Preference}
-use Rattle.task.specs.Spelling.{preferenceSpellable}
+use Rattle.task.specs.Task.{Task, Preference, conditionRows}
 use Rattle.task.specs.Meaning.{State as Facts, isTrue, seen, preferenceAt}
+use Rattle.task.specs.Literals.{lookedAt, lookedFrom}
 use Rattle.task.specs.Monitor.{Monitor, step}
 use Rattle.task.proofs.Tests.{tests}
 use Rattle.state.specs.Member.{bit, member}
-use Rattle.state.specs.Conditions.{begin, evaluateAt}
+use Rattle.state.specs.Conditions.{begin, readAs, evaluateAt}
 use Rattle.state.specs.declared.conditions.Evaluated.{Evaluated}
 use Rattle.state.specs.declared.State.{State}
 use Rattle.state.proofs.Bits.{beyond-law}
 use Rattle.state.proofs.Words.{in-low}
-use Rattle.plan.specs.Monitors.{monitorAt, Watched}
+use Rattle.plan.specs.Monitors.{monitorAt, Have-seen, Watched}
 use Rattle.plan.specs.Reads.{Reads, PreferencesAt}
-use Rattle.plan.specs.Walked.{solved, goal-missed}
+use Rattle.plan.specs.Walked.{solved, goal-missed, given}
 use Rattle.plan.specs.Counting.{countAt}
 use Rattle.plan.specs.Met.{noneMet, found}
 use Rattle.plan.specs.Steps.{isGood, solvedBy, lastVerdict, MonitorsAre}
-use Rattle.plan.specs.declared.monitors.Monitor as Monitors
 use Rattle.plan.specs.declared.steps.Position.{Position}
 use Rattle.plan.proofs.TaskRead.{goal-read}
 use Rattle.plan.proofs.Meeting.{met-is}
 
 module _ (t : Task) (ms vs : List ℕ) (R : Reads t ms vs) (p : Position) (μ : Preference → Monitor) (goal : ℕ)
-    (there : goal ≡ length (t .start) + 1) (e : Evaluated) (read : e ≡ evaluateAt (member (p .state)) begin ms vs goal) where
+    (there : goal ≡ length (t .start) + 1) (e : Evaluated) (read : e ≡ evaluateAt (member (p .state)) begin ms vs goal)
+    (at : ℕ) (prefs : PreferencesAt t ms vs at) (l l′ : List ℕ) (n : ℕ) (watched : Watched ms vs at true (member (p .state)) l l′ n) where
   abbrev σ : Facts
   σ = member (p .state)
 
-  goal-is : e .holds ≡ isTrue σ (t .goal)
-  goal-is = ap (λ (x : Evaluated). x .holds) (read ∙ ap (evaluateAt σ begin ms vs) there) ∙ goal-read t ms vs R σ
+  whole : e ≡ readAs σ (t .goal) (length (t .start) + 1 + length (conditionRows (t .goal)))
+  whole = read ∙ ap (evaluateAt σ begin ms vs) there ∙ goal-read t ms vs R σ
 
-  pub missed : e .holds ≡ false → goal-missed ≡ lastVerdict t σ μ (p .cost)
-  missed false-one = rw (sym goal-is ∙ false-one)
+  goal-is : e .holds ≡ isTrue σ (t .goal)
+  goal-is = ap (λ (x : Evaluated). x .holds) whole
+
+  few : length (t .preferences) ≤ 16
+  few = R .few-preferences
+
+  seen-by-all : Have-seen (t .preferences) true σ l l′ n
+  seen-by-all = watched (t .preferences) prefs (let s = R .spelling in search tests) few
+
+  -- the preferences and the goal are looked at
+  looked-is : p .looked + n + e .looked ≡ p .looked + lookedFrom t σ []
+  looked-is =
+      let goal-looked : e .looked ≡ lookedAt σ (t .goal) = ap (λ (x : Evaluated). x .looked) whole in
+      omega (arith, seen-by-all .literals, goal-looked)
+
+  pub missed : e .holds ≡ false → given goal-missed (p .looked + n + e .looked) ≡ given (lastVerdict t σ μ (p .cost)) (p .looked + lookedFrom t σ [])
+  missed false-one =
+      let v : goal-missed ≡ lastVerdict t σ μ (p .cost) = rw (sym goal-is ∙ false-one) in
+      λ z. given (v z) (looked-is z)
 
   abbrev μ′ : Preference → Monitor
   μ′ q = step (q .kind) true (μ q) (seen q σ)
 
-  module _ (true-one : e .holds ≡ true) (at : ℕ) (prefs : PreferencesAt t ms vs at) (l : List Monitors.Monitor) (are : MonitorsAre t l μ)
-      (l′ : List Monitors.Monitor) (watched : Watched ms vs at true σ l l′)
+  module _ (true-one : e .holds ≡ true) (are : MonitorsAre t l μ)
       (found-ones : State) (says : (vs : List ℕ) → member found-ones ≡ countAt (found l′) noneMet ms vs at .met)
       (fits : found-ones .low < 2 ^ 64) where
-    few : length (t .preferences) ≤ 16
-    few = R .few-preferences
-
-    spelled : T (all preferenceSpellable (t .preferences))
-    spelled = let s = R .spelling in search tests
-
     have-seen : (j : ℕ) → j < length (t .preferences) → monitorAt l′ j ≡ μ′ (preferenceAt t j)
     have-seen j h =
-        watched (t .preferences) prefs spelled few j h
+        seen-by-all .monitors j h
         ∙ ap (λ (x : Monitor). step (preferenceAt t j .kind) true x (seen (preferenceAt t j) σ)) (are j h)
 
     abbrev outcomes : List Bool
@@ -76,7 +85,11 @@ module _ (t : Task) (ms vs : List ℕ) (R : Reads t ms vs) (p : Position) (μ : 
             ∙ sym (List·getD-eq-default outcomes false {n = x}
             (omega (arith, ltb-false x 64 l, few, length-map (t .preferences) (isGood μ′))))
 
-    pub solved-is : solved (p .cost) (bit (found-ones .low)) ≡ lastVerdict t σ μ (p .cost)
-    solved-is =
+    verdict-is : solved (p .cost) (bit (found-ones .low)) ≡ lastVerdict t σ μ (p .cost)
+    verdict-is =
         ap (solved (p .cost)) (fun-ext bits)
         ∙ ap (λ (b : Bool). cond b (solvedBy t μ′ (p .cost)) goal-missed) (sym (sym goal-is ∙ true-one))
+
+    pub solved-is : given (solved (p .cost) (bit (found-ones .low))) (p .looked + n + e .looked)
+        ≡ given (lastVerdict t σ μ (p .cost)) (p .looked + lookedFrom t σ [])
+    solved-is = λ z. given (verdict-is z) (looked-is z)

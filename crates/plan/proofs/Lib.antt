@@ -1,6 +1,7 @@
 -- One monitor, and the monitors of all preferences
 pub mod ByMark
 pub mod SidesRead
+pub mod Packing
 pub mod Watching
 -- The preferences counted: those that are met, and their weights
 pub mod Counting

@@ -17,20 +17,19 @@ use Rattle.state.specs.Member.{single, union}
 use Rattle.plan.specs.Monitors.{monitorAt}
 use Rattle.plan.specs.Counting.{countAt}
 use Rattle.plan.specs.Met.{Met, noneMet, found, asFound}
-use Rattle.plan.specs.declared.monitors.Monitor as Monitors
 use Rattle.plan.specs.declared.met.Found.{Found}
 use Rattle.plan.proofs.ByMark.{good-by-mark}
 use Rattle.plan.proofs.Counting.{countAll, preferences-counted}
 
 -- what holds before row i is read
-pub record Finding (ms : List ℕ) (at : ℕ) (f : List Monitors.Monitor) (r : Found) (i : ℕ) : Type 0 where
+pub record Finding (ms : List ℕ) (at : ℕ) (f : List ℕ) (r : Found) (i : ℕ) : Type 0 where
   pub rows-left : i ≤ length ms
   pub few : r .number ≤ i
   pub same : (vs : List ℕ) → countAt (found f) (asFound r) ms vs i ≡ countAt (found f) noneMet ms vs at
 
 -- Preference by preference, with monitors μ
 
-module _ (f : List Monitors.Monitor) (μ : Preference → Monitor) where
+module _ (f : List ℕ) (μ : Preference → Monitor) where
   abbrev ok : Preference → Bool
   ok q = good (q .kind) (μ q)
 

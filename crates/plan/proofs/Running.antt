@@ -10,8 +10,9 @@ use lib.Dec.{ltb, ltb→lt}
 use lib.ListN.{length, drop, getD, drop-of-length-le}
 use lib.Seq.{drop-cons}
 use Rattle.task.specs.Lists.{lastOr}
-use Rattle.task.specs.Task.{Task, Preference}
+use Rattle.task.specs.Task.{Task, Action, Preference}
 use Rattle.task.specs.Meaning.{State as Facts, isTrue, opening, after, actionAt, applies, runs, reached, final, cost, metric, utility, seen, preferenceAt}
+use Rattle.task.specs.Literals.{lookedAt, lookedPreferences, lookedEffects, lookedFrom, literals}
 use Rattle.task.specs.Monitor.{Monitor, fresh, step}
 use Rattle.task.specs.Verdict
 use Rattle.task.specs.Verdict.{stepsApplied, metSet, verdict}
@@ -19,12 +20,12 @@ use Rattle.task.proofs.Tests.{tests, all-at}
 use Rattle.task.proofs.Watched.{stepAll, watchAll, good-watched}
 use Rattle.state.specs.Member.{member}
 use Rattle.plan.specs.Reads.{Reads, PreferencesAt}
-use Rattle.plan.specs.Monitors.{monitorAt, Watched}
-use Rattle.plan.specs.Walked.{Walk, solved, stopped, goal-missed, unpriced}
+use Rattle.plan.specs.Monitors.{monitorAt, Have-seen, Watched}
+use Rattle.plan.specs.Walked.{Walk, solved, stopped, goal-missed, given, unpriced}
 use Rattle.plan.specs.Places.{AllBelow, Layout}
-use Rattle.plan.specs.Steps.{Leads, solvedBy, lastVerdict, MonitorsAre}
-use Rattle.plan.specs.declared.monitors.Monitor as Monitors
+use Rattle.plan.specs.Steps.{Leads, Moving, solvedBy, lastVerdict, MonitorsAre, walkedOn}
 use Rattle.plan.specs.declared.steps.Position.{Position}
+use Rattle.plan.specs.declared.steps.Moved.the-variants.{Stopped}
 
 -- the verdict on the steps from step i on, in state σ, with monitors μ and cost c so far
 abbrev pub verdictFrom : Task → Facts → (Preference → Monitor) → ℕ → ℕ → List ℕ → Walk
@@ -74,16 +75,19 @@ from-the-opening t p =
 -- The loop over the steps
 
 -- position p and the monitors l stand before step i
-pub record Stands (t : Task) (plan : List ℕ) (p : Position) (l : List Monitors.Monitor) (i : ℕ) : Type 0 where
+pub record Stands (t : Task) (plan : List ℕ) (p : Position) (l : List ℕ) (i : ℕ) : Type 0 where
   pub monitors : Preference → Monitor
   pub are : MonitorsAre t l monitors
   pub same : verdictFrom t (member (p .state)) monitors (p .cost) i (drop i plan) ≡ unpriced (verdict t plan)
+  pub looks : p .looked + lookedFrom t (member (p .state)) (drop i plan) ≡ literals t plan
 
 -- what holds before step i
-pub record Running (ms vs : List ℕ) (at goal : ℕ) (starts : List ℕ) (σ : Facts) (plan : List ℕ) (p : Position) (l : List Monitors.Monitor) (i : ℕ) : Type 0 where
+pub record Running (ms vs : List ℕ) (at goal : ℕ) (starts : List ℕ) (σ : Facts) (plan : List ℕ) (l₀ : List ℕ) (p : Position) (l : List ℕ) (i : ℕ) : Type 0 where
   pub steps-left : i ≤ length plan
   pub little : p .cost ≤ i * 4294967296
-  pub stands : (t : Task) → Layout t ms vs at goal starts → σ ≡ opening t → Stands t plan p l i
+  pub few-literals : p .looked ≤ i * 408000
+  pub all-there : length l ≡ 16
+  pub stands : (t : Task) → Layout t ms vs at goal starts → σ ≡ opening t → ((k : ℕ) → monitorAt l₀ k ≡ fresh) → Stands t plan p l i
 
 -- each step of a plan of steps below n
 pub known : (n : ℕ) (plan : List ℕ) → AllBelow n plan → (i : ℕ) → i < length plan → (k : ℕ) → k ≡ getD plan i 0 → k < n
@@ -91,37 +95,74 @@ known n plan all-known i h k read =
     subst⁻¹ (λ (j : ℕ). j < n) read (ltb→lt (getD plan i 0) n (all-at (λ (j : ℕ). ltb j n) plan i 0 all-known h))
 
 module _ (t : Task) (plan : List ℕ) where
-  pub begins : (p : Position) (l : List Monitors.Monitor) → member (p .state) ≡ opening t → ((k : ℕ) → monitorAt l k ≡ fresh) → p .cost ≡ 0 → Stands t plan p l 0
-  begins p l s m c = record {
+  pub begins : (p : Position) (l : List ℕ) → member (p .state) ≡ opening t → ((k : ℕ) → monitorAt l k ≡ fresh) → p .cost ≡ 0 → p .looked ≡ 0 → Stands t plan p l 0
+  unfolding literals
+  begins p l s m c n = record {
     monitors = λ q. fresh;
     are = λ j h. m j;
     same = ap₂ (λ (f : Facts) (n : ℕ). verdictFrom t f (λ (q : Preference). fresh) n 0 plan) s c ∙ from-the-opening t plan;
+    looks = ap₂ (λ (f : Facts) (n : ℕ). n + lookedFrom t f plan) s n ∙ zero-add (lookedFrom t (opening t) plan);
   }
 
-  module _ (p : Position) (l : List Monitors.Monitor) (i : ℕ) (s : Stands t plan p l i) where
-    pub ends : length plan ≤ i → lastVerdict t (member (p .state)) (s .monitors) (p .cost) ≡ unpriced (verdict t plan)
+  module _ (p : Position) (l : List ℕ) (i : ℕ) (s : Stands t plan p l i) where
+    abbrev σ : Facts
+    σ = member (p .state)
+
+    pub ends : length plan ≤ i → given (lastVerdict t σ (s .monitors) (p .cost)) (p .looked + lookedFrom t σ []) ≡ walkedOn t plan
     ends h =
-        ap (verdictFrom t (member (p .state)) (s .monitors) (p .cost) i) (sym (drop-of-length-le plan {i = i} h)) ∙ s .same
+        let none : [] ≡ drop i plan = sym (drop-of-length-le plan {i = i} h) in
+        let v : lastVerdict t σ (s .monitors) (p .cost) ≡ unpriced (verdict t plan) = ap (verdictFrom t σ (s .monitors) (p .cost) i) none ∙ s .same in
+        let n : p .looked + lookedFrom t σ [] ≡ literals t plan = ap (λ (ks : List ℕ). p .looked + lookedFrom t σ ks) none ∙ s .looks in
+        λ z. given (v z) (n z)
 
     module _ (h : i < length plan) (k : ℕ) (read : k ≡ getD plan i 0) where
-      here : cond (applies t (member (p .state)) k)
-          (verdictFrom t (after (member (p .state)) (actionAt t k)) (stepAll false (s .monitors) (member (p .state)))
-          (p .cost + actionAt t k .cost) (i + 1) (drop (suc i) plan)) (stopped i)
+      abbrev a : Action
+      a = actionAt t k
+
+      left : k ∷ drop (suc i) plan ≡ drop i plan
+      left = ap (λ (j : ℕ). j ∷ drop (suc i) plan) read ∙ sym (drop-cons plan i 0 h)
+
+      here : cond (applies t σ k) (verdictFrom t (after σ a) (stepAll false (s .monitors) σ) (p .cost + a .cost) (i + 1) (drop (suc i) plan)) (stopped i)
           ≡ unpriced (verdict t plan)
-      here =
-          ap (λ (j : ℕ). verdictFrom t (member (p .state)) (s .monitors) (p .cost) i (j ∷ drop (suc i) plan)) read
-          ∙ ap (verdictFrom t (member (p .state)) (s .monitors) (p .cost) i) (sym (drop-cons plan i 0 h)) ∙ s .same
+      here = ap (verdictFrom t σ (s .monitors) (p .cost) i) left ∙ s .same
 
-      pub stops : applies t (member (p .state)) k ≡ false → stopped i ≡ unpriced (verdict t plan)
-      stops e = rw e at here
+      looks-here : p .looked + (lookedPreferences σ (t .preferences) + lookedAt σ (a .precondition)
+          + cond (applies t σ k) (lookedEffects σ (a .effects) + lookedFrom t (after σ a) (drop (suc i) plan)) 0)
+          ≡ literals t plan
+      looks-here = ap (λ (ks : List ℕ). p .looked + lookedFrom t σ ks) left ∙ s .looks
 
-      pub goes-on : (q : Position) → Leads t k p q → (ms vs : List ℕ) (at : ℕ) → Reads t ms vs → PreferencesAt t ms vs at
-          → (l′ : List Monitors.Monitor) → Watched ms vs at false (member (p .state)) l l′ → Stands t plan q l′ (i + 1)
-      goes-on q leads ms vs at R prefs l′ watched = record {
-        monitors = stepAll false (s .monitors) (member (p .state));
-        are = λ j b. watched (t .preferences) prefs (let s = R .spelling in search tests) (R .few-preferences) j b
-            ∙ ap (λ (m : Monitor). step (preferenceAt t j .kind) false m (seen (preferenceAt t j) (member (p .state)))) (s .are j b);
-        same =
-            (λ z. verdictFrom t (leads .state z) (stepAll false (s .monitors) (member (p .state))) (leads .cost z) (i + 1) (drop (add-one i z) plan))
-            ∙ (rw (leads .applying) at here);
-      }
+      -- the state has been seen, with m literals looked at
+      module _ (p′ : Position) (same-state : p′ .state ≡ p .state) (same-cost : p′ .cost ≡ p .cost) (m : ℕ) (more : p′ .looked ≡ p .looked + m)
+          (ms vs : List ℕ) (at : ℕ) (R : Reads t ms vs) (prefs : PreferencesAt t ms vs at) (l′ : List ℕ) (watched : Watched ms vs at false σ l l′ m) where
+        seen-by-all : Have-seen (t .preferences) false σ l l′ m
+        seen-by-all = watched (t .preferences) prefs (let s = R .spelling in search tests) (R .few-preferences)
+
+        same-facts : member (p′ .state) ≡ σ
+        same-facts = ap member same-state
+
+        pub stops : (n : ℕ) → Moving t k p′ (Stopped n) → given (stopped i) n ≡ walkedOn t plan
+        stops n (e, looked) =
+            let e′ : applies t σ k ≡ false = ap (λ (f : Facts). applies t f k) (sym same-facts) ∙ e in
+            let precondition : n ≡ p′ .looked + lookedAt σ (a .precondition) = looked ∙ ap (λ (f : Facts). p′ .looked + lookedAt f (a .precondition)) same-facts in
+            let v : stopped i ≡ unpriced (verdict t plan) = (rw e′ at here) in
+            let all-looks = (rw e′ at looks-here) in
+            let count : n ≡ literals t plan = omega (arith, precondition, more, seen-by-all .literals, all-looks) in
+            λ z. given (v z) (count z)
+
+        pub goes-on : (q : Position) → Leads t k p′ q → Stands t plan q l′ (i + 1)
+        goes-on q leads =
+            let e : applies t σ k ≡ true = ap (λ (f : Facts). applies t f k) (sym same-facts) ∙ leads .applying in
+            let state : member (q .state) ≡ after σ a = leads .state ∙ ap (λ (f : Facts). after f a) same-facts in
+            let cost : q .cost ≡ p .cost + a .cost = leads .cost ∙ ap (λ (c : ℕ). c + a .cost) same-cost in
+            let looked : q .looked ≡ p′ .looked + lookedAt σ (a .precondition) + lookedEffects σ (a .effects) =
+            leads .looked ∙ ap (λ (f : Facts). p′ .looked + lookedAt f (a .precondition) + lookedEffects f (a .effects)) same-facts in
+            let rest : lookedFrom t (member (q .state)) (drop (i + 1) plan) ≡ lookedFrom t (after σ a) (drop (suc i) plan) =
+            λ z. lookedFrom t (state z) (drop (add-one i z) plan) in
+            let all-looks = (rw e at looks-here) in
+            record {
+              monitors = stepAll false (s .monitors) σ;
+              are = λ j b. seen-by-all .monitors j b
+                  ∙ ap (λ (m : Monitor). step (preferenceAt t j .kind) false m (seen (preferenceAt t j) σ)) (s .are j b);
+              same = (λ z. verdictFrom t (state z) (stepAll false (s .monitors) σ) (cost z) (i + 1) (drop (add-one i z) plan)) ∙ (rw e at here);
+              looks = omega (arith, looked, more, seen-by-all .literals, rest, all-looks);
+            }

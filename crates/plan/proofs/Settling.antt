@@ -15,6 +15,7 @@ use Rattle.task.specs.Task.{Action, Preference, Task, taskRows}
 use Rattle.task.specs.File
 use Rattle.task.specs.File.{taskOf}
 use Rattle.task.specs.Spelling.{actionSpellable, spellable}
+use Rattle.task.specs.Literals.{literals}
 use Rattle.task.specs.Check
 use Rattle.task.specs.Check.{Answer, check}
 use Rattle.task.specs.Meaning.{noAction, noPreference, opening, runs, final, isTrue, actionAt, cost, isMet, metWeight, missedWeight, metric, utility}
@@ -181,13 +182,13 @@ module _ (b p : List ℕ) (z : File.Sizes) (h : check b ≡ Check.accepted z) (s
       let same : z .preferences ≡ length (t .preferences) = sym (ap (λ (x : File.Sizes). x .preferences) (s .sized)) in
       rw (h, same, plan-allowed t (s .spelling) p short) (amounts-are t p)
 
-  verdict-settled : andSettled b (given (unpriced (verdict t p))) ≡ Judged.given (verdict t p)
+  verdict-settled : (n : ℕ) → andSettled b (given (unpriced (verdict t p)) n) ≡ Judged.given (verdict t p)
   unfolding verdict
-  verdict-settled = go (runs t (opening t) p) (isTrue (final t p) (t .goal))
+  verdict-settled n = go (runs t (opening t) p) (isTrue (final t p) (t .goal))
     where
       go : (x y : Bool)
           → andSettled b (given (unpriced (cond x (cond y (Verdict.solved (cost t p) (metric t p) (utility t p) (metSet t p)) Verdict.goal-missed)
-          (Verdict.stopped (stepsApplied t (opening t) p)))))
+          (Verdict.stopped (stepsApplied t (opening t) p)))) n)
           ≡ Judged.given (cond x (cond y (Verdict.solved (cost t p) (metric t p) (utility t p) (metSet t p)) Verdict.goal-missed)
           (Verdict.stopped (stepsApplied t (opening t) p)))
       go true true = ap (priced (cost t p) (metSet t p)) settled-plan
@@ -198,13 +199,13 @@ pub walk-then-settle : (b p : List ℕ) → andSettled b (walked b p) ≡ judged
 unfolding judged walked
 walk-then-settle b p = go (check b) refl
   where
-    go : (a : Answer) → check b ≡ a → andSettled b (unsettled (judgedBy b p a)) ≡ judgedBy b p a
+    go : (a : Answer) → check b ≡ a → andSettled b (unsettled (literals (taskOf b) p) (judgedBy b p a)) ≡ judgedBy b p a
     go (Check.refused n i) h = refl
     go (Check.accepted z) h = steps (leb (length p) 2048) refl (all (λ (k : ℕ). ltb k (z .actions)) p)
       where
         steps : (x : Bool) → leb (length p) 2048 ≡ x → (y : Bool)
-            → andSettled b (unsettled (cond x (cond y (Judged.given (verdict (taskOf b) p)) (Judged.refused 11 (stepsKnown (z .actions) p))) (Judged.refused 10 0)))
+            → andSettled b (unsettled (literals (taskOf b) p) (cond x (cond y (Judged.given (verdict (taskOf b) p)) (Judged.refused 11 (stepsKnown (z .actions) p))) (Judged.refused 10 0)))
             ≡ cond x (cond y (Judged.given (verdict (taskOf b) p)) (Judged.refused 11 (stepsKnown (z .actions) p))) (Judged.refused 10 0)
-        steps true l true = verdict-settled b p z h (leb-true (length p) 2048 l)
+        steps true l true = verdict-settled b p z h (leb-true (length p) 2048 l) (literals (taskOf b) p)
         steps true l false = refl
         steps false l y = refl

@@ -3,6 +3,7 @@ use mathlib.Core.Path.{_≡_, refl, sym, ap, _∙_, subst}
 use mathlib.Core.Bool.{Bool, true, false, _||_}
 use mathlib.Core.List.{List, [], _∷_, _++_, append-assoc}
 use Prim.Native.Nat.{ℕ, _+_, _≤_, _<_}
+use native.Mathlib.Nat.{add-zero}
 use native.Mathlib.Omega.{arith}
 use lib.Dec.{T}
 use lib.ListN.{length, drop, getD, length-append, length-drop}
@@ -12,6 +13,7 @@ use Rattle.task.specs.Task.{Condition, Preference, Row, row}
 use Rattle.task.specs.Task.{kindMark, stepsRows, two-sided, conditionRows, preferenceRows}
 use Rattle.task.specs.File.{paired}
 use Rattle.task.specs.Spelling.{preferenceSpellable}
+use Rattle.task.specs.Literals.{lookedAt}
 use Rattle.task.specs.Meaning.{State as Facts, isTrue}
 use Rattle.task.specs.Rows.{Stops}
 use Rattle.task.proofs.Tests.{tests}
@@ -20,7 +22,7 @@ use Rattle.task.proofs.Passing.{secondRows}
 use Rattle.task.proofs.Reading.{mark-at}
 use Rattle.task.proofs.Positions.{drop-next, drop-behind, preferences-stop}
 use Rattle.task.proofs.Steps.{behind-steps}
-use Rattle.state.specs.Conditions.{inCondition, begin, lookedAt, evaluateAt}
+use Rattle.state.specs.Conditions.{inCondition, begin, readAs, evaluateAt}
 use Rattle.state.specs.declared.conditions.Evaluated.{Evaluated}
 use Rattle.state.proofs.ConditionRows.{condition-at, condition-ends}
 use Rattle.plan.specs.Monitors.{headRows, isTwoSided, Sides-of}
@@ -59,7 +61,7 @@ module _ (ms vs : List ℕ) (σ : Facts) where
     behind-head = behind-steps ms vs i q more e ∙ append-assoc (conditionRows (q .first)) (secondRows q) more
 
     first-is : Stops inCondition (secondRows q ++ more)
-        → evaluateAt σ begin ms vs from ≡ record { holds = isTrue σ (q .first); looked = lookedAt σ (q .first); next = from + length (conditionRows (q .first)) }
+        → evaluateAt σ begin ms vs from ≡ readAs σ (q .first) (from + length (conditionRows (q .first)))
     first-is stop = condition-at σ ms vs from (q .first) (secondRows q ++ more) behind-head stop
 
     -- how many rows the preference has
@@ -73,38 +75,40 @@ module _ (ms vs : List ℕ) (σ : Facts) where
 
     module _ (r : Evaluated) (first-read : r ≡ evaluateAt σ begin ms vs (i + headRows (getD ms i 0))) where
       first-whole : Stops inCondition (secondRows q ++ more)
-          → r ≡ record { holds = isTrue σ (q .first); looked = lookedAt σ (q .first); next = from + length (conditionRows (q .first)) }
+          → r ≡ readAs σ (q .first) (from + length (conditionRows (q .first)))
       first-whole stop = first-read ∙ ap (evaluateAt σ begin ms vs) from-is ∙ first-is stop
 
-      pub one-side : isTwoSided (getD ms i 0) ≡ false → Sides-of q i σ (record { phi = r .holds; psi = true; next = r .next })
+      pub one-side : isTwoSided (getD ms i 0) ≡ false → Sides-of q i σ (record { phi = r .holds; psi = true; looked = r .looked; next = r .next })
       one-side e₁ =
           let one : two-sided (q .kind) ≡ false = sym (ap isTwoSided mark-is ∙ side-count (q .kind)) ∙ e₁ in
-          let whole : r ≡ record { holds = isTrue σ (q .first); looked = lookedAt σ (q .first); next = from + length (conditionRows (q .first)) } =
+          let whole : r ≡ readAs σ (q .first) (from + length (conditionRows (q .first))) =
           first-whole (rw one (preferences-stop inCondition kind-past qs)) in
           let empty-second : q .second ≡ [] = no-second (q .second) (subst (λ (b : Bool). T (b || isEmpty (q .second))) one (search tests)) in
           let no-rows : length (secondRows q) ≡ 0 = rw one in
           record {
             phi = ap (λ (x : Evaluated). x .holds) whole;
             psi = sym (ap (isTrue σ) empty-second);
+            looked = ap (λ (x : Evaluated). x .looked) whole ∙ rw one (sym (add-zero (lookedAt σ (q .first))));
             next = ap (λ (x : Evaluated). x .next) whole ∙ omega (arith, all-rows, no-rows);
           }
 
       pub two-sides : isTwoSided (getD ms i 0) ≡ true → (x : Evaluated) → x ≡ evaluateAt σ begin ms vs (r .next + 1)
-          → Sides-of q i σ (record { phi = r .holds; psi = x .holds; next = x .next })
+          → Sides-of q i σ (record { phi = r .holds; psi = x .holds; looked = r .looked + x .looked; next = x .next })
       two-sides e₁ x second-read =
           let two : two-sided (q .kind) ≡ true = sym (ap isTwoSided mark-is ∙ side-count (q .kind)) ∙ e₁ in
           let at : ℕ = from + length (conditionRows (q .first)) in
-          let whole : r ≡ record { holds = isTrue σ (q .first); looked = lookedAt σ (q .first); next = at } = first-whole (rw two refl) in
+          let whole : r ≡ readAs σ (q .first) at = first-whole (rw two refl) in
           let behind-second : drop (at + 1) (paired ms vs) ≡ conditionRows (q .second) ++ more =
           drop-next at (paired ms vs) (row SECOND 0) (conditionRows (q .second) ++ more)
           (drop-behind from (paired ms vs) (conditionRows (q .first)) (secondRows q ++ more) behind-head ∙ rw two) in
-          let second-whole : x ≡ record { holds = isTrue σ (q .second); looked = lookedAt σ (q .second); next = at + 1 + length (conditionRows (q .second)) } =
+          let second-whole : x ≡ readAs σ (q .second) (at + 1 + length (conditionRows (q .second))) =
           second-read ∙ ap (λ (y : Evaluated). evaluateAt σ begin ms vs (y .next + 1)) whole
           ∙ condition-at σ ms vs (at + 1) (q .second) more behind-second (preferences-stop inCondition kind-past qs) in
           let rows : length (secondRows q) ≡ 1 + length (conditionRows (q .second)) = rw two (omega arith) in
           record {
             phi = ap (λ (y : Evaluated). y .holds) whole;
             psi = ap (λ (y : Evaluated). y .holds) second-whole;
+            looked = (λ z. whole z .looked + second-whole z .looked) ∙ rw two;
             next = ap (λ (y : Evaluated). y .next) second-whole ∙ omega (arith, all-rows, rows);
           }
 

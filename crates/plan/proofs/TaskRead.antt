@@ -17,8 +17,8 @@ use Rattle.task.proofs.Passing.{stepRows}
 use Rattle.task.proofs.Back.{fromGoal, task-grouped}
 use Rattle.task.proofs.Positions.{drop-next, drop-behind, tailRows, tail-stops, effects-stop, goal-behind, preferences-behind}
 use Rattle.state.specs.Member.{empty, member}
-use Rattle.state.specs.Conditions.{inCondition, begin, lookedAt, evaluateAt}
-use Rattle.state.specs.Effects.{inEffects, Changes, Result}
+use Rattle.state.specs.Conditions.{inCondition, begin, readAs, evaluateAt}
+use Rattle.state.specs.Effects.{inEffects, Changed-by, Changes, Result}
 use Rattle.state.specs.declared.effects.Changed.{Changed}
 use Rattle.state.specs.declared.conditions.Evaluated.{Evaluated}
 use Rattle.state.specs.Opening.{openAt}
@@ -43,12 +43,12 @@ module _ (t : Task) (ms vs : List ℕ) (R : Reads t ms vs) where
       ∙ length-map (upTo isPreference (taskRows t)) (λ (x : Row). x .mark) in
       (λ i. drop (n i) (R .spelled i)) ∙ preferences-behind t
 
-  pub goal-read : (σ : Facts) → evaluateAt σ begin ms vs (length (t .start) + 1) .holds ≡ isTrue σ (t .goal)
+  pub goal-read : (σ : Facts)
+      → evaluateAt σ begin ms vs (length (t .start) + 1) ≡ readAs σ (t .goal) (length (t .start) + 1 + length (conditionRows (t .goal)))
   goal-read σ =
-      ap (λ (r : Evaluated). r .holds)
-      (condition-at σ ms vs (length (t .start) + 1) (t .goal) (tailRows (t .actions) (t .preferences))
+      condition-at σ ms vs (length (t .start) + 1) (t .goal) (tailRows (t .actions) (t .preferences))
       (ap (drop (length (t .start) + 1)) (R .spelled) ∙ goal-behind t)
-      (tail-stops inCondition kind-past refl (t .actions) (t .preferences)))
+      (tail-stops inCondition kind-past refl (t .actions) (t .preferences))
 
   module _ (k : ℕ) (h : k < length (t .actions)) where
     abbrev a : Action
@@ -69,13 +69,13 @@ module _ (t : Task) (ms vs : List ℕ) (R : Reads t ms vs) where
         ∙ append-assoc (conditionRows (a .precondition)) (concatMap effectRows (a .effects)) behind
 
     pub precondition-read : (σ : Facts)
-        → evaluateAt σ begin ms vs at ≡ record { holds = isTrue σ (a .precondition); looked = lookedAt σ (a .precondition); next = at + length (conditionRows (a .precondition)) }
+        → evaluateAt σ begin ms vs at ≡ readAs σ (a .precondition) (at + length (conditionRows (a .precondition)))
     precondition-read σ =
         condition-at σ ms vs at (a .precondition) (concatMap effectRows (a .effects) ++ behind) precondition-rows
         (effects-stop inCondition refl (a .effects) (tailRows (others t ms vs R k h) (t .preferences)) (tail-stops inCondition kind-past refl (others t ms vs R k h) (t .preferences)))
 
-    pub effects-read : (σ : Facts) (r : Changed) → Changes σ ms vs (at + length (conditionRows (a .precondition))) r → member (r .state) ≡ after σ a
+    pub effects-read : (σ : Facts) (r : Changed) → Changes σ ms vs (at + length (conditionRows (a .precondition))) r → Changed-by σ a r
     effects-read σ r c =
         c a (t .facts) (R .few-facts) (effects-below t (R .formed) k h) behind
         (drop-behind at (paired ms vs) (conditionRows (a .precondition)) (concatMap effectRows (a .effects) ++ behind) precondition-rows)
-        (tail-stops inEffects kind-past-effects refl (others t ms vs R k h) (t .preferences)) .state
+        (tail-stops inEffects kind-past-effects refl (others t ms vs R k h) (t .preferences))

@@ -13,7 +13,7 @@ use Rattle.task.specs.File
 use Rattle.task.specs.File.{taskOf}
 use Rattle.task.specs.Check
 use Rattle.task.specs.Check.{Answer, check}
-use Rattle.task.specs.Verdict.{verdict}
+use Rattle.task.specs.Literals.{literals}
 use Rattle.task.specs.Answers.{answer as checked, asSizes, refusalIn}
 use Rattle.task.specs.declared.Sizes.{Sizes}
 use Rattle.task.specs.declared.Refusal.{Refusal}
@@ -24,9 +24,10 @@ use Rattle.task.proofs.Spelled.{Spelling, accepted-spelling}
 use Rattle.task.proofs.Checking.{within}
 use Rattle.task.proofs.Answered.{passed-on, parts-spell}
 use Rattle.plan.specs.Judged.{stepsKnown, judgedBy, judged}
-use Rattle.plan.specs.Walked.{Walk, given, refused, unpriced, unsettled, walked}
+use Rattle.plan.specs.Walked.{Walked, refused, unsettled, walked}
 use Rattle.plan.specs.Reads.{Reads}
 use Rattle.plan.specs.Places.{actionsFrom, AllBelow}
+use Rattle.plan.specs.Steps.{walkedOn}
 use Rattle.plan.proofs.ActionRows.{as-many}
 
 -- all steps are known exactly where as many as there are stand before the first that is not
@@ -69,15 +70,15 @@ module _ (b p : List ℕ) (x : Checked) (e : checked x ≡ check b) where
   -- a file that is not accepted: its refusal
   pub turned-down : (f : Refusal) → x ≡ Refused f → (r : Refusal) → r ≡ refusalIn x → refused (r .number) (r .place) ≡ walked b p
   unfolding judged walked
-  turned-down = passed-on (λ (a : Answer). unsettled (judgedBy b p a)) b x e
+  turned-down = passed-on (λ (a : Answer). unsettled (literals (taskOf b) p) (judgedBy b p a)) b x e
 
   module _ (z : Sizes) (q : x ≡ Accepted z) where
     accepted : check b ≡ Check.accepted (asSizes z)
     accepted = sym e ∙ ap checked q
 
-    on-task : unsettled (judgedBy b p (Check.accepted (asSizes z))) ≡ walked b p
+    on-task : unsettled (literals (taskOf b) p) (judgedBy b p (Check.accepted (asSizes z))) ≡ walked b p
     unfolding judged walked
-    on-task = ap (λ (a : Answer). unsettled (judgedBy b p a)) (sym accepted)
+    on-task = ap (λ (a : Answer). unsettled (literals (taskOf b) p) (judgedBy b p a)) (sym accepted)
 
     pub too-long : 2048 < length p → refused 10 0 ≡ walked b p
     too-long h = (rw (lt-leb (length p) 2048 h) at on-task)
@@ -103,7 +104,7 @@ module _ (b p : List ℕ) (x : Checked) (e : checked x ≡ check b) where
             as-many (taskOf b) ms vs (reads b (asSizes z) accepted) ∙ ap (λ (x : File.Sizes). x .actions) (s .sized) in
             (omega (arith, limits, many), subst⁻¹ (λ (n : ℕ). AllBelow n p) many (all-known (z .actions) p h))
 
-        pub run-on : (v : Walk) → ((t : Task) → Reads t ms vs → v ≡ unpriced (verdict t p)) → given v ≡ walked b p
-        run-on v says =
-            ap given (says (taskOf b) (reads b (asSizes z) accepted))
+        pub run-on : (w : Walked) → ((t : Task) → Reads t ms vs → w ≡ walkedOn t p) → w ≡ walked b p
+        run-on w says =
+            says (taskOf b) (reads b (asSizes z) accepted)
             ∙ (rw (le-leb (length p) 2048 fits, as-true (all (λ (k : ℕ). ltb k (z .actions)) p) (all-known (z .actions) p h)) at on-task)

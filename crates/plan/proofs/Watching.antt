@@ -2,7 +2,8 @@
 use mathlib.Core.Path.{_≡_, refl, sym, ap, _∙_, subst, subst⁻¹}
 use mathlib.Core.Bool.{Bool, true, false, cond}
 use mathlib.Core.List.{List, [], _∷_}
-use Prim.Native.Nat.{ℕ, zero, suc, _+_, _≤_, _<_}
+use Prim.Native.Nat.{ℕ, suc, _+_, _*_, _≤_, _<_}
+use native.Mathlib.Nat.{zero-add}
 use native.Mathlib.Numerals.{add-one}
 use native.Mathlib.Omega.{arith}
 use lib.Dec.{T, eqb, ltb}
@@ -15,54 +16,49 @@ use Rattle.task.specs.File.{paired, kindOf}
 use Rattle.task.specs.Rows.{stepsAt}
 use Rattle.task.specs.Spelling.{preferenceSpellable}
 use Rattle.task.specs.Meaning.{State as Facts, seen, noPreference}
+use Rattle.task.specs.Literals.{lookedPreference, lookedPreferences}
 use Rattle.task.specs.Monitor.{Monitor, step}
 use Rattle.task.proofs.Tests.{tests, all-at}
 use Rattle.task.proofs.Reading.{row-at, row-end}
 use Rattle.task.proofs.Positions.{drop-behind}
 use Rattle.task.proofs.Steps.{kind-at}
-use Rattle.plan.specs.declared.monitors.Monitor as Monitors
 use Rattle.plan.specs.declared.monitors.Sides.{Sides}
-use Rattle.plan.specs.Monitors.{asMonitor, blank, monitorAt, Sides-of, Sees, Watched}
+use Rattle.plan.specs.Monitors.{monitorOf, monitorAt, Sides-of, Sees, Have-seen, Watched}
 
--- so many fresh ones
-abbrev blanks : ℕ → List Monitors.Monitor
-blanks zero = []
-blanks (suc n) = blank ∷ blanks n
-
-pub blank-at : (n k : ℕ) → getD (blanks n) k blank ≡ blank
-blank-at zero k = refl
-blank-at (suc n) zero = refl
-blank-at (suc n) (suc k) = blank-at n k
-
--- one of them put into a list
-pub monitor-put : (l : List Monitors.Monitor) (k : ℕ) → k < length l → (m : Monitors.Monitor) (x : Monitor) → asMonitor m ≡ x
+-- the byte of one put into a list
+pub monitor-put : (l : List ℕ) (k : ℕ) → k < length l → (m : ℕ) (x : Monitor) → monitorOf m ≡ x
     → (j : ℕ) → monitorAt (set l k m) j ≡ cond (eqb j k) x (monitorAt l j)
 monitor-put l k h m x e j = go (eqb j k) refl
   where
     go : (b : Bool) → eqb j k ≡ b → monitorAt (set l k m) j ≡ cond b x (monitorAt l j)
-    go true p = ap (λ (n : ℕ). monitorAt (set l k m) n) (eqb-true j k p) ∙ ap asMonitor (getD-set-same l k m blank h) ∙ e
-    go false p = ap asMonitor (getD-set-other l k j m blank (eqb-false j k p))
+    go true p = ap (λ (n : ℕ). monitorAt (set l k m) n) (eqb-true j k p) ∙ ap monitorOf (getD-set-same l k m 0 h) ∙ e
+    go false p = ap monitorOf (getD-set-other l k j m 0 (eqb-false j k p))
 
--- k monitors have seen σ, and the next preference stands at row i
-pub record Seen-by (ms vs : List ℕ) (last : Bool) (σ : Facts) (before : List Monitors.Monitor) (qs : List Preference) (now : List Monitors.Monitor) (k i : ℕ) : Type 0 where
+-- k monitors have seen σ, with so many literals looked at, and the next preference stands at row i
+pub record Seen-by (ms vs : List ℕ) (last : Bool) (σ : Facts) (before : List ℕ) (qs : List Preference) (now : List ℕ) (looked k i : ℕ) : Type 0 where
   pub within : k ≤ length qs
   pub rest : drop i (paired ms vs) ≡ concatMap preferenceRows (drop k qs)
+  pub literals : looked + lookedPreferences σ (drop k qs) ≡ lookedPreferences σ qs
   pub done : (j : ℕ) → j < k
       → monitorAt now j ≡ step (getD qs j noPreference .kind) last (monitorAt before j) (seen (getD qs j noPreference) σ)
-  pub still : (j : ℕ) → k ≤ j → j < 16 → monitorAt now j ≡ monitorAt before j
+  pub still : (j : ℕ) → k ≤ j → monitorAt now j ≡ monitorAt before j
 
 -- what holds before row i is read
-pub record Watching (ms vs : List ℕ) (at : ℕ) (last : Bool) (σ : Facts) (before now : List Monitors.Monitor) (k i : ℕ) : Type 0 where
-  pub few : k + at ≤ i
+pub record Watching (ms vs : List ℕ) (at : ℕ) (last : Bool) (σ : Facts) (before now : List ℕ) (looked k i : ℕ) : Type 0 where
+  pub all-there : length now ≡ 16
+  pub few : k ≤ 16
+  pub few-literals : looked ≤ k * 24000
   pub so-far : (qs : List Preference) → drop at (paired ms vs) ≡ concatMap preferenceRows qs → T (all preferenceSpellable qs)
-      → length qs ≤ 16 → Seen-by ms vs last σ before qs now k i
+      → length qs ≤ 16 → Seen-by ms vs last σ before qs now looked k i
 
-module _ (ms vs : List ℕ) (at : ℕ) (last : Bool) (σ : Facts) (before : List Monitors.Monitor) where
-  pub begins : Watching ms vs at last σ before before 0 at
-  begins = record {
+module _ (ms vs : List ℕ) (at : ℕ) (last : Bool) (σ : Facts) (before : List ℕ) where
+  pub begins : length before ≡ 16 → Watching ms vs at last σ before before 0 0 at
+  begins sixteen = record {
+    all-there = sixteen;
     few = omega arith;
+    few-literals = omega arith;
     so-far = λ qs e ok many.
-        record { within = omega arith; rest = e; done = λ j h. absurd (omega arith); still = λ j lo few. refl };
+        record { within = omega arith; rest = e; literals = zero-add (lookedPreferences σ qs); done = λ j h. absurd (omega arith); still = λ j lo. refl };
   }
 
   some-left : (k i : ℕ) (qs : List Preference) → i < length ms → drop i (paired ms vs) ≡ concatMap preferenceRows (drop k qs) → k < length qs
@@ -83,56 +79,76 @@ module _ (ms vs : List ℕ) (at : ℕ) (last : Bool) (σ : Facts) (before : List
           (sym (row-end ms vs i h) ∙ e ∙ ap (concatMap preferenceRows) (drop-cons qs k noPreference (ltb-true k (length qs) p))) tt)
       go false p = ltb-false k (length qs) p
 
-  module _ (now then : List Monitors.Monitor) (k i : ℕ) (h : i < length ms) (r : Sides) (sees : Sees ms vs i σ r)
+  module _ (now then : List ℕ) (looked k i : ℕ) (h : i < length ms) (r : Sides) (sees : Sees ms vs i σ r)
       (kind : Kind) (read : kind ≡ kindOf (getD ms i 0) (stepsAt ms vs i))
-      (put : (j : ℕ) → j < 16 → monitorAt then j
+      (put : (j : ℕ) → monitorAt then j
       ≡ cond (eqb j k) (step kind last (monitorAt now k) (record { φ = r .phi; ψ = r .psi })) (monitorAt now j)) where
     -- what is put at place k
     abbrev x : Monitor
     x = step kind last (monitorAt now k) (record { φ = r .phi; ψ = r .psi })
 
-    one-more : (qs : List Preference) → T (all preferenceSpellable qs) → length qs ≤ 16
-        → Seen-by ms vs last σ before qs now k i → Seen-by ms vs last σ before qs then (k + 1) (r .next)
-    one-more qs ok many s =
+    one-more : (qs : List Preference) → T (all preferenceSpellable qs)
+        → Seen-by ms vs last σ before qs now looked k i → Seen-by ms vs last σ before qs then (looked + r .looked) (k + 1) (r .next)
+    one-more qs ok s =
         let left : k < length qs = some-left k i qs h (s .rest) in
         let q : Preference = getD qs k noPreference in
         let more : List Preference = drop (suc k) qs in
-        let e : drop i (paired ms vs) ≡ concatMap preferenceRows (q ∷ more) =
-        s .rest ∙ ap (concatMap preferenceRows) (drop-cons qs k noPreference left) in
+        let here : drop k qs ≡ q ∷ more = drop-cons qs k noPreference left in
+        let e : drop i (paired ms vs) ≡ concatMap preferenceRows (q ∷ more) = s .rest ∙ ap (concatMap preferenceRows) here in
         let fine : T (preferenceSpellable q) = all-at preferenceSpellable qs k noPreference ok left in
         let sides : Sides-of q i σ r = sees q more e fine in
         let same : kind ≡ q .kind = read ∙ kind-at ms vs i q (concatMap preferenceRows more) e h (search tests) in
         let mine : x ≡ step (q .kind) last (monitorAt before k) (seen q σ) =
-        λ z. step (same z) last (s .still k (omega arith) (omega arith) z) (record { φ = sides .phi z; ψ = sides .psi z }) in
+        λ z. step (same z) last (s .still k (omega arith) z) (record { φ = sides .phi z; ψ = sides .psi z }) in
         record {
           within = omega arith;
           rest = ap (λ (n : ℕ). drop n (paired ms vs)) (sides .next)
               ∙ drop-behind i (paired ms vs) (preferenceRows q) (concatMap preferenceRows more) e
               ∙ ap (λ (n : ℕ). concatMap preferenceRows (drop n qs)) (sym (add-one k));
-          done = λ j l. by-number qs s mine left many j l (eqb j k) refl;
-          still = λ j lo few. put j few ∙ ap (λ (b : Bool). cond b x (monitorAt now j)) (ne-eqb j k (λ p. omega arith)) ∙ s .still j (omega arith) few;
+          literals = counted qs q s here (sides .looked);
+          done = λ j l. by-number qs s mine left j l (eqb j k) refl;
+          still = λ j lo. put j ∙ ap (λ (b : Bool). cond b x (monitorAt now j)) (ne-eqb j k (λ p. omega arith)) ∙ s .still j (omega arith);
         }
       where
-        by-number : (qs : List Preference) → Seen-by ms vs last σ before qs now k i
+        counted : (qs : List Preference) (q : Preference) → Seen-by ms vs last σ before qs now looked k i → drop k qs ≡ q ∷ drop (suc k) qs
+            → r .looked ≡ lookedPreference σ q → looked + r .looked + lookedPreferences σ (drop (k + 1) qs) ≡ lookedPreferences σ qs
+        counted qs q s here n =
+            let first : lookedPreferences σ (drop k qs) ≡ lookedPreference σ q + lookedPreferences σ (drop (suc k) qs) = ap (lookedPreferences σ) here in
+            let next : lookedPreferences σ (drop (k + 1) qs) ≡ lookedPreferences σ (drop (suc k) qs) = ap (λ (j : ℕ). lookedPreferences σ (drop j qs)) (add-one k) in
+            omega (arith, s .literals, first, next, n)
+
+        by-number : (qs : List Preference) → Seen-by ms vs last σ before qs now looked k i
             → x ≡ step (getD qs k noPreference .kind) last (monitorAt before k) (seen (getD qs k noPreference) σ)
-            → k < length qs → length qs ≤ 16 → (j : ℕ) → j < k + 1 → (b : Bool) → eqb j k ≡ b
+            → k < length qs → (j : ℕ) → j < k + 1 → (b : Bool) → eqb j k ≡ b
             → monitorAt then j ≡ step (getD qs j noPreference .kind) last (monitorAt before j) (seen (getD qs j noPreference) σ)
-        by-number qs s mine left many j l true p =
+        by-number qs s mine left j l true p =
             let same : j ≡ k = eqb-true j k p in
-            put j (omega arith) ∙ ap (λ (b : Bool). cond b x (monitorAt now j)) p
+            put j ∙ ap (λ (b : Bool). cond b x (monitorAt now j)) p
             ∙ mine
             ∙ ap (λ (n : ℕ). step (getD qs n noPreference .kind) last (monitorAt before n) (seen (getD qs n noPreference) σ)) (sym same)
-        by-number qs s mine left many j l false p =
+        by-number qs s mine left j l false p =
             let other : j ≡ k → ⊥ = eqb-false j k p in
-            put j (omega arith) ∙ ap (λ (b : Bool). cond b x (monitorAt now j)) p ∙ s .done j (omega arith)
+            put j ∙ ap (λ (b : Bool). cond b x (monitorAt now j)) p ∙ s .done j (omega arith)
 
-    pub goes-on : i < r .next → Watching ms vs at last σ before now k i → Watching ms vs at last σ before then (k + 1) (r .next)
-    goes-on later w = record {
-      few = omega (arith, w .few);
-      so-far = λ qs e ok many. one-more qs ok many (w .so-far qs e ok many);
+    pub goes-on : length then ≡ 16 → k < 16 → r .looked ≤ 24000 → Watching ms vs at last σ before now looked k i
+        → Watching ms vs at last σ before then (looked + r .looked) (k + 1) (r .next)
+    goes-on sixteen small few w = record {
+      all-there = sixteen;
+      few = omega arith;
+      few-literals = omega (arith, w .few-literals);
+      so-far = λ qs e ok many. one-more qs ok (w .so-far qs e ok many);
     }
 
-  pub ends : (now : List Monitors.Monitor) (k i : ℕ) → length ms ≤ i → Watching ms vs at last σ before now k i → Watched ms vs at last σ before now
-  ends now k i h w qs e ok many j l =
-      let s : Seen-by ms vs last σ before qs now k i = w .so-far qs e ok many in
-      s .done j (omega (arith, none-left k i qs h (s .rest)))
+  module _ (now : List ℕ) (looked k i : ℕ) (w : Watching ms vs at last σ before now looked k i) where
+    over : (qs : List Preference) → length qs ≤ k → Seen-by ms vs last σ before qs now looked k i → Have-seen qs last σ before now looked
+    over qs none s =
+        let left : lookedPreferences σ (drop k qs) ≡ 0 = ap (lookedPreferences σ) (drop-of-length-le qs {i = k} none) in
+        record { monitors = λ j l. s .done j (omega arith); literals = omega (arith, s .literals, left) }
+
+    -- no row is left
+    pub ends : length ms ≤ i → Watched ms vs at last σ before now looked
+    ends h qs e ok many = let s = w .so-far qs e ok many in over qs (none-left k i qs h (s .rest)) s
+
+    -- there are no more than 16
+    pub full : 16 ≤ k → Watched ms vs at last σ before now looked
+    full h qs e ok many = over qs (omega arith) (w .so-far qs e ok many)

@@ -16,7 +16,7 @@ asVerdict (Stopped i) = Walked.stopped i
 asVerdict GoalMissed = Walked.goal-missed
 
 abbrev pub walkedAs : Walked → Walked.Walked
-walkedAs (walk.Given v) = Walked.given (asVerdict v)
+walkedAs (walk.Given v looked) = Walked.given (asVerdict v) looked
 walkedAs (walk.Refused r) = Walked.refused (r .number) (r .place)
 
 abbrev pub settledAs : Settled → Settled.Settled

@@ -8,7 +8,6 @@ use Rattle.task.specs.Meaning.{State as Facts}
 use Rattle.task.specs.Monitor.{good}
 use Rattle.state.specs.Member.{member, empty, single, union}
 use Rattle.plan.specs.Monitors.{monitorAt}
-use Rattle.plan.specs.declared.monitors.Monitor.{Monitor}
 use Rattle.plan.specs.declared.met.Found.{Found}
 
 -- so many preferences, and those of them that are met
@@ -21,7 +20,7 @@ noneMet = record { number = 0; met = empty }
 
 -- one preference more, by the row that opens it
 -- (whether a monitor is good does not hang on its steps)
-abbrev pub found : List Monitor → Met → Row → Met
+abbrev pub found : List ℕ → Met → Row → Met
 found ms t x =
     cond (good (kindOf (x .mark) 0) (monitorAt ms (t .number)))
     (record { number = t .number + 1; met = union (t .met) (single (t .number)) })

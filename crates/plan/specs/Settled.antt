@@ -48,7 +48,7 @@ priced cost met (worth metric utility) = Judged.given (Verdict.solved cost metri
 priced cost met (refused n i) = Judged.refused n i
 
 abbrev pub andSettled : List ℕ → Walked → Judged
-andSettled b (given (solved cost met)) = priced cost met (settled b cost met)
-andSettled b (given (stopped i)) = Judged.given (Verdict.stopped i)
-andSettled b (given goal-missed) = Judged.given Verdict.goal-missed
+andSettled b (given (solved cost met) looked) = priced cost met (settled b cost met)
+andSettled b (given (stopped i) looked) = Judged.given (Verdict.stopped i)
+andSettled b (given goal-missed looked) = Judged.given Verdict.goal-missed
 andSettled b (Walked.refused n i) = Judged.refused n i

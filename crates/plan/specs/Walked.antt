@@ -1,7 +1,10 @@
--- What walk answers on a task file and a plan: what judge gave, less metric and utility. Document 02, request 5.
+-- What walk answers on a task file and a plan: what judge gave, less metric and utility, and how many literals were looked at.
+-- Document 02, requests 5 and 7.
 use mathlib.Core.Bool.{Bool}
 use mathlib.Core.List.{List}
 use Prim.Native.Nat.{ℕ}
+use Rattle.task.specs.File.{taskOf}
+use Rattle.task.specs.Literals.{literals}
 use Rattle.task.specs.Verdict
 use Rattle.task.specs.Verdict.{Verdict}
 use Rattle.plan.specs.Judged
@@ -13,9 +16,9 @@ pub data Walk : Type 0 where
   stopped : ℕ → Walk
   goal-missed : Walk
 
--- a verdict, or a refusal with a number and a place
+-- a verdict with the number of literals looked at, or a refusal with a number and a place
 pub data Walked : Type 0 where
-  given : Walk → Walked
+  given : Walk → ℕ → Walked
   refused : ℕ → ℕ → Walked
 
 -- less the amounts that settle gives
@@ -24,9 +27,10 @@ unpriced (Verdict.solved cost metric utility met) = solved cost met
 unpriced (Verdict.stopped i) = stopped i
 unpriced Verdict.goal-missed = goal-missed
 
-abbrev pub unsettled : Judged → Walked
-unsettled (Judged.given v) = given (unpriced v)
-unsettled (Judged.refused n i) = refused n i
+-- with so many literals looked at
+abbrev pub unsettled : ℕ → Judged → Walked
+unsettled looked (Judged.given v) = given (unpriced v) looked
+unsettled looked (Judged.refused n i) = refused n i
 
 unfoldable pub walked : List ℕ → List ℕ → Walked
-walked b p = unsettled (judged b p)
+walked b p = unsettled (literals (taskOf b) p) (judged b p)

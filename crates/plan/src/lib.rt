@@ -28,9 +28,9 @@ pub enum Verdict {
     GoalMissed,
 }
 
-// A walked plan: a verdict, or a refusal of the task or of the plan.
+// A walked plan: a verdict with the number of literals looked at, or a refusal of the task or of the plan.
 pub enum Walked {
-    Given(Verdict),
+    Given(Verdict, u64),
     Refused(Refusal),
 }
 
@@ -73,7 +73,8 @@ fn steps_known(actions: usize, plan: &[u8]) -> usize
     i
 }
 
-// Walks a plan on the task in a file: the verdict, and of a plan that solves the cost and the met preferences.
+// Walks a plan on the task in a file: the verdict, of a plan that solves the cost and the met preferences, and how many literals
+// were looked at.
 pub fn walk(file: &[u8], plan: &[u8]) -> Walked
     ensures { λ r. ⌜ walkedAs r ≡ walked (now (file .entry)) (now (plan .entry)) ⌝ }
 {
@@ -89,7 +90,7 @@ pub fn walk(file: &[u8], plan: &[u8]) -> Walked
         return refuse(11, known as u16);
     }
     let middle = 8 + z.rows;
-    Walked::Given(steps::run(&file[8..middle], &file[middle..], plan))
+    steps::run(&file[8..middle], &file[middle..], plan)
 }
 
 // What a cost and met preferences are worth on the task in a file; preference k is met where bit k of `met` is set.

@@ -8,7 +8,6 @@ ghost use Rattle.state.specs.Member.{member};
 ghost use Rattle.plan.specs.Counting.{counting, countAt};
 ghost use Rattle.plan.specs.Met.{noneMet, found, asFound};
 use super::monitors;
-use super::monitors::Monitor;
 use state::State;
 
 // So many preferences, and those of them that are met.
@@ -18,9 +17,9 @@ struct Found {
 }
 
 // One preference more.
-fn find_one(f: Found, mark: u8, ms: [Monitor; 16]) -> Found
+fn find_one(f: Found, mark: u8, ms: &[u8]) -> Found
     requires { ⌜ f .number < 65535 ⌝ }
-    ensures { λ r. ⌜ ((v : ℕ) → asFound r ≡ found ms (asFound f) (row mark v)) ⌝ }
+    ensures { λ r. ⌜ ((v : ℕ) → asFound r ≡ found (now (ms .entry)) (asFound f) (row mark v)) ⌝ }
     ensures { λ r. ⌜ r .number ≤ f .number + 1 ⌝ }
 {
     let k = f.number;
@@ -36,9 +35,9 @@ fn find_one(f: Found, mark: u8, ms: [Monitor; 16]) -> Found
 }
 
 // One row more: each that opens a preference counts.
-fn find_row(f: Found, mark: u8, ms: [Monitor; 16]) -> Found
+fn find_row(f: Found, mark: u8, ms: &[u8]) -> Found
     requires { ⌜ f .number < 65535 ⌝ }
-    ensures { λ r. ⌜ ((v : ℕ) → asFound r ≡ counting (found ms) (asFound f) (row mark v)) ⌝ }
+    ensures { λ r. ⌜ ((v : ℕ) → asFound r ≡ counting (found (now (ms .entry))) (asFound f) (row mark v)) ⌝ }
     ensures { λ r. ⌜ r .number ≤ f .number + 1 ⌝ }
 {
     if task::is_preference(mark) {
@@ -49,9 +48,9 @@ fn find_row(f: Found, mark: u8, ms: [Monitor; 16]) -> Found
 }
 
 // The met preferences of those that stand from row `at` on. The rows' values don't matter.
-pub fn find(marks: &[u8], at: usize, ms: [Monitor; 16]) -> State
+pub fn find(marks: &[u8], at: usize, ms: &[u8]) -> State
     requires { ⌜ (length (now marks) ≤ 12000) × (at ≤ length (now marks)) ⌝ }
-    ensures { λ r. ⌜ ((vs : List ℕ) → member r ≡ countAt (found ms) noneMet (now (marks .entry)) vs at .met) ⌝ }
+    ensures { λ r. ⌜ ((vs : List ℕ) → member r ≡ countAt (found (now (ms .entry))) noneMet (now (marks .entry)) vs at .met) ⌝ }
 {
     let mut f = Found {
         number: 0,

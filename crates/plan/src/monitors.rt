@@ -1,4 +1,5 @@
-// The monitors of a task's preferences: what the facts S, B and D1, D2, … of each know of the states seen so far.
+// The monitors of a task's preferences: what the facts S, B and D1, D2, … of each know of the states seen so far. Preference k
+// has monitor k, which is kept as a byte.
 ghost use mathlib.Core.Path.{_≡_};
 ghost use mathlib.Core.Bool.{Bool, cond};
 ghost use Prim.Native.Nat.{ℕ, _*_, _+_, _≤_, _<_};
@@ -6,11 +7,11 @@ ghost use lib.Dec.{T, leb, eqb};
 ghost use lib.ListN.{length};
 ghost use Rattle.task.specs.File.{kindOf};
 ghost use Rattle.task.specs.Task.{always-within};
-ghost use Rattle.task.specs.Monitor.{fresh, older, nextAge, step, good};
+ghost use Rattle.task.specs.Monitor.{older, nextAge, step, good};
 ghost use Rattle.task.specs.Spelling.{kindSpellable};
 ghost use Rattle.task.specs.Answers.{asKind};
 ghost use Rattle.state.specs.Member.{member};
-ghost use Rattle.plan.specs.Monitors.{asMonitor, monitorAt, headRows, isTwoSided, Sees, Watched};
+ghost use Rattle.plan.specs.Monitors.{asMonitor, monitorOf, monitorAt, headRows, isTwoSided, Sees, Watched};
 use state::State;
 use state::conditions;
 use task::kinds;
@@ -24,37 +25,45 @@ pub struct Monitor {
     pub age: u8,
 }
 
-// φ and ψ of a preference in a state, and the row after the preference.
+// φ and ψ of a preference in a state, how many literals were looked at, and the row after the preference.
 pub struct Sides {
     pub phi: bool,
     pub psi: bool,
+    pub looked: usize,
     pub next: usize,
 }
 
-// The monitors before the first state. Preference k has monitor k.
-pub fn fresh() -> [Monitor; 16]
-    ensures { λ r. ⌜ ((k : ℕ) → monitorAt r k ≡ fresh) ⌝ }
+// The monitor that a byte stands for.
+fn unpacked(x: u8) -> Monitor
+    ensures { λ r. ⌜ (asMonitor r ≡ monitorOf x) × (r .age < 64) ⌝ }
 {
-    let m = Monitor {
-        s: false,
-        b: false,
-        age: 0,
-    };
-    [m; 16]
+    Monitor {
+        s: x % 2 == 1,
+        b: x / 2 % 2 == 1,
+        age: x / 4,
+    }
+}
+
+// The byte of a monitor: one for S, two for B, and four for each state of the age.
+fn packed(m: Monitor) -> u8
+    requires { ⌜ m .age < 64 ⌝ }
+    ensures { λ r. ⌜ monitorOf r ≡ asMonitor m ⌝ }
+{
+    4 * m.age + 2 * (m.b as u8) + (m.s as u8)
 }
 
 // One state more, up to one more than the steps.
 fn older(steps: u8, age: u8) -> u8
-    requires { ⌜ steps < 16 ⌝ }
-    ensures { λ r. ⌜ r ≡ older steps age ⌝ }
+    requires { ⌜ (steps < 16) × (age < 64) ⌝ }
+    ensures { λ r. ⌜ (r ≡ older steps age) × (r < 64) ⌝ }
 {
     if age <= steps { age + 1 } else { age }
 }
 
 // How long a state with φ has waited for ψ, after one more state.
 fn waited(steps: u8, m: Monitor, phi: bool, psi: bool) -> u8
-    requires { ⌜ steps < 16 ⌝ }
-    ensures { λ r. ⌜ r ≡ nextAge (always-within steps) (m .s) (m .age) phi psi ⌝ }
+    requires { ⌜ (steps < 16) × (m .age < 64) ⌝ }
+    ensures { λ r. ⌜ (r ≡ nextAge (always-within steps) (m .s) (m .age) phi psi) × (r < 64) ⌝ }
 {
     if psi {
         return if m.s { m.age } else { 0 };
@@ -75,8 +84,8 @@ fn is_due(steps: u8, age: u8, phi: bool) -> bool
 
 // The monitor of always-within after one more state.
 fn waiting(steps: u8, m: Monitor, phi: bool, psi: bool) -> Monitor
-    requires { ⌜ steps < 16 ⌝ }
-    ensures { λ r. ⌜ ((last : Bool) → asMonitor r ≡ step (always-within steps) last (asMonitor m) (record { φ = phi; ψ = psi })) ⌝ }
+    requires { ⌜ (steps < 16) × (m .age < 64) ⌝ }
+    ensures { λ r. ⌜ ((last : Bool) → asMonitor r ≡ step (always-within steps) last (asMonitor m) (record { φ = phi; ψ = psi })) × (r .age < 64) ⌝ }
 {
     let s = m.s;
     let b = m.b;
@@ -91,8 +100,8 @@ fn waiting(steps: u8, m: Monitor, phi: bool, psi: bool) -> Monitor
 
 // A monitor after one more state; last says that it is the last.
 fn stepped(kind: Kind, last: bool, m: Monitor, phi: bool, psi: bool) -> Monitor
-    requires { ⌜ T (kindSpellable (asKind kind)) ⌝ }
-    ensures { λ r. ⌜ asMonitor r ≡ step (asKind kind) last (asMonitor m) (record { φ = phi; ψ = psi }) ⌝ }
+    requires { ⌜ T (kindSpellable (asKind kind)) × (m .age < 64) ⌝ }
+    ensures { λ r. ⌜ (asMonitor r ≡ step (asKind kind) last (asMonitor m) (record { φ = phi; ψ = psi })) × (r .age < 64) ⌝ }
 {
     let s = m.s;
     let b = m.b;
@@ -144,32 +153,15 @@ pub fn is_good(mark: u8, m: Monitor) -> bool
     }
 }
 
-// Monitor k; there is none from 16 on.
-pub fn monitor_at(ms: [Monitor; 16], k: u32) -> Monitor
-    ensures { λ r. ⌜ asMonitor r ≡ monitorAt ms k ⌝ }
+// Monitor k of those that are lent; any other has seen no state.
+pub fn monitor_at(ms: &[u8], k: u32) -> Monitor
+    ensures { λ r. ⌜ asMonitor r ≡ monitorAt (now (ms .entry)) k ⌝ }
 {
     let i = k as usize;
-    if 16 <= i {
-        return Monitor {
-            s: false,
-            b: false,
-            age: 0,
-        };
+    if ms.len() <= i {
+        return unpacked(0);
     }
-    ms[i]
-}
-
-// The 16 monitors where monitor k has seen one more state; k from 16 on is none of them.
-fn step_one(ms: [Monitor; 16], k: usize, kind: Kind, last: bool, q: Sides) -> [Monitor; 16]
-    requires { ⌜ T (kindSpellable (asKind kind)) ⌝ }
-    ensures { λ r. ⌜ ((j : ℕ) → j < 16 → monitorAt r j ≡ cond (eqb j k) (step (asKind kind) last (monitorAt ms k) (record { φ = q .phi; ψ = q .psi })) (monitorAt ms j)) ⌝ }
-{
-    if 16 <= k {
-        return ms;
-    }
-    let mut next = ms;
-    next[k] = stepped(kind, last, ms[k], q.phi, q.psi);
-    next
+    unpacked(ms[i])
 }
 
 // How many rows stand before φ: the one that opens the preference, and STEPS where the kind has it.
@@ -192,10 +184,10 @@ fn is_two_sided(mark: u8) -> bool
     }
 }
 
-// The sides of the preference that row i opens, in state s.
+// The sides of the preference that row i opens, in state s. Both are read, whatever the first one gives.
 fn read_sides(marks: &[u8], values: &[u8], i: usize, s: State) -> Sides
     requires { ⌜ (4 * length (now marks) ≤ length (now values)) × (length (now marks) ≤ 12000) × (i < length (now marks)) ⌝ }
-    ensures { λ r. ⌜ i < r .next ⌝ }
+    ensures { λ r. ⌜ (i < r .next) × (r .looked ≤ 24000) ⌝ }
     ensures { λ r. ⌜ Sees (now (marks .entry)) (now (values .entry)) i (member s) r ⌝ }
 {
     let mark = marks[i];
@@ -204,39 +196,47 @@ fn read_sides(marks: &[u8], values: &[u8], i: usize, s: State) -> Sides
         return Sides {
             phi: first.holds,
             psi: true,
+            looked: first.looked,
             next: first.next,
         };
     }
     let second = conditions::condition(marks, values, first.next + 1, s);
+    let looked = first.looked + second.looked;
     Sides {
         phi: first.holds,
         psi: second.holds,
+        looked,
         next: second.next,
     }
 }
 
-// The monitors after state s, of the preferences that stand from row `at` on.
+// The monitors of the preferences that stand from row `at` on see state s, and so many literals are looked at.
 pub fn watch(
     marks: &[u8],
     values: &[u8],
     at: usize,
     s: State,
-    before: [Monitor; 16],
     last: bool,
-) -> [Monitor; 16]
-    requires { ⌜ (4 * length (now marks) ≤ length (now values)) × (length (now marks) ≤ 12000) ⌝ }
-    ensures { λ r. ⌜ Watched (now (marks .entry)) (now (values .entry)) at last (member s) before r ⌝ }
+    ms: &mut [u8],
+) -> usize
+    requires { ⌜ (4 * length (now marks) ≤ length (now values)) × (length (now marks) ≤ 12000) × (length (now ms) ≡ 16) ⌝ }
+    ensures { λ r. ⌜ r ≤ 384000 ⌝ }
+    ensures { λ r. ⌜ Watched (now (marks .entry)) (now (values .entry)) at last (member s) (now (ms .entry)) (now (ms .exit)) r ⌝ }
 {
-    let mut m = before;
+    let mut looked = 0;
     let mut k = 0;
     let mut i = at;
     while i < marks.len() {
+        if ms.len() <= k {
+            return looked;
+        }
         let q = read_sides(marks, values, i, s);
         let kind = kinds::kind_at(marks, values, i);
-        let next = step_one(m, k, kind, last, q);
-        m = next;
+        let m = stepped(kind, last, unpacked(ms[k]), q.phi, q.psi);
+        ms[k] = packed(m);
+        looked += q.looked;
         k += 1;
         i = q.next;
     }
-    m
+    looked
 }

@@ -7,9 +7,9 @@ ghost use Rattle.plan.specs.Places.{actionsFrom, AllBelow};
 ghost use Rattle.plan.specs.Steps.{Moves, Finishes, Follows, Runs};
 use super::Solution;
 use super::Verdict;
+use super::Walked;
 use super::met;
 use super::monitors;
-use super::monitors::Monitor;
 use super::places;
 use state::State;
 use state::conditions;
@@ -17,15 +17,17 @@ use state::effects;
 use state::opening;
 use task::rows;
 
-// Where a plan has come to: the state, and the cost.
+// Where a plan has come to: the state, the cost, and how many literals were looked at.
 struct Position {
     pub state: State,
     pub cost: u64,
+    pub looked: u64,
 }
 
+// Stopped has how many literals were looked at, those of the precondition among them.
 enum Moved {
     To(Position),
-    Stopped,
+    Stopped(u64),
 }
 
 // A step as an index.
@@ -37,23 +39,26 @@ pub fn wide(k: u8) -> usize
 
 // One step by the action that row `from` opens.
 fn step(marks: &[u8], values: &[u8], from: usize, p: Position) -> Moved
-    requires { ⌜ (4 * length (now marks) ≤ length (now values)) × (length (now marks) ≤ 12000) × (from < length (now marks)) × (p .cost < 2 ^ 62) ⌝ }
+    requires { ⌜ (4 * length (now marks) ≤ length (now values)) × (length (now marks) ≤ 12000) × (from < length (now marks)) ⌝ }
+    requires { ⌜ (p .cost < 2 ^ 62) × (p .looked < 2 ^ 62) ⌝ }
     ensures { λ r. ⌜ Moves (now (marks .entry)) (now (values .entry)) from p r ⌝ }
 {
     let s = p.state;
     let pre = conditions::condition(marks, values, from + 1, s);
+    let looked = p.looked + (pre.looked as u64);
     if !pre.holds {
-        return Moved::Stopped;
+        return Moved::Stopped(looked);
     }
     let next = effects::after(marks, values, pre.next, s);
     let state = next.state;
     Moved::To(Position {
         state,
         cost: p.cost + (rows::value_at(values, from) as u64),
+        looked: looked + (next.looked as u64),
     })
 }
 
-// The verdict behind the last step, by monitors that have seen the states before it; the preferences stand from row `at` on,
+// The verdict after the last step, by monitors that have seen the states before it; the preferences stand from row `at` on,
 // the goal's condition from row `goal` on.
 fn finish(
     marks: &[u8],
@@ -61,26 +66,42 @@ fn finish(
     at: usize,
     goal: usize,
     p: Position,
-    ms: [Monitor; 16],
-) -> Verdict
-    requires { ⌜ (4 * length (now marks) ≤ length (now values)) × (length (now marks) ≤ 12000) × (p .cost < 2 ^ 62) × (at ≤ length (now marks)) ⌝ }
-    ensures { λ r. ⌜ Finishes (now (marks .entry)) (now (values .entry)) at goal p ms r ⌝ }
+    ms: &mut [u8],
+) -> Walked
+    requires { ⌜ (4 * length (now marks) ≤ length (now values)) × (length (now marks) ≤ 12000) × (at ≤ length (now marks)) ⌝ }
+    requires { ⌜ (p .cost < 2 ^ 62) × (p .looked < 2 ^ 62) × (length (now ms) ≡ 16) ⌝ }
+    ensures { λ r. ⌜ Finishes (now (marks .entry)) (now (values .entry)) at goal p (now (ms .entry)) r ⌝ }
 {
     let s = p.state;
-    let last = monitors::watch(marks, values, at, s, ms, true);
+    let seen = monitors::watch(marks, values, at, s, true, &mut *ms);
     let g = conditions::condition(marks, values, goal, s);
+    let looked = p.looked + (seen as u64) + (g.looked as u64);
     if !g.holds {
-        return Verdict::GoalMissed;
+        return Walked::Given(Verdict::GoalMissed, looked);
     }
-    let found = met::find(marks, at, last);
-    Verdict::Solved(Solution {
+    let found = met::find(marks, at, &*ms);
+    let solution = Solution {
         cost: p.cost,
         met: found.low,
-    })
+    };
+    Walked::Given(Verdict::Solved(solution), looked)
 }
 
-// The verdict on a plan of known steps, from the opening state on. `starts` has the rows of the actions; the preferences stand
-// from row `at` on, and the goal's condition from row `goal` on.
+// The position with so many more literals looked at.
+fn looked_on(p: Position, n: usize) -> Position
+    requires { ⌜ (p .looked < 2 ^ 62) × (n ≤ 384000) ⌝ }
+    ensures { λ r. ⌜ (r .state ≡ p .state) × (r .cost ≡ p .cost) × (r .looked ≡ p .looked + n) ⌝ }
+{
+    let state = p.state;
+    Position {
+        state,
+        cost: p.cost,
+        looked: p.looked + (n as u64),
+    }
+}
+
+// The verdict on a plan of known steps, from the opening state on, by fresh monitors. `starts` has the rows of the actions; the
+// preferences stand from row `at` on, and the goal's condition from row `goal` on.
 fn follow(
     marks: &[u8],
     values: &[u8],
@@ -89,29 +110,36 @@ fn follow(
     starts: &[usize],
     state: State,
     plan: &[u8],
-) -> Verdict
+    ms: &mut [u8],
+) -> Walked
     requires { ⌜ (4 * length (now marks) ≤ length (now values)) × (length (now marks) ≤ 12000) × (length (now plan) ≤ 2048) × (at ≤ length (now marks)) ⌝ }
-    requires { ⌜ AllBelow (length (now marks)) (now starts) × AllBelow (length (now starts)) (now plan) ⌝ }
-    ensures { λ r. ⌜ Follows (now (marks .entry)) (now (values .entry)) at goal (now (starts .entry)) (member state) (now (plan .entry)) r ⌝ }
+    requires { ⌜ AllBelow (length (now marks)) (now starts) × AllBelow (length (now starts)) (now plan) × (length (now ms) ≡ 16) ⌝ }
+    ensures { λ r. ⌜ Follows (now (marks .entry)) (now (values .entry)) at goal (now (starts .entry)) (member state) (now (plan .entry)) (now (ms .entry)) r ⌝ }
 {
-    let mut p = Position { state, cost: 0 };
-    let mut ms = monitors::fresh();
+    let mut p = Position {
+        state,
+        cost: 0,
+        looked: 0,
+    };
     let mut i = 0;
     while i < plan.len() {
-        let next = monitors::watch(marks, values, at, p.state, ms, false);
-        ms = next;
-        let moved = step(marks, values, starts[wide(plan[i])], p);
-        let Moved::To(q) = moved else {
-            return Verdict::Stopped(i);
-        };
-        p = q;
+        let seen = monitors::watch(marks, values, at, p.state, false, &mut *ms);
+        let moved = step(marks, values, starts[wide(plan[i])], looked_on(p, seen));
+        match moved {
+            Moved::To(q) => {
+                p = q;
+            }
+            Moved::Stopped(looked) => {
+                return Walked::Given(Verdict::Stopped(i), looked);
+            }
+        }
         i += 1;
     }
-    finish(marks, values, at, goal, p, ms)
+    finish(marks, values, at, goal, p, &mut *ms)
 }
 
 // The verdict on a plan of known steps.
-pub fn run(marks: &[u8], values: &[u8], plan: &[u8]) -> Verdict
+pub fn run(marks: &[u8], values: &[u8], plan: &[u8]) -> Walked
     requires { ⌜ (4 * length (now marks) ≤ length (now values)) × (length (now marks) ≤ 12000) × (length (now plan) ≤ 2048) ⌝ }
     requires { ⌜ (length (actionsFrom 0 (now marks)) ≤ 128) × AllBelow (length (actionsFrom 0 (now marks))) (now plan) ⌝ }
     ensures { λ r. ⌜ Runs (now (marks .entry)) (now (values .entry)) (now (plan .entry)) r ⌝ }
@@ -121,5 +149,6 @@ pub fn run(marks: &[u8], values: &[u8], plan: &[u8]) -> Verdict
     let at = places::preferences(marks);
     let mut table: [usize; 128] = [0; 128];
     let many = places::note_actions(marks, &mut table);
-    follow(marks, values, at, goal, &table[0..many], start.state, plan)
+    let mut ms: [u8; 16] = [0; 16];
+    follow(marks, values, at, goal, &table[0..many], start.state, plan, &mut ms)
 }

@@ -6,7 +6,7 @@ use denote.Ref.{now}
 use lib.ListN.{length, length-take, length-drop}
 use Rattle.task.specs.Answers.{answer as checked, asSizes}
 use Rattle.task.proofs.Answered.{lengths}
-use Rattle.plan.specs.Answers.{asVerdict}
+use Rattle.plan.specs.Answers.{walkedAs}
 use Rattle.plan.specs.Walked.{refused}
 use Rattle.plan.proofs.Walking.{turned-down, too-long, unknown, actions-fit, run-on}
 use Rattle.plan.proofs.walk.Statement.{statement}
@@ -109,7 +109,7 @@ returns-4 c =
     let k = n .before .before .before in
     let a = k .before .before .before .args in
     run-on (now (a .file)) (now (a .plan)) (k .check .result) (k .check .ensures) (n .before .c .given .0 .0) (n .before .c .given .1) (search needs)
-    (omega (arith, c .before .before .before .before .if2 .left, s .steps-known .ensures)) (asVerdict (c .run .result)) (c .run .ensures)
+    (omega (arith, c .before .before .before .before .if2 .left, s .steps-known .ensures)) (walkedAs (c .run .result)) (c .run .ensures)
 
 pub walk-spec : {M : Type 1} → statement M
 walk-spec =

@@ -39,8 +39,8 @@ loop-less c = search needs
 loop-again : tie.Need-loop-again Inv-loop μ-loop
 loop-again c =
     let l = c .before .before .before in
-    let a = l .before .before .before .args in
-    let one = found (a .ms) in
+    let a = l .before .before .before .before .args in
+    let one = found (now (a .ms)) in
     record {
       rows-left = search needs;
       few = search needs;
@@ -53,9 +53,9 @@ loop-again c =
 returns : tie.Need-returns Inv-loop μ-loop
 returns c = λ vs.
     let l = c .before .before in
-    let a = l .before .before .before .args in
+    let a = l .before .before .before .before .args in
     ap (λ (t : Met). t .met)
-    (sym (ends-at (counting (found (a .ms))) (λ (m : ℕ). true) (λ (t : Met) (i : ℕ). t) (asFound (l .loop .f)) (now (a .marks)) vs (l .loop .i) (search needs))
+    (sym (ends-at (counting (found (now (a .ms)))) (λ (m : ℕ). true) (λ (t : Met) (i : ℕ). t) (asFound (l .loop .f)) (now (a .marks)) vs (l .loop .i) (search needs))
     ∙ l .loop .inv .same vs)
 
 pub find-spec : {M : Type 1} → statement M

@@ -1,17 +1,17 @@
 use mathlib.Core.Path.{_≡_, sym, ap, _∙_}
+use denote.Ref.{now}
 use borrow.Author.Needs.{needs}
 use Rattle.task.specs.File.{kindOf}
 use Rattle.task.specs.Monitor.{good}
 use Rattle.plan.specs.Monitors.{monitorAt}
-use borrow.Author.Needs.{needs}
 use Rattle.plan.proofs.met.find_one.Statement.{statement}
 use Rattle.plan.proofs.met.find_one.Tie as tie
 
 -- whether the preference is met, in the definition's words
-met-is : (g : tie.After-is-good) → let a = g .before .before .before .args in
-    good (kindOf (a .mark) 0) (monitorAt (a .ms) (a .f .number)) ≡ g .is-good .result
+met-is : (g : tie.After-is-good) → let a = g .before .before .before .before .args in
+    good (kindOf (a .mark) 0) (monitorAt (now (a .ms)) (a .f .number)) ≡ g .is-good .result
 met-is g =
-    let a = g .before .before .before .args in
+    let a = g .before .before .before .before .args in
     sym (g .is-good .ensures 0 ∙ ap (good (kindOf (a .mark) 0)) (g .before .monitor-at .ensures))
 
 monitor-at-requires : tie.Need-monitor-at-requires

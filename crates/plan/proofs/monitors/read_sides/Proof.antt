@@ -44,7 +44,10 @@ returns : tie.Need-returns
 returns c =
     let d = c .before .before in
     let a = d .before .before .before .before .before .args in (
-      later (now (a .marks)) (now (a .values)) (member (a .s)) (a .i) (d .condition .result) (getD (now (a .marks)) (a .i) 0) (first-read d),
+      (
+        later (now (a .marks)) (now (a .values)) (member (a .s)) (a .i) (d .condition .result) (getD (now (a .marks)) (a .i) 0) (first-read d),
+        search needs,
+      ),
       λ q qs e ok. one-side (now (a .marks)) (now (a .values)) (member (a .s)) (a .i) (search needs) q qs e ok (d .condition .result) (first-read d)
           (sym (c .before .is-two-sided .ensures) ∙ not-true _ (c .if1 .taken)),
     )
@@ -60,18 +63,25 @@ add-condition-2 c =
 condition-requires-2 : tie.Need-condition-requires-2
 condition-requires-2 c κs = search needs
 
+add-looked : tie.Need-add-looked
+add-looked c = search needs
+
 returns-2 : tie.Need-returns-2
 returns-2 c =
-    let d = c .before .before .before .before in
+    let x = c .before .before in
+    let d = x .before .before .before .before in
     let a = d .before .before .before .before .before .args in (
-      omega (
-        arith,
-        later (now (a .marks)) (now (a .values)) (member (a .s)) (a .i) (d .condition .result) (getD (now (a .marks)) (a .i) 0) (first-read d),
-        later-still (now (a .marks)) (now (a .values)) (member (a .s)) (d .condition .result .next) (c .condition2 .result) (c .condition2 .ensures .0),
+      (
+        omega (
+          arith,
+          later (now (a .marks)) (now (a .values)) (member (a .s)) (a .i) (d .condition .result) (getD (now (a .marks)) (a .i) 0) (first-read d),
+          later-still (now (a .marks)) (now (a .values)) (member (a .s)) (d .condition .result .next) (x .condition2 .result) (x .condition2 .ensures .0),
+        ),
+        search needs,
       ),
       λ q qs e ok. two-sides (now (a .marks)) (now (a .values)) (member (a .s)) (a .i) (search needs) q qs e ok (d .condition .result) (first-read d)
-          (sym (c .before .before .before .is-two-sided .ensures) ∙ not-false _ (c .before .before .if1 .left))
-          (c .condition2 .result) (c .condition2 .ensures .0),
+          (sym (x .before .before .before .is-two-sided .ensures) ∙ not-false _ (x .before .before .if1 .left))
+          (x .condition2 .result) (x .condition2 .ensures .0),
     )
 
 pub read-sides-spec : {M : Type 1} → statement M
@@ -86,4 +96,5 @@ read-sides-spec =
     returns
     add-condition-2
     condition-requires-2
+    add-looked
     returns-2)

@@ -36,37 +36,37 @@ enum-known-kind : tie.Need-enum-known-kind
 enum-known-kind c = search needs
 
 older-requires : tie.Need-older-requires
-older-requires c κs = few _ (subst (λ (k : Kind). T (kindSpellable (asKind k))) (c .before .kind .given .1) (search needs))
+older-requires c κs = (few _ (subst (λ (k : Kind). T (kindSpellable (asKind k))) (c .before .kind .given .1) (search needs)), search needs)
 
 enum-known-kind-2 : tie.Need-enum-known-kind-2
 enum-known-kind-2 c = search needs
 
 waiting-requires : tie.Need-waiting-requires
-waiting-requires c κs = few _ (subst (λ (k : Kind). T (kindSpellable (asKind k))) (c .before .kind2 .given .1) (search needs))
+waiting-requires c κs = (few _ (subst (λ (k : Kind). T (kindSpellable (asKind k))) (c .before .kind2 .given .1) (search needs)), search needs)
 
 returns : tie.Need-returns
-returns c = rw (c .enum-told .given .1)
+returns c = (rw (c .enum-told .given .1), search needs)
 
 returns-2 : tie.Need-returns-2
-returns-2 c = rw (c .enum-told2 .given .1)
+returns-2 c = (rw (c .enum-told2 .given .1), search needs)
 
 returns-3 : tie.Need-returns-3
-returns-3 c = rw (c .enum-told3 .given .1)
+returns-3 c = (rw (c .enum-told3 .given .1), search needs)
 
 returns-4 : tie.Need-returns-4
-returns-4 c = rw (c .enum-told4 .given .1)
+returns-4 c = (rw (c .enum-told4 .given .1), search needs)
 
 returns-5 : tie.Need-returns-5
-returns-5 c = rw (c .enum-told5 .given .1)
+returns-5 c = (rw (c .enum-told5 .given .1), search needs)
 
 returns-6 : tie.Need-returns-6
-returns-6 c = rw (c .enum-told6 .given .1)
+returns-6 c = (rw (c .enum-told6 .given .1), search needs)
 
 returns-7 : tie.Need-returns-7
-returns-7 c = rw (c .before .before .kind .given .1, c .older .ensures)
+returns-7 c = (rw (c .before .before .kind .given .1, c .older .ensures .0), c .older .ensures .1)
 
 returns-8 : tie.Need-returns-8
-returns-8 c = rw (c .before .before .kind2 .given .1) (c .waiting .ensures (c .before .before .before .before .args .last))
+returns-8 c = (rw (c .before .before .kind2 .given .1) (c .waiting .ensures .0 (c .before .before .before .before .args .last)), c .waiting .ensures .1)
 
 pub stepped-spec : {M : Type 1} → statement M
 stepped-spec =

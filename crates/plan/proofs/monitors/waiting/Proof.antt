@@ -10,7 +10,7 @@ waited-requires : tie.Need-waited-requires
 waited-requires c κs = search needs
 
 returns : tie.Need-returns
-returns c = λ last. rw (c .before .is-due .ensures, c .waited .ensures)
+returns c = (λ last. rw (c .before .is-due .ensures, c .waited .ensures .0), c .waited .ensures .1)
 
 pub waiting-spec : {M : Type 1} → statement M
 waiting-spec = tie.close (tie.spec is-due-requires waited-requires returns)

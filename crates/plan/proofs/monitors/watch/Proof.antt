@@ -1,23 +1,40 @@
 use borrow.Author.Needs.{needs}
+use mathlib.Core.Path.{_≡_, ap, _∙_, sym}
 use Prim.Native.Nat.{_-_}
+use native.Mathlib.Omega.{arith}
 use denote.Ref.{now}
-use lib.ListN.{length}
+use lib.ListN.{length, length-set}
 use Rattle.task.specs.Answers.{asKind}
+use Rattle.task.specs.Monitor.{Monitor, step}
 use Rattle.state.specs.Member.{member}
-use Rattle.plan.proofs.Watching.{Watching, begins, goes-on, ends}
+use Rattle.plan.proofs.Watching.{Watching, monitor-put, begins, goes-on, ends, full}
 use Rattle.plan.proofs.monitors.watch.Statement.{statement}
 use Rattle.plan.proofs.monitors.watch.Tie as tie
 
 abbrev Inv-loop : tie.InvT-loop
-Inv-loop marks values at s last m₀ k₀ i₀ m k i = Watching marks values at last (member s) m₀ m k i
+Inv-loop marks values at s last ms₀ looked₀ k₀ i₀ ms looked k i = Watching marks values at last (member s) ms₀ ms looked k i
 
 abbrev μ-loop : tie.MeasureT-loop
-μ-loop marks values at s last m₀ k₀ i₀ m k i = length marks - i
+μ-loop marks values at s last ms₀ looked₀ k₀ i₀ ms looked k i = length marks - i
 
 loop-holds : tie.Need-loop-holds Inv-loop μ-loop
 loop-holds c =
-    let a = c .before .before .args in
-    begins (now (a .marks)) (now (a .values)) (a .at) (a .last) (member (a .s)) _
+    let b = c .before .before .before in
+    begins (now (b .args .marks)) (now (b .args .values)) (b .args .at) (b .args .last) (member (b .args .s)) (now (b .args .ms)) (b .pre .2)
+
+same-length : tie.Need-same-length Inv-loop μ-loop
+same-length c =
+    let l = c .before .before in
+    l .loop .inv .all-there ∙ sym (l .before .before .before .before .pre .2)
+
+returns : tie.Need-returns Inv-loop μ-loop
+returns c =
+    let l = c .before .before in
+    let a = l .before .before .before .before .args in (
+      omega (arith, l .loop .inv .few, l .loop .inv .few-literals),
+      full (now (a .marks)) (now (a .values)) (a .at) (a .last) (member (a .s)) (now (a .ms)) (l .loop .ms) (l .loop .looked) (l .loop .k) (l .loop .i)
+      (l .loop .inv) (omega (arith, l .loop .inv .all-there, c .if1 .taken)),
+    )
 
 read-sides-requires : tie.Need-read-sides-requires Inv-loop μ-loop
 read-sides-requires c κs = search needs
@@ -25,8 +42,27 @@ read-sides-requires c κs = search needs
 kind-at-requires : tie.Need-kind-at-requires Inv-loop μ-loop
 kind-at-requires c κs = search needs
 
-step-one-requires : tie.Need-step-one-requires Inv-loop μ-loop
-step-one-requires c κs = search needs
+slice-read-unpacked : tie.Need-slice-read-unpacked Inv-loop μ-loop
+slice-read-unpacked c = search needs
+
+unpacked-requires : tie.Need-unpacked-requires Inv-loop μ-loop
+unpacked-requires c κs = search needs
+
+stepped-requires : tie.Need-stepped-requires Inv-loop μ-loop
+stepped-requires c κs = search needs
+
+packed-requires : tie.Need-packed-requires Inv-loop μ-loop
+packed-requires c κs = search needs
+
+slice-write-ms : tie.Need-slice-write-ms Inv-loop μ-loop
+slice-write-ms c = search needs
+
+add-looked : tie.Need-add-looked Inv-loop μ-loop
+add-looked c =
+    let w = c .before .before .before .before .before .before .before .before .before .loop .inv in
+    let h = w .few-literals in
+    let k = w .few in
+    search needs
 
 add-k : tie.Need-add-k Inv-loop μ-loop
 add-k c = search needs
@@ -36,18 +72,33 @@ loop-less c = search needs
 
 loop-again : tie.Need-loop-again Inv-loop μ-loop
 loop-again c =
-    let n = c .before in
+    let u = c .before .before .before in
+    let n = u .before .before in
     let q = n .before in
-    let l = q .before .before in
-    let a = l .before .before .before .args in
-    goes-on (now (a .marks)) (now (a .values)) (a .at) (a .last) (member (a .s)) _ (l .loop .m) (c .step-one .result) (l .loop .k) (l .loop .i) (search needs)
-    (q .read-sides .result) (q .read-sides .ensures .1) (asKind (n .kind-at .result)) (n .kind-at .ensures .0) (c .step-one .ensures) (q .read-sides .ensures .0) (l .loop .inv)
+    let l = q .before .before .before in
+    let a = l .before .before .before .before .args in
+    goes-on (now (a .marks)) (now (a .values)) (a .at) (a .last) (member (a .s)) (now (a .ms)) (l .loop .ms) _ (l .loop .looked) (l .loop .k) (l .loop .i) (search needs)
+    (q .read-sides .result) (q .read-sides .ensures .1) (asKind (n .kind-at .result)) (n .kind-at .ensures .0)
+    (monitor-put (l .loop .ms) (l .loop .k) (search needs) (c .before .packed .result) _
+    (c .before .packed .ensures ∙ c .before .before .stepped .ensures .0
+    ∙ ap (λ (m : Monitor). step (asKind (n .kind-at .result)) (a .last) m (record { φ = q .read-sides .result .phi; ψ = q .read-sides .result .psi }))
+    (u .unpacked .ensures .0)))
+    (length-set (l .loop .ms) (l .loop .k) (c .before .packed .result) ∙ l .loop .inv .all-there) (omega (arith, l .loop .inv .all-there, q .before .if1 .left))
+    (q .read-sides .ensures .0 .1) (l .loop .inv)
 
-returns : tie.Need-returns Inv-loop μ-loop
-returns c =
+same-length-2 : tie.Need-same-length-2 Inv-loop μ-loop
+same-length-2 c =
     let l = c .before in
-    let a = l .before .before .before .args in
-    ends (now (a .marks)) (now (a .values)) (a .at) (a .last) (member (a .s)) _ (l .loop .m) (l .loop .k) (l .loop .i) (search needs) (l .loop .inv)
+    l .loop .inv .all-there ∙ sym (l .before .before .before .before .pre .2)
+
+returns-2 : tie.Need-returns-2 Inv-loop μ-loop
+returns-2 c =
+    let l = c .before in
+    let a = l .before .before .before .before .args in (
+      omega (arith, l .loop .inv .few, l .loop .inv .few-literals),
+      ends (now (a .marks)) (now (a .values)) (a .at) (a .last) (member (a .s)) (now (a .ms)) (l .loop .ms) (l .loop .looked) (l .loop .k) (l .loop .i)
+      (l .loop .inv) (search needs),
+    )
 
 pub watch-spec : {M : Type 1} → statement M
 watch-spec =
@@ -56,10 +107,18 @@ watch-spec =
     Inv-loop
     μ-loop
     loop-holds
+    same-length
+    returns
     read-sides-requires
     kind-at-requires
-    step-one-requires
+    slice-read-unpacked
+    unpacked-requires
+    stepped-requires
+    packed-requires
+    slice-write-ms
+    add-looked
     add-k
     loop-less
     loop-again
-    returns)
+    same-length-2
+    returns-2)

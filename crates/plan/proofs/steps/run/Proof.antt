@@ -1,5 +1,5 @@
 use borrow.Author.Needs.{needs}
-use mathlib.Core.Path.{_≡_, ap, _∙_, subst⁻¹}
+use mathlib.Core.Path.{_≡_, refl, ap, _∙_, subst⁻¹}
 use mathlib.Core.List.{List}
 use Prim.Native.Nat.{ℕ, _+_, _-_, _≤_}
 use native.Mathlib.Nat.{sub-zero}
@@ -10,6 +10,7 @@ use Rattle.state.specs.Effects.{Result}
 use Rattle.state.proofs.OpeningRows.{opening-ends}
 use Rattle.plan.specs.Reads.{PreferencesAt}
 use Rattle.plan.specs.Places.{actionsFrom, Noted, AllBelow}
+use Rattle.plan.proofs.Packing.{fresh-at}
 use Rattle.plan.proofs.ActionRows.{within-rows, as-many}
 use Rattle.plan.proofs.TaskRead.{opening-read, preferences-read}
 use Rattle.plan.proofs.steps.run.Statement.{statement}
@@ -50,26 +51,31 @@ part-follow-start c = search needs
 part-follow-end : tie.Need-part-follow-end
 part-follow-end c = search needs
 
+slice-aggregate-follow : tie.Need-slice-aggregate-follow
+slice-aggregate-follow c = search needs
+
 follow-requires : tie.Need-follow-requires
 follow-requires c κs =
-    let n = c .before .before .before in
+    let n = c .before .before .before .before in
     let b = n .before .before .before .before .before .before .before .before in (
       search needs,
       (
         subst⁻¹ (AllBelow (length (now (b .args .marks)))) (lent n) (within-rows (now (b .args .marks))),
         subst⁻¹ (λ (l : List ℕ). AllBelow (length l) (now (b .args .plan))) (lent n) (b .pre .1 .1),
+        refl,
       ),
     )
 
 returns : tie.Need-returns
 returns c = λ t R.
-    let n = c .before .before .before .before in
+    let f = c .before in
+    let n = f .before .before .before .before .before in
     let p = n .before .before in
     let o = p .before .before in
     let b = o .before .before .before .before in
     let opens = o .opening .ensures ∙ opening-read t (now (b .args .marks)) (now (b .args .values)) R in
     let counted = sub-zero (n .note-actions .result) in
-    c .follow .ensures t
+    f .follow .ensures t
     (record {
       reads = R;
       preferences =
@@ -81,6 +87,7 @@ returns c = λ t R.
           subst⁻¹ (λ (k : ℕ). Noted t (take k (n .note-actions .last .1 .0))) counted (n .note-actions .ensures .1 t (now (b .args .values)) R);
     })
     (ap (λ (r : Result). r .state) opens)
+    (fresh-at 16)
 
 pub run-spec : {M : Type 1} → statement M
 run-spec =
@@ -94,5 +101,6 @@ run-spec =
     sub-follow
     part-follow-start
     part-follow-end
+    slice-aggregate-follow
     follow-requires
     returns)

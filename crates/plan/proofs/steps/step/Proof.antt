@@ -4,7 +4,6 @@ use mathlib.Core.Path.{ap}
 use Prim.Native.Nat.{ℕ, _+_}
 use denote.Ref.{now}
 use Rattle.plan.proofs.Stepping.{stopped, led}
-use borrow.Author.Needs.{needs}
 use Rattle.plan.proofs.steps.step.Statement.{statement}
 use Rattle.plan.proofs.steps.step.Tie as tie
 
@@ -14,9 +13,12 @@ add-condition c = search needs
 condition-requires : tie.Need-condition-requires
 condition-requires c κs = search needs
 
+add-looked : tie.Need-add-looked
+add-looked c = search needs
+
 returns : tie.Need-returns
 returns c =
-    let n = c .before .before in
+    let n = c .before .before .before in
     let a = n .before .before .before .before .args in (
       tt,
       λ t R k h there. stopped t (now (a .marks)) (now (a .values)) R k h (a .p) (a .from) there
@@ -29,24 +31,27 @@ after-requires c κs = search needs
 value-at-requires : tie.Need-value-at-requires
 value-at-requires c κs = search needs
 
-cast-t12 : tie.Need-cast-t12
-cast-t12 c = search needs
+cast-t11 : tie.Need-cast-t11
+cast-t11 c = search needs
 
-add-t13 : tie.Need-add-t13
-add-t13 c = search needs
+add-t14 : tie.Need-add-t14
+add-t14 c = search needs
+
+add-t16 : tie.Need-add-t16
+add-t16 c = search needs
 
 returns-2 : tie.Need-returns-2
 returns-2 c =
     let v = c .before in
     let m = v .before .before in
     let e = m .before in
-    let n = e .before .before in
+    let n = e .before .before .before in
     let b = n .before .before .before .before in
     let a = b .args in (
-      search needs,
+      (search needs, search needs),
       λ t R k h there. led t (now (a .marks)) (now (a .values)) R k h (a .p) (a .from) there
-          (n .condition .result) (n .condition .ensures .0) (not-false _ (e .if1 .left)) (m .after .result) (m .after .ensures)
-          _ (b .pre .2) (ap (λ (x : ℕ). a .p .cost + x) (v .value-at .ensures)),
+          (n .condition .result) (n .condition .ensures .0) (not-false _ (e .if1 .left)) (m .after .result) (m .after .ensures .0)
+          _ (b .pre .0 .2) (ap (λ (x : ℕ). a .p .cost + x) (v .value-at .ensures)),
     )
 
 pub step-spec : {M : Type 1} → statement M
@@ -55,9 +60,11 @@ step-spec =
     (tie.spec
     add-condition
     condition-requires
+    add-looked
     returns
     after-requires
     value-at-requires
-    cast-t12
-    add-t13
+    cast-t11
+    add-t14
+    add-t16
     returns-2)

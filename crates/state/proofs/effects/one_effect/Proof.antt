@@ -40,7 +40,7 @@ returns c =
     let st = n .before .before .before .before .before in
     let b = st .args in
     let few : b .g .looked + n .condition .result .looked ≤ d .mark-all2 .result .next =
-    omega (arith, st .pre .2, n .condition .ensures .1, a .mark-all .ensures .1, d .mark-all2 .ensures .1) in (
+    omega (arith, st .pre .2, n .condition .ensures .1 .0, a .mark-all .ensures .1, d .mark-all2 .ensures .1) in (
       (search needs, few, search needs),
       λ e xs h stop. gathered-with (member (b .s)) (now (b .marks)) (now (b .values)) (b .i) (b .g) (n .condition .result) (n .condition .ensures .0)
           (a .mark-all .result) (d .mark-all2 .result) (a .mark-all .ensures .0) (d .mark-all2 .ensures .0) e xs h stop _ refl refl refl refl,
