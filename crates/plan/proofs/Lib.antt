@@ -19,3 +19,4 @@ pub mod Finishing
 pub mod Running
 pub mod Walking
 pub mod Settling
+pub mod Bounded
