@@ -35,7 +35,7 @@ use Rattle.state.specs.Member.{bit}
 use Rattle.plan.specs.Judged
 use Rattle.plan.specs.Judged.{Judged, stepsKnown, judgedBy, judged}
 use Rattle.plan.specs.Walked.{given, unpriced, unsettled, walked}
-use Rattle.plan.specs.Settled.{Settled, worth, refused, weightOf, worthOf, argumentsAllowed, settledBy, settled, priced, andSettled}
+use Rattle.plan.specs.Settled.{Settled, worth, refused, weightOf, worthOf, argumentsAllowed, settledBy, settled, priced, withAmounts, andSettled}
 
 -- The arguments
 
@@ -182,13 +182,13 @@ module _ (b p : List ℕ) (z : File.Sizes) (h : check b ≡ Check.accepted z) (s
       let same : z .preferences ≡ length (t .preferences) = sym (ap (λ (x : File.Sizes). x .preferences) (s .sized)) in
       rw (h, same, plan-allowed t (s .spelling) p short) (amounts-are t p)
 
-  verdict-settled : (n : ℕ) → andSettled b (given (unpriced (verdict t p)) n) ≡ Judged.given (verdict t p)
+  verdict-settled : withAmounts b (unpriced (verdict t p)) ≡ Judged.given (verdict t p)
   unfolding verdict
-  verdict-settled n = go (runs t (opening t) p) (isTrue (final t p) (t .goal))
+  verdict-settled = go (runs t (opening t) p) (isTrue (final t p) (t .goal))
     where
       go : (x y : Bool)
-          → andSettled b (given (unpriced (cond x (cond y (Verdict.solved (cost t p) (metric t p) (utility t p) (metSet t p)) Verdict.goal-missed)
-          (Verdict.stopped (stepsApplied t (opening t) p)))) n)
+          → withAmounts b (unpriced (cond x (cond y (Verdict.solved (cost t p) (metric t p) (utility t p) (metSet t p)) Verdict.goal-missed)
+          (Verdict.stopped (stepsApplied t (opening t) p))))
           ≡ Judged.given (cond x (cond y (Verdict.solved (cost t p) (metric t p) (utility t p) (metSet t p)) Verdict.goal-missed)
           (Verdict.stopped (stepsApplied t (opening t) p)))
       go true true = ap (priced (cost t p) (metSet t p)) settled-plan
@@ -206,6 +206,6 @@ walk-then-settle b p = go (check b) refl
         steps : (x : Bool) → leb (length p) 2048 ≡ x → (y : Bool)
             → andSettled b (unsettled (literals (taskOf b) p) (cond x (cond y (Judged.given (verdict (taskOf b) p)) (Judged.refused 11 (stepsKnown (z .actions) p))) (Judged.refused 10 0)))
             ≡ cond x (cond y (Judged.given (verdict (taskOf b) p)) (Judged.refused 11 (stepsKnown (z .actions) p))) (Judged.refused 10 0)
-        steps true l true = verdict-settled b p z h (leb-true (length p) 2048 l) (literals (taskOf b) p)
+        steps true l true = verdict-settled b p z h (leb-true (length p) 2048 l)
         steps true l false = refl
         steps false l y = refl

@@ -13,7 +13,7 @@ use Rattle.task.specs.Verdict
 use Rattle.plan.specs.Judged
 use Rattle.plan.specs.Judged.{Judged}
 use Rattle.plan.specs.Walked
-use Rattle.plan.specs.Walked.{Walked, given, solved, stopped, goal-missed}
+use Rattle.plan.specs.Walked.{Walk, solved, stopped, goal-missed, Walked, given}
 
 -- metric and utility, or a refusal with a number and a place
 pub data Settled : Type 0 where
@@ -47,8 +47,12 @@ abbrev pub priced : ℕ → (ℕ → Bool) → Settled → Judged
 priced cost met (worth metric utility) = Judged.given (Verdict.solved cost metric utility met)
 priced cost met (refused n i) = Judged.refused n i
 
+abbrev pub withAmounts : List ℕ → Walk → Judged
+withAmounts b (solved cost met) = priced cost met (settled b cost met)
+withAmounts b (stopped i) = Judged.given (Verdict.stopped i)
+withAmounts b goal-missed = Judged.given Verdict.goal-missed
+
+-- however many literals were looked at
 abbrev pub andSettled : List ℕ → Walked → Judged
-andSettled b (given (solved cost met) looked) = priced cost met (settled b cost met)
-andSettled b (given (stopped i) looked) = Judged.given (Verdict.stopped i)
-andSettled b (given goal-missed looked) = Judged.given Verdict.goal-missed
+andSettled b (given v looked) = withAmounts b v
 andSettled b (Walked.refused n i) = Judged.refused n i

@@ -11,6 +11,8 @@ use lib.Seq.{take-at}
 use borrow.Author.Tests.{le-leb, lt-leb, leb-true}
 use Rattle.text.specs.Area.{written as put}
 use Rattle.text.proofs.Writing.{written-whole}
+use Rattle.task.specs.File.{taskOf}
+use Rattle.task.specs.Literals.{literals}
 use Rattle.task.specs.Check
 use Rattle.task.specs.Check.{Answer, check}
 use Rattle.task.specs.Answers.{answer as checked}
@@ -142,7 +144,7 @@ module _ (b : List ℕ) where
   passedOn (refused n i) = refusedAfter (check b) n i
 
   -- walk refuses a plan that is too long by the same number
-  over-long : (p : List ℕ) → leb (length p) 2048 ≡ false → (a : Answer) → refusedAfter a 10 0 ≡ unsettled (judgedBy b p a)
+  over-long : (p : List ℕ) → leb (length p) 2048 ≡ false → (a : Answer) → refusedAfter a 10 0 ≡ unsettled (literals (taskOf b) p) (judgedBy b p a)
   over-long p l (Check.refused n i) = refl
   over-long p l (Check.accepted z) = rw l
 

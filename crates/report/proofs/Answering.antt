@@ -14,13 +14,14 @@ use Rattle.plan.specs.Judged
 use Rattle.plan.specs.Judged.{Judged, judged}
 use Rattle.plan.specs.Walked
 use Rattle.plan.specs.Walked.{Walk, Walked, given, unsettled, walked}
-use Rattle.plan.specs.Settled.{andSettled}
+use Rattle.plan.specs.Settled.{withAmounts, andSettled}
+use Rattle.task.specs.Literals.{literals}
 use Rattle.plan.proofs.Settling.{walk-then-settle}
 use Rattle.text.specs.Area.{Filled}
 use Rattle.text.proofs.Writing.{from-start, no-bytes}
 use Rattle.outcome.specs.Outcome.{Outcome, written, refused, fitted}
 use Rattle.outcome.proofs.Outcomes.{not-written}
-use Rattle.report.specs.Report.{reportOf, reportOn, reportBy, reportOutcome}
+use Rattle.report.specs.Report.{reportOf, reportOn, reportBy, reportOutcome, WalkedTo}
 use Rattle.report.specs.Rows.{reportOfRows}
 use Rattle.report.proofs.Spelled.{task-report}
 
@@ -31,38 +32,38 @@ spelled-report t xs e n j = ap (λ (ys : List Row). reportOfRows ys n j) e ∙ t
 
 -- an outcome for each answer of walk
 abbrev passedOn : Walked → Outcome
-passedOn (given w) = written 0
+passedOn (given w looked) = written 0
 passedOn (Walked.refused n i) = refused n i
 
-as-given : (bytes room : ℕ) (j : Judged) (w : Walk) → given w ≡ unsettled j → reportBy bytes room j ≡ fitted bytes room
-as-given bytes room (Judged.given v) w e = refl
-as-given bytes room (Judged.refused n i) w e = absurd (not-written n i 0 (sym (ap passedOn e)))
+as-given : (bytes room : ℕ) (j : Judged) (w : Walk) (looked seen : ℕ) → given w looked ≡ unsettled seen j → reportBy bytes room j ≡ fitted bytes room
+as-given bytes room (Judged.given v) w looked seen e = refl
+as-given bytes room (Judged.refused n i) w looked seen e = absurd (not-written n i 0 (sym (ap passedOn e)))
 
-as-refused : (bytes room : ℕ) (j : Judged) (n i : ℕ) → Walked.refused n i ≡ unsettled j → reportBy bytes room j ≡ refused n i
-as-refused bytes room (Judged.given v) n i e = absurd (not-written n i 0 (ap passedOn e))
-as-refused bytes room (Judged.refused m k) n i e = sym (ap passedOn e)
+as-refused : (bytes room : ℕ) (j : Judged) (n i seen : ℕ) → Walked.refused n i ≡ unsettled seen j → reportBy bytes room j ≡ refused n i
+as-refused bytes room (Judged.given v) n i seen e = absurd (not-written n i 0 (ap passedOn e))
+as-refused bytes room (Judged.refused m k) n i seen e = sym (ap passedOn e)
 
 -- For a caller that has walked the plan p on the file b
 
 module _ (b p : List ℕ) where
   pub not-walked : (room n i : ℕ) → Walked.refused n i ≡ walked b p → reportOutcome b p room ≡ refused n i
   unfolding walked reportOutcome
-  not-walked room n i q = as-refused (length (reportOn b p)) room (judged b p) n i q
+  not-walked room n i q = as-refused (length (reportOn b p)) room (judged b p) n i (literals (taskOf b) p) q
 
-  module _ (w : Walk) (q : given w ≡ walked b p) where
+  module _ (w : Walk) (q : WalkedTo b p w) where
     -- the text, where the two parts of the file are lent
     pub on-accepted : (z : Sizes) → check b ≡ accepted z → (out : List ℕ) (r : ℕ) (out′ : List ℕ)
-        → Filled out (reportOfRows (partsOf b z) (length p) (andSettled b (given w))) r out′
+        → Filled out (reportOfRows (partsOf b z) (length p) (withAmounts b w)) r out′
         → Filled out (reportOn b p) r out′
     unfolding reportOn
     on-accepted z h out r out′ =
         subst (λ (l : List ℕ). Filled out l r out′)
-        (spelled-report (taskOf b) _ (parts-spell b z h) (length p) (andSettled b (given w))
-        ∙ ap (reportOf (taskOf b) (length p)) (ap (andSettled b) q ∙ walk-then-settle b p))
+        (spelled-report (taskOf b) _ (parts-spell b z h) (length p) (withAmounts b w)
+        ∙ ap (reportOf (taskOf b) (length p)) (ap (andSettled b) (q .1) ∙ walk-then-settle b p))
 
     by-length : (room : ℕ) → reportOutcome b p room ≡ fitted (length (reportOn b p)) room
     unfolding walked reportOutcome
-    by-length room = as-given (length (reportOn b p)) room (judged b p) w q
+    by-length room = as-given (length (reportOn b p)) room (judged b p) w (q .0) (literals (taskOf b) p) (q .1)
 
     pub too-short : (room : ℕ) → room < length (reportOn b p) → reportOutcome b p room ≡ refused 9 0
     too-short room h = by-length room ∙ rw (lt-leb (length (reportOn b p)) room h)

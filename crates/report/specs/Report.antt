@@ -1,4 +1,5 @@
 -- The text of a judged plan: document 01, 'A belt and a gate', and request 6.
+use mathlib.Core.Path.{_≡_}
 use mathlib.Core.Bool.{Bool, true, false}
 use mathlib.Core.List.{List, [], _++_}
 use Prim.Native.Nat.{ℕ}
@@ -9,6 +10,8 @@ use Rattle.task.specs.Task.{Kind, always, sometime, at-end, at-most-once, somet
 use Rattle.task.specs.File.{taskOf}
 use Rattle.task.specs.Verdict.{Verdict, solved, stopped, goal-missed}
 use Rattle.plan.specs.Judged.{Judged, given, refused, judged}
+use Rattle.plan.specs.Walked
+use Rattle.plan.specs.Walked.{Walk, walked}
 use Rattle.text.specs.Ascii.{ascii}
 use Rattle.text.specs.Text.{decimal, integer}
 use Rattle.outcome.specs.Outcome
@@ -77,3 +80,7 @@ reportBy bytes room (refused number place) = Outcome.refused number place
 
 unfoldable pub reportOutcome : List ℕ → List ℕ → ℕ → Outcome
 reportOutcome b p room = reportBy (length (reportOn b p)) room (judged b p)
+
+-- walk gave the verdict w on the file b and the plan p, with whatever it looked at
+abbrev pub WalkedTo : List ℕ → List ℕ → Walk → Type 0
+WalkedTo b p w = (looked : ℕ) × (Walked.given w looked ≡ walked b p)

@@ -8,13 +8,12 @@ ghost use lib.ListN.{length};
 ghost use Rattle.task.specs.File.{paired};
 ghost use Rattle.task.specs.Verdict.{solved};
 ghost use Rattle.state.specs.Member.{bit};
-ghost use Rattle.plan.specs.Walked.{given, walked};
-ghost use Rattle.plan.specs.Settled.{priced, andSettled};
+ghost use Rattle.plan.specs.Settled.{priced, withAmounts};
 ghost use Rattle.plan.specs.Answers.{asVerdict, settledAs};
 ghost use Rattle.text.specs.Area.{Wrote, Filled};
 ghost use Rattle.outcome.specs.Outcome.{areaAfter};
 ghost use Rattle.outcome.specs.Answers.{answer};
-ghost use Rattle.report.specs.Report.{reportOn, reportOutcome};
+ghost use Rattle.report.specs.Report.{reportOn, reportOutcome, WalkedTo};
 ghost use Rattle.report.specs.Rows.{verdictOfRows, reportOfRows};
 use outcome::Outcome;
 use plan::Settled;
@@ -69,7 +68,7 @@ fn put_verdict(
     out: &mut [u8],
 ) -> usize
     requires { ⌜ (4 * length (now marks) ≤ length (now values)) × (length (now marks) ≤ 12000) ⌝ }
-    ensures { λ r. ⌜ Wrote (now (out .entry)) 0 (reportOfRows (paired (now (marks .entry)) (now (values .entry))) steps (andSettled (now (file .entry)) (given (asVerdict v)))) r (now (out .exit)) ⌝ }
+    ensures { λ r. ⌜ Wrote (now (out .entry)) 0 (reportOfRows (paired (now (marks .entry)) (now (values .entry))) steps (withAmounts (now (file .entry)) (asVerdict v))) r (now (out .exit)) ⌝ }
 {
     match v {
         Verdict::Solved(s) => {
@@ -83,7 +82,7 @@ fn put_verdict(
 
 // Writes the text of the verdict on a plan, as far as the area has room, and answers its length. A refused file has no text.
 fn put_text(file: &[u8], plan: &[u8], v: Verdict, out: &mut [u8]) -> usize
-    requires { ⌜ given (asVerdict v) ≡ walked (now file) (now plan) ⌝ }
+    requires { ⌜ WalkedTo (now file) (now plan) (asVerdict v) ⌝ }
     ensures { λ r. ⌜ Filled (now (out .entry)) (reportOn (now (file .entry)) (now (plan .entry))) r (now (out .exit)) ⌝ }
 {
     let steps = plan.len();
@@ -98,7 +97,7 @@ fn put_text(file: &[u8], plan: &[u8], v: Verdict, out: &mut [u8]) -> usize
 // Writes the text of the verdict on a plan where the area has room for it. It is made in an area that holds every text, so that
 // nothing is written before its length is known.
 fn write_verdict(file: &[u8], plan: &[u8], v: Verdict, out: &mut [u8]) -> Outcome
-    requires { ⌜ given (asVerdict v) ≡ walked (now file) (now plan) ⌝ }
+    requires { ⌜ WalkedTo (now file) (now plan) (asVerdict v) ⌝ }
     ensures { λ r. ⌜ answer r ≡ reportOutcome (now (file .entry)) (now (plan .entry)) (length (now (out .entry))) ⌝ }
     ensures { λ r. ⌜ now (out .exit) ≡ areaAfter (reportOn (now (file .entry)) (now (plan .entry))) (now (out .entry)) (reportOutcome (now (file .entry)) (now (plan .entry)) (length (now (out .entry)))) ⌝ }
 {
@@ -118,7 +117,7 @@ pub fn write_report(file: &[u8], plan: &[u8], out: &mut [u8]) -> Outcome
 {
     let w = plan::walk(file, plan);
     match w {
-        Walked::Given(v) => write_verdict(file, plan, v, &mut *out),
+        Walked::Given(v, _) => write_verdict(file, plan, v, &mut *out),
         Walked::Refused(f) => Outcome::Refused(f),
     }
 }

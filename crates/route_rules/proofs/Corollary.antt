@@ -12,6 +12,7 @@ use Rattle.task.specs.Task.{Task}
 use Rattle.task.specs.File.{Sizes, taskOf}
 use Rattle.task.specs.Check.{Answer, accepted, refused, check}
 use Rattle.task.specs.Meaning.{solves, cost, metric, utility}
+use Rattle.task.specs.Literals.{literals}
 use Rattle.task.specs.Verdict.{Verdict, solved, metSet, verdict}
 use Rattle.task.proofs.Tests.{as-true, all-keep}
 use Rattle.task.proofs.Verdict.{solved-iff, solved-only}
@@ -62,7 +63,7 @@ module _ (b : List ℕ) (z : Sizes) (h : check b ≡ accepted z) (p : List ℕ) 
 
 -- what judge gave, from what walk and settle answer
 judged-at : (b p : List ℕ) (m : ℕ) → SettledAt b p m → (c : ℕ) × (u : ℤ) × (s : ℕ → Bool) × (judged b p ≡ given (solved c m u s))
-judged-at b p m (c, u, s, w, e) = (c, u, s, sym (walk-then-settle b p) ∙ ap (andSettled b) w ∙ ap (priced c s) e)
+judged-at b p m (c, u, s, n, w, e) = (c, u, s, sym (walk-then-settle b p) ∙ ap (andSettled b) w ∙ ap (priced c s) e)
 
 -- The corollary
 
@@ -89,7 +90,8 @@ module _ (b area : List ℕ) (n : ℕ) (z : Sizes) (h : check b ≡ accepted z) 
               cost source p,
               utility source p,
               metSet source p,
-              ap unsettled (given-verdict b z h p short (steps x) ∙ ap given (solved-iff source p .1 solving-p)),
+              literals source p,
+              ap (unsettled (literals source p)) (given-verdict b z h p short (steps x) ∙ ap given (solved-iff source p .1 solving-p)),
               settled-plan b p z h short ∙ ap (λ (m : ℕ). worth m (utility source p)) (sym (d .faithfully .priced x solving)),
             );
         offers = λ p m e. from-judged p m (judged-at b p m e);

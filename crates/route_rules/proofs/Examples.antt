@@ -3,6 +3,7 @@ use mathlib.Core.Path.{_≡_, refl}
 use mathlib.Core.List.{List, [], _∷_, map}
 use Prim.Native.Nat.{ℕ, _-_, _^_}
 use Rattle.task.specs.Check.{check, walk}
+use Rattle.task.specs.Literals.{literals}
 use Rattle.task.specs.Verdict.{verdict}
 use Rattle.task.proofs.Lettered.{belt}
 use Rattle.state.specs.Member.{bit}
@@ -27,14 +28,14 @@ examples =
     ∷ example (ofCheck (check [])) 1 (0 ∷ 0 ∷ 0 ∷ 0 ∷ 0 ∷ 0 ∷ 0 ∷ 0 ∷ [])
     ∷ example (ofOutcome (outcome belt 473)) 0 (0 ∷ 473 ∷ 0 ∷ 0 ∷ 0 ∷ 0 ∷ 0 ∷ 0 ∷ [])
     ∷ example (ofOutcome (outcome belt 472)) 9 (0 ∷ 0 ∷ 0 ∷ 0 ∷ 0 ∷ 0 ∷ 0 ∷ 0 ∷ [])
-    -- preference 1 is met, so bit 1 is set
-    ∷ example (ofWalk (walked belt (0 ∷ []))) 0 (0 ∷ 1 ∷ 0 ∷ 3 ∷ 2 ∷ 0 ∷ 0 ∷ 0 ∷ [])
+    -- preference 1 is met, so bit 1 is set; 5 literals are looked at
+    ∷ example (ofWalk (walked belt (0 ∷ []))) 0 (0 ∷ 1 ∷ 0 ∷ 3 ∷ 2 ∷ 5 ∷ 0 ∷ 0 ∷ [])
     ∷ example (ofSettle (settled belt 3 (bit 2))) 0 (0 ∷ 8 ∷ 4 ∷ 0 ∷ 0 ∷ 0 ∷ 0 ∷ 0 ∷ [])
     -- a utility of -2
-    ∷ example (ofWalk (walked belt (0 ∷ 0 ∷ 0 ∷ []))) 0 (0 ∷ 1 ∷ 0 ∷ 9 ∷ 2 ∷ 0 ∷ 0 ∷ 0 ∷ [])
+    ∷ example (ofWalk (walked belt (0 ∷ 0 ∷ 0 ∷ []))) 0 (0 ∷ 1 ∷ 0 ∷ 9 ∷ 2 ∷ 9 ∷ 0 ∷ 0 ∷ [])
     ∷ example (ofSettle (settled belt 9 (bit 2))) 0 (0 ∷ 14 ∷ (2 ^ 64 - 2) ∷ 0 ∷ 0 ∷ 0 ∷ 0 ∷ 0 ∷ [])
-    ∷ example (ofWalk (given (stopped 10))) 0 (0 ∷ 2 ∷ 10 ∷ 0 ∷ 0 ∷ 0 ∷ 0 ∷ 0 ∷ [])
-    ∷ example (ofWalk (walked belt [])) 0 (0 ∷ 3 ∷ 0 ∷ 0 ∷ 0 ∷ 0 ∷ 0 ∷ 0 ∷ [])
+    ∷ example (ofWalk (given (stopped 10) 77)) 0 (0 ∷ 2 ∷ 10 ∷ 0 ∷ 0 ∷ 77 ∷ 0 ∷ 0 ∷ [])
+    ∷ example (ofWalk (walked belt [])) 0 (0 ∷ 3 ∷ 0 ∷ 0 ∷ 0 ∷ 3 ∷ 0 ∷ 0 ∷ [])
     ∷ example (ofWalk (walked belt (0 ∷ 2 ∷ []))) 11 (1 ∷ 0 ∷ 0 ∷ 0 ∷ 0 ∷ 0 ∷ 0 ∷ 0 ∷ [])
     -- the largest cost, and one more; a preference that is not there
     ∷ example (ofSettle (settled belt 2048000000 (bit 3))) 0 (0 ∷ 2048000000 ∷ (2 ^ 64 - 2047999988) ∷ 0 ∷ 0 ∷ 0 ∷ 0 ∷ 0 ∷ [])
@@ -44,5 +45,5 @@ examples =
     ∷ []
 
 pub as-said : map (λ (e : Example). e .given) examples ≡ map (λ (e : Example). call (e .number) (e .words)) examples
-unfolding check walk judged verdict walked settled bit translated outcome bits
+unfolding check walk judged verdict literals walked settled bit translated outcome bits
 as-said = refl

@@ -14,7 +14,8 @@ use Rattle.plan.specs.Settled.{worth, settled}
 
 -- walk answers solved, and settle then metric m
 abbrev pub SettledAt : List ℕ → List ℕ → ℕ → Type 0
-SettledAt b p m = (c : ℕ) × (u : ℤ) × (met : ℕ → Bool) × (walked b p ≡ given (solved c met)) × (settled b c met ≡ worth m u)
+SettledAt b p m =
+    (c : ℕ) × (u : ℤ) × (met : ℕ → Bool) × (looked : ℕ) × (walked b p ≡ given (solved c met) looked) × (settled b c met ≡ worth m u)
 
 -- b holds the source, the first n bytes of the area its translation;
 -- pays: a list that solves the translation costs the metric of its source part, where that has at most 2,048 steps;

@@ -51,14 +51,14 @@ bits zero f = 0
 bits (suc n) f = cond (f 0) 1 0 + 2 * bits n (λ (k : ℕ). f (suc k))
 
 -- word 1 is the verdict: 1 solved, 2 stopped, 3 goal missed. Word 2 is the step at which a plan stopped, words 3 and 4 are
--- cost and the met preferences of a plan that solves
-abbrev pub ofVerdict : Walk → Call
-ofVerdict (solved cost met) = answered 1 0 cost (bits 64 met) 0 0 0
-ofVerdict (stopped step) = answered 2 step 0 0 0 0 0
-ofVerdict goal-missed = answered 3 0 0 0 0 0 0
+-- cost and the met preferences of a plan that solves; word 5 is how many literals were looked at, with every verdict
+abbrev pub ofVerdict : Walk → ℕ → Call
+ofVerdict (solved cost met) looked = answered 1 0 cost (bits 64 met) looked 0 0
+ofVerdict (stopped step) looked = answered 2 step 0 0 looked 0 0
+ofVerdict goal-missed looked = answered 3 0 0 0 looked 0 0
 
 abbrev pub ofWalk : Walked → Call
-ofWalk (given v) = ofVerdict v
+ofWalk (given v looked) = ofVerdict v looked
 ofWalk (Walked.refused n i) = refusal n i
 
 -- words 1 and 2 are metric and utility

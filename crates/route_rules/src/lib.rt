@@ -98,19 +98,20 @@ fn as_word(n: i64) -> u64
     if n < 0 { !((!n) as u64) } else { n as u64 }
 }
 
-fn put_solution(s: Solution, answer: &mut [u64; 8]) -> u32
-    ensures { λ r. ⌜ call r (now (answer .exit)) ≡ ofVerdict (asVerdict (Solved s)) ⌝ }
+fn put_solution(s: Solution, looked: u64, answer: &mut [u64; 8]) -> u32
+    ensures { λ r. ⌜ call r (now (answer .exit)) ≡ ofVerdict (asVerdict (Solved s)) looked ⌝ }
 {
-    put_values(answer, SOLVED, 0, s.cost, s.met, 0, 0)
+    put_values(answer, SOLVED, 0, s.cost, s.met, looked, 0)
 }
 
-fn put_verdict(v: Verdict, answer: &mut [u64; 8]) -> u32
-    ensures { λ r. ⌜ call r (now (answer .exit)) ≡ ofVerdict (asVerdict v) ⌝ }
+// Writes a verdict, and how many literals were looked at.
+fn put_verdict(v: Verdict, looked: u64, answer: &mut [u64; 8]) -> u32
+    ensures { λ r. ⌜ call r (now (answer .exit)) ≡ ofVerdict (asVerdict v) looked ⌝ }
 {
     match v {
-        Verdict::Solved(s) => put_solution(s, answer),
-        Verdict::Stopped(step) => put_values(answer, STOPPED, step as u64, 0, 0, 0, 0),
-        Verdict::GoalMissed => put_values(answer, GOAL_MISSED, 0, 0, 0, 0, 0),
+        Verdict::Solved(s) => put_solution(s, looked, answer),
+        Verdict::Stopped(step) => put_values(answer, STOPPED, step as u64, 0, 0, looked, 0),
+        Verdict::GoalMissed => put_values(answer, GOAL_MISSED, 0, 0, 0, looked, 0),
     }
 }
 
@@ -118,7 +119,7 @@ fn put_walked(w: Walked, answer: &mut [u64; 8]) -> u32
     ensures { λ r. ⌜ call r (now (answer .exit)) ≡ ofWalk (walkedAs w) ⌝ }
 {
     match w {
-        Walked::Given(v) => put_verdict(v, answer),
+        Walked::Given(v, looked) => put_verdict(v, looked, answer),
         Walked::Refused(f) => put_refusal(f, answer),
     }
 }

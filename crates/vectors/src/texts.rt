@@ -38,7 +38,7 @@ fn write_verdict(file: &[u8], v: Verdict) {
 
 fn write_walked(file: &[u8], walked: Walked) {
     match walked {
-        Walked::Given(v) => write_verdict(file, v),
+        Walked::Given(v, _) => write_verdict(file, v),
         Walked::Refused(f) => lines::write_refused(f),
     }
 }

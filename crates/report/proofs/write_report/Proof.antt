@@ -19,7 +19,7 @@ enum-known-w c = search needs
 write-verdict-requires : tie.Need-write-verdict-requires
 write-verdict-requires c κs =
     let w = c .before .before in
-    sym (ap walkedAs (w .w .given .1)) ∙ w .before .before .walk .ensures
+    (_, sym (ap walkedAs (w .w .given .1)) ∙ w .before .before .walk .ensures)
 
 enum-known-w-2 : tie.Need-enum-known-w-2
 enum-known-w-2 c = search needs
