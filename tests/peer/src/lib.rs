@@ -21,7 +21,7 @@ pub use report::{refused_text, report};
 pub use settle::{settle, worth, Worth};
 pub use task::{Action, Clause, Condition, Effect, Kind, Literal, Preference, Task};
 pub use translate::{complete, translate, translated};
-pub use walk::{verdict, walk, Verdict};
+pub use walk::{verdict, walk, walked, Verdict, Walked};
 
 /// Why something is refused, and where: a row, a step, or 0.
 #[derive(Clone, Copy, PartialEq, Eq, Debug)]

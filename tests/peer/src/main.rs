@@ -114,12 +114,14 @@ fn tally(first: u64, count: u64) -> String {
             Ok(_) => "check accepted".to_string(),
             Err(refusal) => format!("check refused {:2}", refusal.number),
         });
-        add(match walk(&case.file, &case.plan) {
-            Ok(Verdict::Solved { .. }) => "walk solved".to_string(),
-            Ok(Verdict::Stopped(_)) => "walk stopped".to_string(),
-            Ok(Verdict::GoalMissed) => "walk goal missed".to_string(),
-            Err(refusal) => format!("walk refused {:2}", refusal.number),
-        });
+        add(
+            match walk(&case.file, &case.plan).map(|walked| walked.verdict) {
+                Ok(Verdict::Solved { .. }) => "walk solved".to_string(),
+                Ok(Verdict::Stopped(_)) => "walk stopped".to_string(),
+                Ok(Verdict::GoalMissed) => "walk goal missed".to_string(),
+                Err(refusal) => format!("walk refused {:2}", refusal.number),
+            },
+        );
         let (cost, met) = arguments(seed, &case.file);
         add(match settle(&case.file, cost, met) {
             Ok(_) => "settle given".to_string(),
@@ -129,7 +131,9 @@ fn tally(first: u64, count: u64) -> String {
             Ok(_) => "translate written".to_string(),
             Err(refusal) => format!("translate refused {:2}", refusal.number),
         });
-        if let Ok(Verdict::Solved { met, .. }) = walk(&case.file, &case.plan) {
+        if let Ok(Verdict::Solved { met, .. }) =
+            walk(&case.file, &case.plan).map(|walked| walked.verdict)
+        {
             let task = decode(&case.file).expect("walked, so accepted");
             for (k, preference) in task.preferences.iter().enumerate() {
                 let outcome = if is_met(met, k) { "met" } else { "missed" };

@@ -28,17 +28,22 @@ pub fn condition_true(condition: &Condition, state: &State) -> bool {
 }
 
 /// The state an action reaches from a state where it applies. All effect
-/// conditions are read in the state before; deletes go out, then adds come in.
+/// conditions are read in the state before.
 pub fn after(action: &Action, state: &State) -> State {
     let fires = |effect: &&Effect| condition_true(&effect.condition, state);
     let firing: Vec<&Effect> = action.effects.iter().filter(fires).collect();
+    changed(state, &firing)
+}
+
+/// A state changed by the effects that fire: deletes go out, then adds come in.
+pub fn changed(state: &State, firing: &[&Effect]) -> State {
     let mut next = *state;
-    for effect in &firing {
+    for effect in firing {
         for &fact in &effect.deletes {
             next[fact] = false;
         }
     }
-    for effect in &firing {
+    for effect in firing {
         for &fact in &effect.adds {
             next[fact] = true;
         }
@@ -62,16 +67,23 @@ pub fn states(task: &Task, plan: &[u8]) -> Result<Vec<State>, usize> {
 
 /// Whether a preference is met over states 0 to n (at least state 0).
 pub fn met(preference: &Preference, states: &[State]) -> bool {
-    let n = states.len() - 1;
     let truth = |condition: &Condition| -> Vec<bool> {
         states
             .iter()
             .map(|state| condition_true(condition, state))
             .collect()
     };
-    let phi = truth(&preference.phi);
-    let psi = truth(&preference.psi);
-    match preference.kind {
+    met_by(
+        preference.kind,
+        &truth(&preference.phi),
+        &truth(&preference.psi),
+    )
+}
+
+/// Whether a preference of a kind is met where φ and ψ are so in the states 0 to n.
+pub fn met_by(kind: Kind, phi: &[bool], psi: &[bool]) -> bool {
+    let n = phi.len() - 1;
+    match kind {
         // φ in every state.
         Kind::Always => (0..=n).all(|i| phi[i]),
         // φ in some state.

@@ -3,7 +3,7 @@
 use crate::decode::check;
 use crate::random::Random;
 use crate::task::MAX_STEPS;
-use crate::walk::{walk, Verdict};
+use crate::walk::{walk, Walked};
 use crate::{refuse, Refusal};
 
 /// The length of the longest text.
@@ -68,8 +68,8 @@ pub fn write(plan: &[u8], room: usize) -> Result<Vec<u8>, Refusal> {
     fit(plan.len(), text.into_bytes(), room)
 }
 
-/// The verdict on the plan in a text, or the refusal (1 to 6, 12, 10, 11).
-pub fn walk_text(file: &[u8], text: &[u8]) -> Result<Verdict, Refusal> {
+/// The walk of the plan in a text, or the refusal (1 to 6, 12, 10, 11).
+pub fn walk_text(file: &[u8], text: &[u8]) -> Result<Walked, Refusal> {
     check(file)?;
     walk(file, &parse(text)?)
 }

@@ -53,7 +53,7 @@ fn of_check(case: &Case) -> String {
 }
 
 fn of_walk(case: &Case) -> String {
-    match walk(&case.file, &case.plan) {
+    match walk(&case.file, &case.plan).map(|walked| walked.verdict) {
         Ok(Verdict::Solved { .. }) if case.plan.len() == 2_048 => {
             "solved with most steps".to_string()
         }
@@ -118,7 +118,9 @@ fn every_kind_is_met_and_missed() {
     let mut outcomes: BTreeSet<(&str, Option<usize>, bool)> = BTreeSet::new();
     for seed in 0..6_000 {
         let case = case(seed);
-        let Ok(Verdict::Solved { met, .. }) = walk(&case.file, &case.plan) else {
+        let Ok(Verdict::Solved { met, .. }) =
+            walk(&case.file, &case.plan).map(|walked| walked.verdict)
+        else {
             continue;
         };
         let task = decode(&case.file).unwrap();

@@ -13,7 +13,7 @@ const ROOM: usize = 60_008;
 fn outcome(kind: Kind, phi: &str, psi: &str) -> bool {
     let truth = |text: &str| -> Vec<bool> { text.chars().map(|c| c == 'T').collect() };
     let (task, plan) = course(kind, &truth(phi), &truth(psi));
-    match walk(&encode(&task), &plan) {
+    match walk(&encode(&task), &plan).map(|walked| walked.verdict) {
         Ok(Verdict::Solved { met, .. }) => met == 1,
         other => panic!("{other:?}"),
     }

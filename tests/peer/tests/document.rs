@@ -23,7 +23,7 @@ fn belt_is_accepted_walked_and_settled() {
     );
     assert_eq!(
         walk(&task, &[0]),
-        Ok(Verdict::Solved { cost: 3, met: 0b10 })
+        reading(5, Verdict::Solved { cost: 3, met: 0b10 })
     );
     assert_eq!(
         settle(&task, 3, 0b10),
@@ -206,7 +206,7 @@ fn trackers_by_kind() {
 fn outcome(kind: Kind, phi: &str, psi: &str) -> bool {
     let truth = |text: &str| -> Vec<bool> { text.chars().map(|c| c == 'T').collect() };
     let (task, plan) = course(kind, &truth(phi), &truth(psi));
-    match walk(&encode(&task), &plan) {
+    match walk(&encode(&task), &plan).map(|walked| walked.verdict) {
         Ok(Verdict::Solved { met, .. }) => met == 1,
         other => panic!("{other:?}"),
     }
@@ -230,20 +230,20 @@ fn lettered_examples() {
         0,
         "GOAL CLAUSE HOLDS 0 ACTION 0 EFFECT ADD 0 DELETE 0",
     );
-    let solved = Ok(Verdict::Solved { cost: 0, met: 0 });
-    assert_eq!(walk(&both, &[0]), solved, "l");
+    let solved = Verdict::Solved { cost: 0, met: 0 };
+    assert_eq!(walk(&both, &[0]), reading(1, solved), "l");
 }
 
 /// Deletes of all effects go out before the adds of any come in.
 #[test]
 fn adds_win_across_effects() {
-    let solved = Ok(Verdict::Solved { cost: 0, met: 0 });
+    let solved = Verdict::Solved { cost: 0, met: 0 };
     for effects in [
         "EFFECT ADD 0 EFFECT DELETE 0",
         "EFFECT DELETE 0 EFFECT ADD 0",
     ] {
         let task = file(1, 1, 0, &format!("GOAL CLAUSE HOLDS 0 ACTION 0 {effects}"));
-        assert_eq!(walk(&task, &[0]), solved);
+        assert_eq!(walk(&task, &[0]), reading(1, solved));
     }
     // The second effect reads the state before, so it doesn't fire.
     let chain = file(
@@ -252,7 +252,7 @@ fn adds_win_across_effects() {
         0,
         "GOAL CLAUSE LACKS 1 ACTION EFFECT ADD 0 EFFECT CLAUSE HOLDS 0 ADD 1",
     );
-    assert_eq!(walk(&chain, &[0]), solved);
+    assert_eq!(walk(&chain, &[0]), reading(2, solved));
 }
 
 /// At most one run of φ: no state without φ between two with it.
@@ -280,7 +280,7 @@ fn edges_of_plans() {
         cost: 2_048,
         met: 0,
     };
-    assert_eq!(walk(&task, &[0; 2_048]), Ok(solved));
+    assert_eq!(walk(&task, &[0; 2_048]), reading(0, solved));
     assert_eq!(walk(&task, &[0; 2_049]), refused(10, 0));
     assert_eq!(walk(&task, &[1; 2_049]), refused(10, 0));
     let mut plan = [0; 2_048];

@@ -292,5 +292,5 @@ fn task_before_plan_and_translation() {
     // An unknown step wins over one that doesn't apply before it.
     let stops = file(1, 1, 0, "GOAL ACTION CLAUSE HOLDS 0");
     assert_eq!(walk(&stops, &[0, 0, 1]), refused(11, 2));
-    assert_eq!(walk(&stops, &[0, 0, 0]), Ok(Verdict::Stopped(0)));
+    assert_eq!(walk(&stops, &[0, 0, 0]), reading(1, Verdict::Stopped(0)));
 }

@@ -29,7 +29,8 @@ fn the_belt() {
         assert_eq!(settle(&belt, 3, met), worth_of(metric, utility), "{met:b}");
     }
     for (plan, metric, utility) in [(&[0][..], 8, 4), (&[0, 1, 1, 0], 13, -1)] {
-        let Ok(Verdict::Solved { cost, met }) = walk(&belt, plan) else {
+        let Ok(Verdict::Solved { cost, met }) = walk(&belt, plan).map(|walked| walked.verdict)
+        else {
             panic!("{plan:?}")
         };
         assert_eq!(settle(&belt, cost, met), worth_of(metric, utility));
@@ -139,7 +140,9 @@ fn walks_are_settled() {
     let mut tried = 0;
     for seed in 0..6_000 {
         let case = case(seed);
-        let Ok(Verdict::Solved { cost, met }) = walk(&case.file, &case.plan) else {
+        let Ok(Verdict::Solved { cost, met }) =
+            walk(&case.file, &case.plan).map(|walked| walked.verdict)
+        else {
             continue;
         };
         let worth = settle(&case.file, cost, met).expect("a walk's own");

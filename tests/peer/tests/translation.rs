@@ -51,7 +51,9 @@ fn completed_lists_of_random_cases() {
     let mut tried = 0;
     for seed in 0..12_000 {
         let case = case(seed);
-        let Ok(Verdict::Solved { cost, met }) = walk(&case.file, &case.plan) else {
+        let Ok(Verdict::Solved { cost, met }) =
+            walk(&case.file, &case.plan).map(|walked| walked.verdict)
+        else {
             continue;
         };
         let metric = settle(&case.file, cost, met).expect("a walk's own").metric;
@@ -79,7 +81,7 @@ fn plans_that_do_not_solve() {
     let mut tried = 0;
     for seed in 0..12_000 {
         let case = case(seed);
-        let verdict = walk(&case.file, &case.plan);
+        let verdict = walk(&case.file, &case.plan).map(|walked| walked.verdict);
         if !matches!(verdict, Ok(Verdict::Stopped(_) | Verdict::GoalMissed)) {
             continue;
         }

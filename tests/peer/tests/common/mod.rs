@@ -2,7 +2,7 @@
 #![allow(dead_code)]
 
 use peer::encode::{spell, Row};
-use peer::{Action, Condition, Effect, Kind, Literal, Preference, Refusal, Task};
+use peer::{Action, Condition, Effect, Kind, Literal, Preference, Refusal, Task, Verdict, Walked};
 
 /// Rows from words such as `START 1 GOAL CLAUSE LACKS 1`; no number means 0.
 pub fn rows(words: &str) -> Vec<Row> {
@@ -55,6 +55,11 @@ pub fn file(facts: u16, actions: u16, preferences: u16, words: &str) -> Vec<u8> 
 
 pub fn refused<T>(number: u8, place: u16) -> Result<T, Refusal> {
     Err(Refusal { number, place })
+}
+
+/// A verdict after so many literals.
+pub fn reading(literals: u64, verdict: Verdict) -> Result<Walked, Refusal> {
+    Ok(Walked { verdict, literals })
 }
 
 pub const BELT: &str = "START 1 GOAL CLAUSE LACKS 1 \
