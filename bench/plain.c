@@ -2,9 +2,9 @@
  * are those of include/route_rules.h.
  *
  * plain_ reads the rows where they lie: parts of a file are found once, a condition is left as soon as it is decided, parts of
- * the source are copied by memcpy. tuned_ also makes tables before it begins: walk turns every clause into masks over
- * the state, translate writes the trackers of all preferences once and copies them into each action. Settle reads each weight
- * once, so there is no table to make. */
+ * the source are copied by memcpy. tuned_ also makes tables before it begins: walk turns every literal into a byte and every
+ * effect into masks over the state, translate writes the trackers of all preferences once and copies them into each action.
+ * Settle reads each weight once, so there is no table to make. */
 #include "plain.h"
 
 #include <string.h>
@@ -177,8 +177,9 @@ static inline int holds(State s, uint32_t fact) { return s.word[fact / 64] >> (f
 
 static inline void set(State *s, uint32_t fact) { s->word[fact / 64] |= (uint64_t)1 << (fact % 64); }
 
-/* Whether the clause whose literals stand from row *at on is true; *at is then behind it. */
-static int clause_true(const Task *t, uint32_t *at, State s)
+/* Whether the clause whose literals stand from row *at on is true; *at is then behind it. Literals up to the first true one are
+ * looked at, and counted. */
+static int clause_true(const Task *t, uint32_t *at, State s, uint64_t *looked)
 {
     uint32_t i = *at;
     int yes = 0;
@@ -187,29 +188,30 @@ static int clause_true(const Task *t, uint32_t *at, State s)
             yes = 1;
             break;
         }
+    *looked += i - *at + yes;
     while (i < t->rows && (t->marks[i] == HOLDS || t->marks[i] == LACKS)) i++;
     *at = i;
     return yes;
 }
 
-static int condition_true(const Task *t, uint32_t *at, State s)
+static int condition_true(const Task *t, uint32_t *at, State s, uint64_t *looked)
 {
     while (*at < t->rows && t->marks[*at] == CLAUSE) {
         ++*at;
-        if (!clause_true(t, at, s)) return 0;
+        if (!clause_true(t, at, s, looked)) return 0;
     }
     return 1;
 }
 
-static int true_at(const Task *t, uint32_t at, State s) { return condition_true(t, &at, s); }
+static int true_at(const Task *t, uint32_t at, State s, uint64_t *looked) { return condition_true(t, &at, s, looked); }
 
 /* The state behind an action whose effects stand from row `at` up to row `end`. A condition that was left early is passed. */
-static State after(const Task *t, uint32_t at, uint32_t end, State s)
+static State after(const Task *t, uint32_t at, uint32_t end, State s, uint64_t *looked)
 {
     State adds = {{0, 0}}, deletes = {{0, 0}};
     while (at < end) {
         at++;
-        int fires = condition_true(t, &at, s);
+        int fires = condition_true(t, &at, s, looked);
         while (at < end && t->marks[at] != ADD && t->marks[at] != DELETE && t->marks[at] != EFFECT) at++;
         for (; at < end && t->marks[at] == ADD; at++)
             if (fires) set(&adds, value_at(t, at));
@@ -280,6 +282,14 @@ static void solved(const Task *t, const Monitor *m, uint64_t cost, uint64_t answ
     answer[4] = met;
 }
 
+static uint32_t stopped(size_t step, uint64_t looked, uint64_t answer[8])
+{
+    answer[1] = ROUTE_RULES_STOPPED;
+    answer[2] = step;
+    answer[5] = looked;
+    return 0;
+}
+
 static State opening(const Task *t)
 {
     State s = {{0, 0}};
@@ -287,13 +297,13 @@ static State opening(const Task *t)
     return s;
 }
 
-static void watch_all(const Task *t, Monitor *m, int last, State s)
+static void watch_all(const Task *t, Monitor *m, int last, State s, uint64_t *looked)
 {
     for (uint32_t k = 0; k < t->preferences; k++) {
         uint8_t kind = t->marks[t->side[k].open];
-        if (kind == AT_END && !last) continue;
-        int psi = has_second(kind) ? true_at(t, t->side[k].second + 1, s) : 1;
-        watch(&m[k], kind, t->side[k].steps, last, true_at(t, t->side[k].phi, s), psi);
+        int phi = true_at(t, t->side[k].phi, s, looked);
+        int psi = has_second(kind) ? true_at(t, t->side[k].second + 1, s, looked) : 1;
+        watch(&m[k], kind, t->side[k].steps, last, phi, psi);
     }
 }
 
@@ -307,37 +317,33 @@ uint32_t plain_walk(const uint8_t *file, size_t length, const uint8_t *plan, siz
         return t.number;
     }
     State s = opening(&t);
-    uint64_t cost = 0;
+    uint64_t cost = 0, looked = 0;
     for (size_t i = 0; i < steps; i++) {
         uint32_t at = t.action[plan[i]], from = at + 1;
-        watch_all(&t, m, 0, s);
-        if (!condition_true(&t, &from, s)) {
-            answer[1] = ROUTE_RULES_STOPPED;
-            answer[2] = i;
-            return 0;
-        }
+        watch_all(&t, m, 0, s, &looked);
+        if (!condition_true(&t, &from, s, &looked)) return stopped(i, looked, answer);
         cost += value_at(&t, at);
-        s = after(&t, from, t.action[plan[i] + 1], s);
+        s = after(&t, from, t.action[plan[i] + 1], s, &looked);
     }
-    watch_all(&t, m, 1, s);
-    if (true_at(&t, t.goal + 1, s))
+    watch_all(&t, m, 1, s, &looked);
+    if (true_at(&t, t.goal + 1, s, &looked))
         solved(&t, m, cost, answer);
     else
         answer[1] = ROUTE_RULES_GOAL_MISSED;
+    answer[5] = looked;
     return 0;
 }
 
-/* The same with masks: a clause is true where a fact of `held` is held, or one of `lacked` isn't. */
-typedef struct { uint64_t held[2], lacked[2]; } Clause;
-
+/* The same with tables. A literal is its fact, and 128 more where the fact is to lack. */
 typedef struct { uint16_t from, to; } Clauses;
 
 typedef struct { Clauses when; State adds, deletes; } Effect;
 
 typedef struct {
-    Clause clause[MAX_ROWS];
+    uint8_t literal[MAX_ROWS];
+    struct { uint16_t from, to; } clause[MAX_ROWS]; /* its literals */
     Effect effect[MAX_ROWS];
-    uint32_t clauses, effects;
+    uint32_t literals, clauses, effects;
     struct { Clauses when; uint16_t from, to; } action[128];
     Clauses phi[16], psi[16], goal;
 } Tables;
@@ -348,12 +354,10 @@ static Clauses table_condition(const Task *t, Tables *x, uint32_t *at)
     uint32_t i = *at;
     c.from = x->clauses;
     while (i < t->rows && t->marks[i] == CLAUSE) {
-        Clause *d = &x->clause[x->clauses++];
-        memset(d, 0, sizeof *d);
-        for (i++; i < t->rows && (t->marks[i] == HOLDS || t->marks[i] == LACKS); i++) {
-            uint32_t fact = value_at(t, i);
-            (t->marks[i] == HOLDS ? d->held : d->lacked)[fact / 64] |= (uint64_t)1 << (fact % 64);
-        }
+        x->clause[x->clauses].from = x->literals;
+        for (i++; i < t->rows && (t->marks[i] == HOLDS || t->marks[i] == LACKS); i++)
+            x->literal[x->literals++] = value_at(t, i) + (t->marks[i] == LACKS) * 128;
+        x->clause[x->clauses++].to = x->literals;
     }
     c.to = x->clauses;
     *at = i;
@@ -379,7 +383,7 @@ static void table_action(const Task *t, Tables *x, uint32_t k)
 static void table_all(const Task *t, Tables *x)
 {
     uint32_t at = t->goal + 1;
-    x->clauses = x->effects = 0;
+    x->literals = x->clauses = x->effects = 0;
     x->goal = table_condition(t, x, &at);
     for (uint32_t k = 0; k < t->actions; k++) table_action(t, x, k);
     for (uint32_t k = 0; k < t->preferences; k++) {
@@ -390,33 +394,35 @@ static void table_all(const Task *t, Tables *x)
     }
 }
 
-static inline int clauses_true(const Tables *x, Clauses c, State s)
+static inline int literal_true(uint8_t literal, State s) { return (s.word[literal / 64 % 2] >> (literal % 64) & 1) != literal / 128; }
+
+static inline int clauses_true(const Tables *x, Clauses c, State s, uint64_t *looked)
 {
     for (uint32_t i = c.from; i < c.to; i++) {
-        const Clause *d = &x->clause[i];
-        if (!((s.word[0] & d->held[0]) | (s.word[1] & d->held[1]) | (~s.word[0] & d->lacked[0]) |
-              (~s.word[1] & d->lacked[1])))
-            return 0;
+        uint32_t from = x->clause[i].from, to = x->clause[i].to, at = from;
+        while (at < to && !literal_true(x->literal[at], s)) at++;
+        *looked += at - from + (at < to);
+        if (at == to) return 0;
     }
     return 1;
 }
 
-static void watch_tables(const Task *t, const Tables *x, Monitor *m, int last, State s)
+static void watch_tables(const Task *t, const Tables *x, Monitor *m, int last, State s, uint64_t *looked)
 {
     for (uint32_t k = 0; k < t->preferences; k++) {
         uint8_t kind = t->marks[t->side[k].open];
-        if (kind == AT_END && !last) continue;
-        int psi = has_second(kind) ? clauses_true(x, x->psi[k], s) : 1;
-        watch(&m[k], kind, t->side[k].steps, last, clauses_true(x, x->phi[k], s), psi);
+        int phi = clauses_true(x, x->phi[k], s, looked);
+        int psi = has_second(kind) ? clauses_true(x, x->psi[k], s, looked) : 1;
+        watch(&m[k], kind, t->side[k].steps, last, phi, psi);
     }
 }
 
-static State after_tables(const Tables *x, uint32_t k, State s)
+static State after_tables(const Tables *x, uint32_t k, State s, uint64_t *looked)
 {
     State adds = {{0, 0}}, deletes = {{0, 0}};
     for (uint32_t i = x->action[k].from; i < x->action[k].to; i++) {
         const Effect *e = &x->effect[i];
-        if (!clauses_true(x, e->when, s)) continue;
+        if (!clauses_true(x, e->when, s, looked)) continue;
         for (int w = 0; w < 2; w++) {
             adds.word[w] |= e->adds.word[w];
             deletes.word[w] |= e->deletes.word[w];
@@ -438,22 +444,19 @@ uint32_t tuned_walk(const uint8_t *file, size_t length, const uint8_t *plan, siz
     }
     table_all(&t, &x);
     State s = opening(&t);
-    uint64_t cost = 0;
+    uint64_t cost = 0, looked = 0;
     for (size_t i = 0; i < steps; i++) {
-        watch_tables(&t, &x, m, 0, s);
-        if (!clauses_true(&x, x.action[plan[i]].when, s)) {
-            answer[1] = ROUTE_RULES_STOPPED;
-            answer[2] = i;
-            return 0;
-        }
+        watch_tables(&t, &x, m, 0, s, &looked);
+        if (!clauses_true(&x, x.action[plan[i]].when, s, &looked)) return stopped(i, looked, answer);
         cost += value_at(&t, t.action[plan[i]]);
-        s = after_tables(&x, plan[i], s);
+        s = after_tables(&x, plan[i], s, &looked);
     }
-    watch_tables(&t, &x, m, 1, s);
-    if (clauses_true(&x, x.goal, s))
+    watch_tables(&t, &x, m, 1, s, &looked);
+    if (clauses_true(&x, x.goal, s, &looked))
         solved(&t, m, cost, answer);
     else
         answer[1] = ROUTE_RULES_GOAL_MISSED;
+    answer[5] = looked;
     return 0;
 }
 

@@ -114,6 +114,7 @@ static void try_walk(Area file, Area plan, int at_end)
         fail("the two walks in C differ");
     if (number > ROUTE_RULES_COUNTS && number != ROUTE_RULES_LONG_PLAN && number != ROUTE_RULES_STEP)
         fail("a refusal that is not walk's");
+    if (words[5] > (plan.length + 1) * (file.length / 5)) fail("more literals than rows in all states");
     if (words[1] == ROUTE_RULES_SOLVED && try_settle(file, words[3], words[4], at_end) != 0) fail("a solution that is not settled");
 }
 

@@ -105,14 +105,18 @@ enum {
     ROUTE_RULES_GOAL_MISSED = 3 /* each step applies in turn, and the goal doesn't hold in the last state */
 };
 
-/* A walked plan. Cost and met are 0 unless it is solved. */
+/* A walked plan. Cost and met are 0 unless it is solved. `literals` comes with every verdict: in each state the preferences are
+ * read in order, φ before ψ, then the step's precondition, then its effect conditions; in the last state the goal instead of
+ * these. A clause is left at its first true literal and a condition at its first false clause. A stopped plan counts up to the
+ * failing precondition, whose own reading is included. The number is at most (steps + 1) * N. */
 typedef struct route_rules_walked {
     uint64_t place;
     uint64_t verdict;
-    uint64_t step; /* stopped: the first step that doesn't apply, from 0; else 0 */
-    uint64_t cost; /* the sum of the step costs */
-    uint64_t met;  /* bit k is 1 where preference k is met */
-    uint64_t spare[3];
+    uint64_t step;     /* stopped: the first step that doesn't apply, from 0; else 0 */
+    uint64_t cost;     /* the sum of the step costs */
+    uint64_t met;      /* bit k is 1 where preference k is met */
+    uint64_t literals; /* how many literals were looked at */
+    uint64_t spare[2];
 } route_rules_walked;
 
 /* Walks a plan, one byte a step, on the task in a file: a verdict, or refused by 1 to 6, 10 or 11. */

@@ -66,6 +66,14 @@ pub enum Verdict {
     GoalMissed,
 }
 
+/// A walked plan.
+#[derive(Clone, Copy, PartialEq, Eq, Debug)]
+pub struct Walked {
+    pub verdict: Verdict,
+    /// How many literals were looked at, at most (steps + 1) × N.
+    pub literals: u64,
+}
+
 /// What a cost and met preferences are worth.
 #[derive(Clone, Copy, PartialEq, Eq, Debug)]
 pub struct Worth {
@@ -190,12 +198,12 @@ pub fn translate(file: &[u8], out: &mut [u8]) -> Result<usize, Refusal> {
     filled(route_rules_translate, file, out)
 }
 
-/// The verdict on a plan, or on the plan in a text.
-fn walked(walk: Walking, file: &[u8], plan: &[u8]) -> Result<Verdict, Refusal> {
+/// The walk of a plan, or of the plan in a text.
+fn walked(walk: Walking, file: &[u8], plan: &[u8]) -> Result<Walked, Refusal> {
     let words = answered(|answer| unsafe {
         walk(file.as_ptr(), file.len(), plan.as_ptr(), plan.len(), answer)
     })?;
-    Ok(match words[1] {
+    let verdict = match words[1] {
         1 => Verdict::Solved {
             cost: words[3],
             met: words[4],
@@ -203,16 +211,20 @@ fn walked(walk: Walking, file: &[u8], plan: &[u8]) -> Result<Verdict, Refusal> {
         2 => Verdict::Stopped(words[2]),
         3 => Verdict::GoalMissed,
         verdict => unreachable!("verdict {verdict}"),
+    };
+    Ok(Walked {
+        verdict,
+        literals: words[5],
     })
 }
 
 /// Walks a plan, one byte a step, on the task in a file: a verdict, or refused by 1 to 6, 10 or 11.
-pub fn walk(file: &[u8], plan: &[u8]) -> Result<Verdict, Refusal> {
+pub fn walk(file: &[u8], plan: &[u8]) -> Result<Walked, Refusal> {
     walked(route_rules_walk, file, plan)
 }
 
 /// Walks the plan in a text on the task in a file: a verdict, or refused by 1 to 6, 12, 10 or 11.
-pub fn walk_text(file: &[u8], text: &[u8]) -> Result<Verdict, Refusal> {
+pub fn walk_text(file: &[u8], text: &[u8]) -> Result<Walked, Refusal> {
     walked(route_rules_walk_text, file, text)
 }
 

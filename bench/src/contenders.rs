@@ -1,6 +1,6 @@
 //! The implementations beside each other, all with the answers of include/route_rules.h.
 
-use peer::{Refusal, Verdict, Worth};
+use peer::{Refusal, Verdict, Walked, Worth};
 
 /// What a call returns, and the words of its answer.
 pub type Answer = (u32, [u64; 8]);
@@ -37,11 +37,12 @@ fn refused(refusal: Refusal) -> Answer {
     (u32::from(refusal.number), [place, 0, 0, 0, 0, 0, 0, 0])
 }
 
-fn walked(verdict: Verdict) -> [u64; 8] {
-    match verdict {
-        Verdict::Solved { cost, met } => [0, 1, 0, cost, met, 0, 0, 0],
-        Verdict::Stopped(step) => [0, 2, step as u64, 0, 0, 0, 0, 0],
-        Verdict::GoalMissed => [0, 3, 0, 0, 0, 0, 0, 0],
+fn walked(walked: Walked) -> [u64; 8] {
+    let literals = walked.literals;
+    match walked.verdict {
+        Verdict::Solved { cost, met } => [0, 1, 0, cost, met, literals, 0, 0],
+        Verdict::Stopped(step) => [0, 2, step as u64, 0, 0, literals, 0, 0],
+        Verdict::GoalMissed => [0, 3, 0, 0, 0, literals, 0, 0],
     }
 }
 
@@ -49,7 +50,7 @@ fn settled(worth: Worth) -> [u64; 8] {
     [0, worth.metric, worth.utility as u64, 0, 0, 0, 0, 0]
 }
 
-/// What a walk gives. Tuned C makes tables first.
+/// What a walk gives, the literals looked at among it. Tuned C makes tables first.
 pub fn walk(who: usize, file: &[u8], plan: &[u8]) -> Answer {
     let call = |walk: Walk| {
         let mut answer = [0; 8];
@@ -67,7 +68,7 @@ pub fn walk(who: usize, file: &[u8], plan: &[u8]) -> Answer {
     };
     match who {
         0 => call(route_rules_walk),
-        1 => peer::walk(file, plan).map_or_else(refused, |verdict| (0, walked(verdict))),
+        1 => peer::walk(file, plan).map_or_else(refused, |answer| (0, walked(answer))),
         2 => call(plain_walk),
         _ => call(tuned_walk),
     }

@@ -3,7 +3,7 @@
 use peer::random::{task_and_plan, Random, Shape, MAX_FILE};
 use peer::task::{MAX_DEADLINE, MAX_ROWS};
 use peer::{
-    encode, pddl, translate, translated, walk, Action, Clause, Condition, Effect, Kind, Literal,
+    encode, pddl, translate, translated, verdict, Action, Clause, Condition, Effect, Kind, Literal,
     Preference, Task, Verdict,
 };
 
@@ -66,7 +66,7 @@ pub fn middle() -> Input {
     };
     let fits = |task: &Task, plan: &[u8]| {
         plan.len() == 200
-            && matches!(walk(&encode(task), plan), Ok(Verdict::Solved { .. }))
+            && matches!(verdict(task, plan), Verdict::Solved { .. })
             && translated(task, MAX_ROWS).is_some()
     };
     let (task, plan) = (1..)

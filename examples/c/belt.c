@@ -79,7 +79,7 @@ static void walked(const char *operation, uint32_t number, const route_rules_wal
     case ROUTE_RULES_STOPPED: printf("stopped %" PRIu64, answer->step); break;
     case ROUTE_RULES_GOAL_MISSED: printf("goal missed"); break;
     }
-    printf("\n");
+    printf(" literals %" PRIu64 "\n", answer->literals);
 }
 
 static void settle(const uint8_t *file, size_t length, uint64_t cost, uint64_t met)

@@ -4,7 +4,7 @@
 #[path = "../../include/route_rules.rs"]
 mod route_rules;
 
-use route_rules::{Refusal, Verdict, MAX_COST, MAX_FILE, MAX_PDDL, MAX_REPORT, MAX_TEXT};
+use route_rules::{Refusal, Verdict, Walked, MAX_COST, MAX_FILE, MAX_PDDL, MAX_REPORT, MAX_TEXT};
 use std::fs;
 
 fn refused(refusal: Refusal) -> String {
@@ -45,8 +45,8 @@ fn translate(file: &[u8]) {
     }
 }
 
-fn verdict(verdict: Verdict) -> String {
-    match verdict {
+fn walked(walked: Walked) -> String {
+    let verdict = match walked.verdict {
         Verdict::Solved { cost, met } => {
             let met: String = (0..16)
                 .filter(|k| met >> k & 1 == 1)
@@ -56,7 +56,8 @@ fn verdict(verdict: Verdict) -> String {
         }
         Verdict::Stopped(step) => format!("stopped {step}"),
         Verdict::GoalMissed => "goal missed".to_string(),
-    }
+    };
+    format!("{verdict} literals {}", walked.literals)
 }
 
 fn settle(file: &[u8], cost: u64, met: u64) {
@@ -69,8 +70,8 @@ fn settle(file: &[u8], cost: u64, met: u64) {
 /// Cost and met preferences first; then, of a plan that solves, what they are worth.
 fn walk(file: &[u8], plan: &[u8]) {
     let answer = route_rules::walk(file, plan);
-    println!("walk: {}", answer.map_or_else(refused, verdict));
-    if let Ok(Verdict::Solved { cost, met }) = answer {
+    println!("walk: {}", answer.map_or_else(refused, walked));
+    if let Ok(Verdict::Solved { cost, met }) = answer.map(|walked| walked.verdict) {
         settle(file, cost, met);
     }
 }
@@ -84,7 +85,7 @@ fn write_plan(plan: &[u8]) {
 }
 
 fn walk_text(file: &[u8], text: &[u8]) {
-    let line = route_rules::walk_text(file, text).map_or_else(refused, verdict);
+    let line = route_rules::walk_text(file, text).map_or_else(refused, walked);
     println!("walk_text: {line}");
 }
 

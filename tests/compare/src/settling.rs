@@ -40,7 +40,8 @@ fn settled(file: &[u8], cost: u64, met: u64) -> Result<&'static str, String> {
 
 /// What the library walks it settles, and its report ends with what that is worth. Whether the plan solves.
 fn walked(file: &[u8], plan: &[u8]) -> Result<bool, String> {
-    let Ok(Verdict::Solved { cost, met }) = library::walk(file, plan) else {
+    let Ok(Verdict::Solved { cost, met }) = library::walk(file, plan).map(|walked| walked.verdict)
+    else {
         return Ok(false);
     };
     settled(file, cost, met)?;

@@ -2,7 +2,7 @@
 
 use crate::library::{self, expected, Left};
 use crate::tally::Tally;
-use crate::walking::{same, verdict};
+use crate::walking::{same, walked};
 use peer::text;
 
 /// What comes up in reading.
@@ -37,8 +37,8 @@ fn try_text(seed: u64, bytes: &[u8], room: usize) -> Result<(), String> {
         library::write_plan(&case.plan, room),
         expected(room, text::write(&case.plan, room)),
     )?;
-    let walked = text::walk_text(&case.file, bytes).map(verdict);
-    same("walk_text", library::walk_text(&case.file, bytes), walked)
+    let expected = text::walk_text(&case.file, bytes).map(walked);
+    same("walk_text", library::walk_text(&case.file, bytes), expected)
 }
 
 pub fn compare(first: u64, count: u64) -> Result<(), String> {

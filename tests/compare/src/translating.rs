@@ -35,7 +35,8 @@ fn same(file: &[u8], room: usize) -> Result<&'static str, String> {
 
 /// The metric of a plan that solves: the library walks it, and settles what that gives.
 fn metric(file: &[u8], plan: &[u8]) -> Option<u128> {
-    let Ok(Verdict::Solved { cost, met }) = library::walk(file, plan) else {
+    let Ok(Verdict::Solved { cost, met }) = library::walk(file, plan).map(|walked| walked.verdict)
+    else {
         return None;
     };
     let worth = library::settle(file, cost, met).ok()?;
@@ -67,7 +68,8 @@ pub fn compare(first: u64, count: u64) -> Result<(), String> {
     for seed in first..first + count {
         let case = peer::random::case(seed);
         tally.count(same(&case.file, case.room).map_err(|why| format!("seed {seed}: {why}"))?);
-        if let Ok(peer::Verdict::Solved { .. }) = peer::walk(&case.file, &case.plan) {
+        let walked = peer::walk(&case.file, &case.plan).map(|walked| walked.verdict);
+        if let Ok(peer::Verdict::Solved { .. }) = walked {
             completed(&case.file, &case.plan).map_err(|why| format!("seed {seed}: {why}"))?;
             solved += 1;
         }

@@ -1,6 +1,6 @@
 //! Checked files and walked plans: the library's numbers and text beside the independent implementation's.
 
-use crate::library::{self, refusal, Refusal, Sizes, Verdict};
+use crate::library::{self, refusal, Refusal, Sizes, Verdict, Walked};
 use crate::tally::Tally;
 
 /// Every answer of a report: a refusal, or the beginning of the text.
@@ -28,11 +28,15 @@ fn sizes(sizes: peer::Sizes) -> Sizes {
     }
 }
 
-pub fn verdict(verdict: peer::Verdict) -> Verdict {
-    match verdict {
+pub fn walked(walked: peer::Walked) -> Walked {
+    let verdict = match walked.verdict {
         peer::Verdict::Solved { cost, met } => Verdict::Solved { cost, met },
         peer::Verdict::Stopped(step) => Verdict::Stopped(step as u64),
         peer::Verdict::GoalMissed => Verdict::GoalMissed,
+    };
+    Walked {
+        verdict,
+        literals: walked.literals,
     }
 }
 
@@ -50,11 +54,11 @@ pub fn same<T: PartialEq + std::fmt::Debug>(
     ))
 }
 
-/// The numbers of check and walk.
+/// The numbers of check and walk, the literals looked at among them.
 fn numbers(file: &[u8], plan: &[u8]) -> Result<(), String> {
     same("check", library::check(file), peer::check(file).map(sizes))?;
-    let walked = peer::walk(file, plan).map(verdict);
-    same("walk", library::walk(file, plan), walked)
+    let expected = peer::walk(file, plan).map(walked);
+    same("walk", library::walk(file, plan), expected)
 }
 
 /// The area for a report: mostly of the length that is always enough, now and then just enough, a byte less or a small one.
