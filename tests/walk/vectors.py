@@ -1,0 +1,282 @@
+#!/usr/bin/env python3
+"""The test vectors of walk: task files and plans, and the lines that documents 01 and 02 want for them.
+
+tests/walk/vectors.py           writes crates/walk_vectors/data/vectors and crates/walk_vectors/stdout
+tests/walk/vectors.py --check   writes nothing, and fails where these two files are not what it makes
+tests/walk/vectors.py --list    says what each vector is for, and its line
+
+The vectors stand in data/vectors one after the other, each as two records (tests/judge/vectors.py): the task file, then the plan. The
+lines stand in stdout in the same order. A line has a verdict and the number of literals looked at: `solved cost C met M literals L`,
+the met preferences as bits in a decimal number; `stopped I literals L`; `goal missed literals L`; or `refused`, number and place.
+
+Where a line comes from:
+- refused 1 to 6: the account in tests/check/vectors.py. Refused 10 and 11: that in tests/judge/vectors.py.
+- A verdict, cost and met preferences: the outside engine, by the rules of tests/judge/meaning.lp. It gives the states visited, too.
+- The literals: the functions `read` and `looked_at` below, in these states.
+Where an answer stands beside a vector, it was written by hand, and has to agree with the line.
+"""
+import functools
+import os
+import random
+import runpy
+import sys
+
+HERE = os.path.dirname(os.path.abspath(__file__))
+ACCOUNT = runpy.run_path(os.path.join(HERE, '../check/vectors.py'))
+file, goal, preference, record, store = (ACCOUNT[name] for name in ['file', 'goal', 'preference', 'record', 'store'])
+PREFERENCES, WITH_SECOND, WITH_STEPS, BELT = (ACCOUNT[name] for name in ['PREFERENCES', 'WITH_SECOND', 'WITH_STEPS', 'BELT'])
+JUDGE = runpy.run_path(os.path.join(HERE, '../judge/vectors.py'))
+rows, refusal, facts, derived, traced = (JUDGE[name] for name in ['rows', 'refusal', 'facts', 'derived', 'traced'])
+
+
+# ---- the literals looked at
+
+class Task:
+    """An accepted task's conditions, each a list of clauses, a clause a list of literals."""
+    def __init__(self, data):
+        self.goal, self.preferences, self.actions = [], [], []  # of each preference φ and ψ; of each action its own and its effects'
+        condition = None  # the one that clauses belong to
+        for name, value in rows(data):
+            if name == 'CLAUSE':
+                condition.append([])
+            elif name in ['HOLDS', 'LACKS']:
+                condition[-1].append((name, value))
+            elif name == 'GOAL':
+                condition = self.goal
+            elif name == 'ACTION' or name in PREFERENCES:
+                condition = []
+                (self.actions if name == 'ACTION' else self.preferences).append([condition])
+            elif name in ['EFFECT', 'SECOND']:
+                condition = []
+                (self.actions if name == 'EFFECT' else self.preferences)[-1].append(condition)
+
+
+def read(condition, state):
+    """Whether a condition is true in a state, and how many literals are looked at: a clause is left at its first true literal and the
+    condition at its first false clause."""
+    looked = 0
+    for clause in condition:
+        for name, fact in clause:
+            looked += 1
+            if (name == 'HOLDS') == (fact in state):
+                break
+        else:
+            return False, looked
+    return True, looked
+
+
+def looked_at(data, plan, states):
+    """How many literals are looked at over the states visited, which are sets of facts: in each one the preferences in order, φ before
+    ψ, then the step's precondition, then, where it applies, its effect conditions; in the last state of a plan that has come to its
+    end the goal instead of these."""
+    task = Task(data)
+
+    @functools.lru_cache(None)
+    def in_state(state, step):
+        total = sum(read(condition, state)[1] for conditions in task.preferences for condition in conditions)
+        if step is None:
+            return total + read(task.goal, state)[1]
+        own, *effects = task.actions[step]
+        applies, looked = read(own, state)
+        return total + looked + (sum(read(condition, state)[1] for condition in effects) if applies else 0)
+
+    return sum(in_state(state, step) for state, step in zip(states, [*plan, None]))
+
+
+# ---- the lines
+
+def outside(made):
+    """For each vector that is given, {predicate: lists of what was derived}: the verdict, and the states."""
+    atoms = {t: {} for t in made}
+    shown = '#show held(T,I,F) : value(T,I,F,holds).\n#show state/2.\n'
+    for predicate, t, *said in derived(shown + '\n'.join(fact for t in made for fact in facts(t, *made[t]))):
+        atoms[t].setdefault(predicate, []).append(said)
+    return atoms
+
+
+def line(atoms, data, plan):
+    """The line of what was derived."""
+    states = [set() for _ in atoms['state']]
+    for i, fact in atoms.get('held', []):
+        states[i].add(fact)
+    looked = looked_at(data, plan, [*map(frozenset, states)])
+    verdicts = [name for name in ['stopped', 'goal_missed', 'cost'] if name in atoms]
+    assert len(verdicts) == 1, verdicts
+    if verdicts == ['stopped']:
+        (step,), = atoms['stopped']
+        assert step + 1 == len(states)
+        return f'stopped {step} literals {looked}'
+    assert len(plan) + 1 == len(states)
+    if verdicts == ['goal_missed']:
+        return f'goal missed literals {looked}'
+    (cost,), = atoms['cost']
+    return f'solved cost {cost} met {sum(1 << k for k, in atoms.get("met", []))} literals {looked}'
+
+
+# ---- the vectors: what each is for, the task file, the plan, and the answer where it is written down here: the line, or the number of
+# literals
+
+def belt():
+    for plan, answer in [([0], 'solved cost 3 met 2 literals 5'), ([], 'goal missed literals 3'), ([1], 'goal missed literals 5'),
+                         ([0, 1, 0], 'solved cost 7 met 2 literals 9'), ([2], 'refused 11 0')]:
+        yield f'the belt, plan {plan}', file(BELT, F=2), plan, answer
+
+
+CONDITIONS = [  # in a state without facts: a condition, and how many literals are looked at
+    ('', 0), ('CLAUSE LACKS 0', 1), ('CLAUSE HOLDS 0', 1), ('CLAUSE LACKS 0 LACKS 0', 1), ('CLAUSE LACKS 0 HOLDS 0', 1),
+    ('CLAUSE HOLDS 0 LACKS 0', 2), ('CLAUSE HOLDS 0 HOLDS 1', 2), ('CLAUSE HOLDS 0 HOLDS 0', 2), ('CLAUSE HOLDS 0 HOLDS 0 LACKS 0', 3),
+    ('CLAUSE HOLDS 0 LACKS 0 HOLDS 0 LACKS 0', 2), ('CLAUSE HOLDS 0 HOLDS 1 HOLDS 2 HOLDS 3', 4), ('CLAUSE LACKS 0 CLAUSE LACKS 0', 2),
+    ('CLAUSE LACKS 0 CLAUSE HOLDS 1', 2), ('CLAUSE HOLDS 0 CLAUSE LACKS 0', 1), ('CLAUSE HOLDS 0 HOLDS 1 CLAUSE LACKS 0 CLAUSE LACKS 1', 2),
+    ('CLAUSE HOLDS 0 LACKS 0 CLAUSE HOLDS 1 LACKS 1', 4), ('CLAUSE LACKS 0 LACKS 1 CLAUSE LACKS 2 LACKS 3', 2),
+    ('CLAUSE HOLDS 0 LACKS 1 CLAUSE HOLDS 0 HOLDS 1 HOLDS 2 CLAUSE HOLDS 3 CLAUSE LACKS 0', 5),
+    ('CLAUSE LACKS 0 CLAUSE LACKS 1 CLAUSE LACKS 2 CLAUSE HOLDS 3', 4), ('CLAUSE LACKS 0 CLAUSE HOLDS 1 CLAUSE LACKS 2 CLAUSE HOLDS 3', 2)]
+
+
+def conditions():
+    """A condition as each part of a task, on a plan that leaves the state as it is. The last literal read decides it."""
+    for condition, looked in CONDITIONS:
+        yield f'goal {condition}', file(f'GOAL {condition}'), [], f'{looked}'
+        yield f'goal {condition}, 3 steps', file(f'GOAL {condition} ACTION'), [0] * 3, f'{looked}'
+        yield f'precondition {condition}', file(f'GOAL ACTION {condition}'), [0], f'{looked}'
+        yield f'effect condition {condition}', file(f'GOAL ACTION EFFECT {condition} ADD 3'), [0], f'{looked}'
+        yield f'two effect conditions {condition}', file('GOAL ACTION' + f' EFFECT {condition} DELETE 3' * 2), [0] * 2, f'{4 * looked}'
+        for kind in PREFERENCES:
+            task = file('GOAL ACTION' + preference(kind, 5, condition, condition, 1))
+            in_each = looked * (2 if kind in WITH_SECOND else 1)
+            for steps in [0, 1, 4]:
+                yield f'{kind} {condition}, {steps} steps', task, [0] * steps, f'{in_each * (steps + 1)}'
+
+
+def preferences_in_every_state():
+    """φ true or false, ψ true or false: both are read, in every state, whatever is decided already."""
+    for kind in PREFERENCES:
+        for phi, by_phi in [('CLAUSE LACKS 0 LACKS 1', 1), ('CLAUSE HOLDS 0 HOLDS 1', 2), ('CLAUSE HOLDS 0 CLAUSE LACKS 1', 1)]:
+            for psi, by_psi in [('CLAUSE LACKS 0 LACKS 1 CLAUSE LACKS 2', 2), ('CLAUSE HOLDS 0 HOLDS 1 HOLDS 2', 3)]:
+                task = file('GOAL ACTION' + preference(kind, 5, phi, psi, 2))
+                in_each = by_phi + (by_psi if kind in WITH_SECOND else 0)
+                for steps in [0, 2, 20]:
+                    yield f'{kind}, {phi}, {psi}, {steps} steps', task, [0] * steps, f'{in_each * (steps + 1)}'
+    # At-end before the end, and deadlines after their time.
+    three = 'CLAUSE HOLDS 0 HOLDS 0 HOLDS 0'
+    for steps in [0, 1, 15]:
+        for kind in WITH_STEPS:
+            task = file('GOAL ACTION' + preference(kind, 5, three, three, steps))
+            yield f'{kind} {steps} long after its time', task, [0] * 40, f'{41 * 3 * (2 if kind in WITH_SECOND else 1)}'
+    task = file(f'GOAL ACTION at-end 5 {three}')
+    for steps in [0, 1, 2, 40]:
+        yield f'at-end, {steps} steps', task, [0] * steps, f'solved cost 0 met 0 literals {3 * (steps + 1)}'
+    # The state changes what is read: f leaves φ of the first at its first literal, and ψ of the second at its second.
+    two = 'sometime 1 CLAUSE HOLDS 0 HOLDS 1 sometime-before 2 CLAUSE HOLDS 1 SECOND CLAUSE HOLDS 1 HOLDS 0 HOLDS 1'
+    for trace, answer in [('-', 6), ('f', 4), ('p', 4), ('b', 3), ('-f', 10), ('-fpb', 17), ('bbbb', 12)]:
+        yield f'two preferences, {trace}', *traced(trace, two), f'{answer}'
+
+
+def steps():
+    """The failing precondition is read and its action's effects are not; an effect that doesn't fire is read; the goal is read in the
+    last state alone."""
+    one = 'GOAL CLAUSE LACKS 0 ACTION 1 CLAUSE LACKS 0 EFFECT CLAUSE HOLDS 1 ADD 2 EFFECT CLAUSE LACKS 1 LACKS 2 ADD 0 always 7 CLAUSE LACKS 0'
+    for plan, answer in [([], 'solved cost 0 met 1 literals 2'), ([0], 'goal missed literals 6'), ([0, 0], 'stopped 1 literals 6'),
+                         ([0, 0, 0], 'stopped 1 literals 6')]:
+        yield f'an action that applies once, plan {plan}', file(one), plan, answer
+    failing = ('GOAL CLAUSE LACKS 0 ACTION 1 CLAUSE LACKS 0 HOLDS 0 CLAUSE HOLDS 0 HOLDS 1 HOLDS 0 CLAUSE LACKS 1 EFFECT CLAUSE LACKS 2 ADD 0 '
+               'ACTION 2 EFFECT CLAUSE HOLDS 0 ADD 1 EFFECT CLAUSE LACKS 0 CLAUSE HOLDS 1 HOLDS 2 DELETE 3 EFFECT at-end 4 CLAUSE HOLDS 3 LACKS 3')
+    for plan, answer in [([0], 'stopped 0 literals 6'), ([0, 1], 'stopped 0 literals 6'), ([1], 'solved cost 2 met 1 literals 9'),
+                         ([1, 1, 0, 1], 'stopped 2 literals 18'), ([1] * 5, 'solved cost 10 met 1 literals 33')]:
+        yield f'stops at action 0, plan {plan}', file(failing), plan, answer
+    goals = 'GOAL CLAUSE HOLDS 0 HOLDS 1 CLAUSE HOLDS 2 HOLDS 0 LACKS 0 ACTION 0 EFFECT ADD 0 ACTION 0 EFFECT DELETE 0'
+    for plan, answer in [([], 'goal missed literals 2'), ([0], 'solved cost 0 met 0 literals 3'), ([0, 1, 0], 'solved cost 0 met 0 literals 3'),
+                         ([0] * 30, 'solved cost 0 met 0 literals 3'), ([0, 1], 'goal missed literals 2')]:
+        yield f'the goal alone, plan of {len(plan)}', file(goals), plan, answer
+    nothing = file('GOAL ACTION EFFECT EFFECT ADD 1 DELETE 1 always 1 sometime-after 2 SECOND')
+    for plan in [[], [0], [0] * 2048]:
+        yield f'no literals, {len(plan)} steps', nothing, plan, 'solved cost 0 met 3 literals 0'
+    order = file('GOAL ACTION CLAUSE HOLDS 0 ACTION EFFECT CLAUSE LACKS 0 ADD 0 EFFECT CLAUSE HOLDS 0 HOLDS 1 ADD 1 EFFECT CLAUSE LACKS 0')
+    for plan, answer in [([1], '4'), ([1, 0], '5'), ([1, 1], '7'), ([0], 'stopped 0 literals 1'), ([1, 1, 0, 1], '11')]:
+        yield f'all effect conditions are read in the state before, plan {plan}', order, plan, answer
+
+
+def most():
+    """As many as there can be, and their neighbours: every literal row in every state."""
+    for steps in [1, 2047, 2048]:
+        task = file('GOAL ACTION always CLAUSE' + ' HOLDS 3' * 11996)
+        yield f'12,000 rows read in each state, {steps} steps', task, [0] * steps, f'solved cost 0 met 0 literals {11996 * (steps + 1)}'
+    task = file('GOAL ACTION sometime-before CLAUSE' + ' HOLDS 3' * 5997 + ' SECOND CLAUSE' + ' HOLDS 2' * 5997)
+    yield '12,000 rows in φ and ψ, 2,048 steps', task, [0] * 2048, f'solved cost 0 met 1 literals {11994 * 2049}'
+    task = file('GOAL ACTION CLAUSE' + ' HOLDS 3' * 11996 + ' LACKS 3')
+    yield '12,000 rows in a precondition, 2,048 steps', task, [0] * 2048, f'solved cost 0 met 0 literals {11997 * 2048}'
+    task = file('GOAL ACTION CLAUSE' + ' HOLDS 3' * 11997)
+    yield '12,000 rows in a failing precondition', task, [0] * 2048, 'stopped 0 literals 11997'
+    task = file('GOAL ACTION EFFECT CLAUSE' + ' HOLDS 3' * 11996)
+    yield '12,000 rows in an effect condition, 2,048 steps', task, [0] * 2048, f'solved cost 0 met 0 literals {11996 * 2048}'
+    yield '12,000 rows in the goal, all read', file(goal(12000)), [], 'goal missed literals 11998'
+    yield '12,000 rows in the goal, one read', file('GOAL CLAUSE LACKS 3' + ' HOLDS 3' * 11997), [], 'solved cost 0 met 0 literals 1'
+    clauses = file('GOAL' + ' CLAUSE HOLDS 2 LACKS 3' * 3999 + ' CLAUSE HOLDS 3')
+    yield '4,000 clauses, all read', clauses, [], 'goal missed literals 7999'
+    clauses = file('GOAL CLAUSE HOLDS 3' + ' CLAUSE HOLDS 2 LACKS 3' * 3999)
+    yield '4,000 clauses, one read', clauses, [], 'goal missed literals 1'
+
+
+def of_judge():
+    """Tasks and plans of program judge's vectors."""
+    for family in ['stopped_and_missed', 'facts_of_both_words', 'empty_conditions', 'effects', 'refused', 'random_tasks']:
+        for what, data, plan, _ in JUDGE[family]():
+            yield what, data, plan, ''
+
+
+def random_tasks(count=300, seed=1973):
+    """Small tasks with long conditions over few facts, so that clauses are left at any literal and conditions at any clause."""
+    r = random.Random(seed)
+
+    def one_of(choices):  # by random() alone, which gives the same numbers in every version of Python
+        return choices[int(r.random() * len(choices))]
+
+    def some(counts, part):
+        return ''.join(part() for _ in range(one_of(counts)))
+
+    def fact(*names):
+        return lambda: f' {one_of(names)} {one_of(used)}'
+
+    def condition(clauses, literals=(1, 2, 3, 5)):
+        return some(clauses, lambda: ' CLAUSE' + some(literals, fact('HOLDS', 'LACKS')))
+
+    def effect():
+        return ' EFFECT' + condition([0, 1, 2, 4]) + some([0, 1, 2], fact('ADD')) + some([0, 1, 2], fact('DELETE'))
+
+    def action():
+        return f' ACTION {one_of([0, 1, 7])}' + condition([0, 1, 2], (3, 4, 5)) + some([0, 1, 2, 3], effect)
+
+    def rule():
+        return preference(one_of(PREFERENCES), one_of([0, 1, 9]), condition([0, 1, 2, 3]), condition([0, 1, 2, 3]), one_of([0, 1, 2, 15]))
+
+    for number in range(count):
+        used = one_of([[0], [0, 1], [0, 1, 2], [0, 1, 63, 64], [5, 64, 127]])
+        starts = ''.join(f'START {f} ' for f in used if r.random() < 0.5)
+        data = file(starts + 'GOAL' + condition([0, 1, 2], (2, 3, 4)) + some([1, 2, 3], action) + some([0, 1, 2, 3, 5], rule), F=used[-1] + 1)
+        yield f'long conditions {number}', data, [one_of(range(data[2])) for _ in range(one_of([0, 1, 2, 3, 5, 8, 13]))], ''
+
+
+def vectors():
+    """What each vector is for, the task file, the plan, and the line."""
+    families = [belt, conditions, preferences_in_every_state, steps, most, of_judge, random_tasks]
+    made = [(what, data, bytes(plan), answer) for family in families for what, data, plan, answer in family()]
+    lines = {t: refusal(data, plan).strip() for t, (_, data, plan, _) in enumerate(made)}
+    atoms = outside({t: made[t][1:3] for t in lines if not lines[t]})
+    for t, (what, data, plan, answer) in enumerate(made):
+        text = lines[t] or line(atoms[t], data, plan)
+        assert answer in ['', text, text.split()[-1]], f'{what}: {answer}, but the line is {text}'
+        yield what, data, plan, text
+
+
+# ---- the two stored files
+
+def main(option=None):
+    made = list(vectors())
+    store('walk_vectors', option, [f'{what}: {text}' for what, _, _, text in made],
+          {'data/vectors': [record(data) + record(plan) for _, data, plan, _ in made],
+           'stdout': [text.encode() + b'\n' for _, _, _, text in made]})
+
+
+if __name__ == '__main__':
+    if sys.argv[1:] not in ([], ['--check'], ['--list']):
+        sys.exit(__doc__)
+    main(*sys.argv[1:])
