@@ -5,14 +5,16 @@ mod lines;
 mod plans;
 mod records;
 mod texts;
+mod walks;
 
 use libc::STDOUT_FILENO;
 
-// What the vectors of a file are: task files to check; tasks and plans to report on; tasks and plans' texts to read, walk and
-// settle; tasks, costs and met preferences to settle.
+// What the vectors of a file are: task files to check; tasks and plans to report on; tasks and plans to walk; tasks and plans'
+// texts to read, walk and settle; tasks, costs and met preferences to settle.
 pub enum Family {
     Checks,
     Plans,
+    Walks,
     Texts,
     Amounts,
 }
@@ -22,6 +24,7 @@ fn run_next(fd: i32, family: Family) -> bool {
     match family {
         Family::Checks => checks::check_next(fd),
         Family::Plans => plans::report_next(fd),
+        Family::Walks => walks::walk_next(fd),
         Family::Texts => texts::walk_next(fd),
         Family::Amounts => amounts::settle_next(fd),
     }
