@@ -32,5 +32,5 @@ bits-of (suc n) w h =
     let e : w % 2 + 2 * (w / 2) ≡ w = omega arith in
     rw (bit-first w, fun-ext (bit-half w), bits-of n (w / 2) half) e
 
-pub solved-words : (c : Call) (cost m : ℕ) → m < 2 ^ 64 → c ≡ answered 1 0 cost m 0 0 0 → c ≡ ofVerdict (solved cost (bit m))
-solved-words c cost m h e = e ∙ ap (λ (x : ℕ). answered 1 0 cost x 0 0 0) (sym (bits-of 64 m h))
+pub solved-words : (c : Call) (cost m n : ℕ) → m < 2 ^ 64 → c ≡ answered 1 0 cost m n 0 0 → c ≡ ofVerdict (solved cost (bit m)) n
+solved-words c cost m n h e = e ∙ ap (λ (x : ℕ). answered 1 0 cost x n 0 0) (sym (bits-of 64 m h))

@@ -9,7 +9,7 @@ put-values-requires c κs = search needs
 returns : tie.Need-returns
 returns c =
     let a = c .before .before .args in
-    solved-words _ (a .s .cost) (a .s .met) (search needs) (c .put-values .ensures)
+    solved-words _ (a .s .cost) (a .s .met) (a .looked) (search needs) (c .put-values .ensures)
 
 pub put-solution-spec : {M : Type 1} → statement M
 put-solution-spec = tie.close (tie.spec put-values-requires returns)
