@@ -79,7 +79,7 @@ module _ (ms vs : List ℕ) (at : ℕ) (last : Bool) (σ : Facts) (before : List
           (sym (row-end ms vs i h) ∙ e ∙ ap (concatMap preferenceRows) (drop-cons qs k noPreference (ltb-true k (length qs) p))) tt)
       go false p = ltb-false k (length qs) p
 
-  module _ (now then : List ℕ) (looked k i : ℕ) (h : i < length ms) (r : Sides) (sees : Sees ms vs i σ r)
+  module _ (now then : List ℕ) (looked k i : ℕ) (h : i < length ms) (r : Sides) (sees : Sees ms vs i σ r) (n : ℕ) (more : n ≡ looked + r .looked)
       (kind : Kind) (read : kind ≡ kindOf (getD ms i 0) (stepsAt ms vs i))
       (put : (j : ℕ) → monitorAt then j
       ≡ cond (eqb j k) (step kind last (monitorAt now k) (record { φ = r .phi; ψ = r .psi })) (monitorAt now j)) where
@@ -88,22 +88,22 @@ module _ (ms vs : List ℕ) (at : ℕ) (last : Bool) (σ : Facts) (before : List
     x = step kind last (monitorAt now k) (record { φ = r .phi; ψ = r .psi })
 
     one-more : (qs : List Preference) → T (all preferenceSpellable qs)
-        → Seen-by ms vs last σ before qs now looked k i → Seen-by ms vs last σ before qs then (looked + r .looked) (k + 1) (r .next)
+        → Seen-by ms vs last σ before qs now looked k i → Seen-by ms vs last σ before qs then n (k + 1) (r .next)
     one-more qs ok s =
         let left : k < length qs = some-left k i qs h (s .rest) in
         let q : Preference = getD qs k noPreference in
-        let more : List Preference = drop (suc k) qs in
-        let here : drop k qs ≡ q ∷ more = drop-cons qs k noPreference left in
-        let e : drop i (paired ms vs) ≡ concatMap preferenceRows (q ∷ more) = s .rest ∙ ap (concatMap preferenceRows) here in
+        let others : List Preference = drop (suc k) qs in
+        let here : drop k qs ≡ q ∷ others = drop-cons qs k noPreference left in
+        let e : drop i (paired ms vs) ≡ concatMap preferenceRows (q ∷ others) = s .rest ∙ ap (concatMap preferenceRows) here in
         let fine : T (preferenceSpellable q) = all-at preferenceSpellable qs k noPreference ok left in
-        let sides : Sides-of q i σ r = sees q more e fine in
-        let same : kind ≡ q .kind = read ∙ kind-at ms vs i q (concatMap preferenceRows more) e h (search tests) in
+        let sides : Sides-of q i σ r = sees q others e fine in
+        let same : kind ≡ q .kind = read ∙ kind-at ms vs i q (concatMap preferenceRows others) e h (search tests) in
         let mine : x ≡ step (q .kind) last (monitorAt before k) (seen q σ) =
         λ z. step (same z) last (s .still k (omega arith) z) (record { φ = sides .phi z; ψ = sides .psi z }) in
         record {
           within = omega arith;
           rest = ap (λ (n : ℕ). drop n (paired ms vs)) (sides .next)
-              ∙ drop-behind i (paired ms vs) (preferenceRows q) (concatMap preferenceRows more) e
+              ∙ drop-behind i (paired ms vs) (preferenceRows q) (concatMap preferenceRows others) e
               ∙ ap (λ (n : ℕ). concatMap preferenceRows (drop n qs)) (sym (add-one k));
           literals = counted qs q s here (sides .looked);
           done = λ j l. by-number qs s mine left j l (eqb j k) refl;
@@ -111,11 +111,11 @@ module _ (ms vs : List ℕ) (at : ℕ) (last : Bool) (σ : Facts) (before : List
         }
       where
         counted : (qs : List Preference) (q : Preference) → Seen-by ms vs last σ before qs now looked k i → drop k qs ≡ q ∷ drop (suc k) qs
-            → r .looked ≡ lookedPreference σ q → looked + r .looked + lookedPreferences σ (drop (k + 1) qs) ≡ lookedPreferences σ qs
-        counted qs q s here n =
+            → r .looked ≡ lookedPreference σ q → n + lookedPreferences σ (drop (k + 1) qs) ≡ lookedPreferences σ qs
+        counted qs q s here m =
             let first : lookedPreferences σ (drop k qs) ≡ lookedPreference σ q + lookedPreferences σ (drop (suc k) qs) = ap (lookedPreferences σ) here in
             let next : lookedPreferences σ (drop (k + 1) qs) ≡ lookedPreferences σ (drop (suc k) qs) = ap (λ (j : ℕ). lookedPreferences σ (drop j qs)) (add-one k) in
-            omega (arith, s .literals, first, next, n)
+            omega (arith, s .literals, first, next, more, m)
 
         by-number : (qs : List Preference) → Seen-by ms vs last σ before qs now looked k i
             → x ≡ step (getD qs k noPreference .kind) last (monitorAt before k) (seen (getD qs k noPreference) σ)
@@ -131,11 +131,11 @@ module _ (ms vs : List ℕ) (at : ℕ) (last : Bool) (σ : Facts) (before : List
             put j ∙ ap (λ (b : Bool). cond b x (monitorAt now j)) p ∙ s .done j (omega arith)
 
     pub goes-on : length then ≡ 16 → k < 16 → r .looked ≤ 24000 → Watching ms vs at last σ before now looked k i
-        → Watching ms vs at last σ before then (looked + r .looked) (k + 1) (r .next)
+        → Watching ms vs at last σ before then n (k + 1) (r .next)
     goes-on sixteen small few w = record {
       all-there = sixteen;
       few = omega arith;
-      few-literals = omega (arith, w .few-literals);
+      few-literals = omega (arith, w .few-literals, more);
       so-far = λ qs e ok many. one-more qs ok (w .so-far qs e ok many);
     }
 

@@ -1,9 +1,9 @@
 use borrow.Author.Needs.{needs}
-use mathlib.Core.Path.{_≡_, ap, _∙_, sym}
-use Prim.Native.Nat.{_-_}
+use mathlib.Core.Path.{_≡_, refl, sym, ap, _∙_}
+use Prim.Native.Nat.{ℕ, _+_, _-_, _≤_, _<_}
 use native.Mathlib.Omega.{arith}
 use denote.Ref.{now}
-use lib.ListN.{length, length-set}
+use lib.ListN.{length, set, length-set}
 use Rattle.task.specs.Answers.{asKind}
 use Rattle.task.specs.Monitor.{Monitor, step}
 use Rattle.state.specs.Member.{member}
@@ -57,12 +57,19 @@ packed-requires c κs = search needs
 slice-write-ms : tie.Need-slice-write-ms Inv-loop μ-loop
 slice-write-ms c = search needs
 
+-- k more monitors, of 24,000 literals each
+few : (e : tie.After-packed Inv-loop μ-loop)
+    → let q = e .before .before .before .before .before in
+    let l = q .before .before .before in
+    (l .loop .k < 16) × (l .loop .looked + q .read-sides .result .looked ≤ 384000)
+few e =
+    let q = e .before .before .before .before .before in
+    let w = q .before .before .before .loop .inv in
+    let more : q .before .before .before .loop .k < 16 = omega (arith, w .all-there, q .before .if1 .left) in
+    (more, omega (arith, more, w .few-literals, q .read-sides .ensures .0 .1))
+
 add-looked : tie.Need-add-looked Inv-loop μ-loop
-add-looked c =
-    let w = c .before .before .before .before .before .before .before .before .before .loop .inv in
-    let h = w .few-literals in
-    let k = w .few in
-    search needs
+add-looked c = let h = few (c .before) .1 in search needs
 
 add-k : tie.Need-add-k Inv-loop μ-loop
 add-k c = search needs
@@ -70,21 +77,30 @@ add-k c = search needs
 loop-less : tie.Need-loop-less Inv-loop μ-loop
 loop-less c = search needs
 
-loop-again : tie.Need-loop-again Inv-loop μ-loop
-loop-again c =
-    let u = c .before .before .before in
+-- the monitor has seen the state
+seen-on : (e : tie.After-packed Inv-loop μ-loop)
+    → let q = e .before .before .before .before .before in
+    let l = q .before .before .before in
+    let a = l .before .before .before .before .args in
+    (looked : ℕ) → looked ≡ l .loop .looked + q .read-sides .result .looked
+    → Watching (now (a .marks)) (now (a .values)) (a .at) (a .last) (member (a .s)) (now (a .ms)) (set (l .loop .ms) (l .loop .k) (e .packed .result)) looked (l .loop .k + 1)
+    (q .read-sides .result .next)
+seen-on e looked counted =
+    let u = e .before .before in
     let n = u .before .before in
     let q = n .before in
     let l = q .before .before .before in
     let a = l .before .before .before .before .args in
     goes-on (now (a .marks)) (now (a .values)) (a .at) (a .last) (member (a .s)) (now (a .ms)) (l .loop .ms) _ (l .loop .looked) (l .loop .k) (l .loop .i) (search needs)
-    (q .read-sides .result) (q .read-sides .ensures .1) (asKind (n .kind-at .result)) (n .kind-at .ensures .0)
-    (monitor-put (l .loop .ms) (l .loop .k) (search needs) (c .before .packed .result) _
-    (c .before .packed .ensures ∙ c .before .before .stepped .ensures .0
+    (q .read-sides .result) (q .read-sides .ensures .1) looked counted (asKind (n .kind-at .result)) (n .kind-at .ensures .0)
+    (monitor-put (l .loop .ms) (l .loop .k) (search needs) (e .packed .result) _
+    (e .packed .ensures ∙ e .before .stepped .ensures .0
     ∙ ap (λ (m : Monitor). step (asKind (n .kind-at .result)) (a .last) m (record { φ = q .read-sides .result .phi; ψ = q .read-sides .result .psi }))
     (u .unpacked .ensures .0)))
-    (length-set (l .loop .ms) (l .loop .k) (c .before .packed .result) ∙ l .loop .inv .all-there) (omega (arith, l .loop .inv .all-there, q .before .if1 .left))
-    (q .read-sides .ensures .0 .1) (l .loop .inv)
+    (length-set (l .loop .ms) (l .loop .k) (e .packed .result) ∙ l .loop .inv .all-there) (few e .0) (q .read-sides .ensures .0 .1) (l .loop .inv)
+
+loop-again : tie.Need-loop-again Inv-loop μ-loop
+loop-again c = seen-on (c .before) _ refl
 
 same-length-2 : tie.Need-same-length-2 Inv-loop μ-loop
 same-length-2 c =

@@ -1,12 +1,14 @@
-use Prim.Native.Nat.{_+_, _≤_}
+use Prim.Native.Nat.{_+_, _<_, _≤_}
 use native.Mathlib.Omega.{arith}
-use mathlib.Core.Path.{refl}
+use mathlib.Core.Path.{_≡_, refl}
 use denote.Ref.{now}
-use Rattle.state.specs.Member.{member}
 use lib.ListN.{length}
+use borrow.Author.Needs.{needs}
+use Rattle.state.specs.Member.{member}
+use Rattle.state.specs.Effects.{Gathers}
+use Rattle.state.specs.declared.effects.Gathered.{Gathered}
 use Rattle.state.proofs.ConditionRows.{condition-within}
 use Rattle.state.proofs.EffectRows.{gathered-with}
-use borrow.Author.Needs.{needs}
 use Rattle.state.proofs.effects.one_effect.Statement.{statement}
 use Rattle.state.proofs.effects.one_effect.Tie as tie
 
@@ -29,22 +31,44 @@ mark-all-requires c κs = let h = ends c in search needs
 mark-all-requires-2 : tie.Need-mark-all-requires-2
 mark-all-requires-2 c κs = search needs
 
-add-t13 : tie.Need-add-t13
-add-t13 c = search needs
+-- no more literals were looked at than rows were read
+few : (d : tie.After-mark-all2)
+    → d .before .before .before .before .before .before .before .args .g .looked + d .before .before .condition .result .looked ≤ d .mark-all2 .result .next
+few d =
+    let n = d .before .before in
+    omega (
+      arith,
+      n .before .before .before .before .before .pre .2,
+      n .condition .ensures .1,
+      d .before .mark-all .ensures .1,
+      d .mark-all2 .ensures .1,
+    )
 
-returns : tie.Need-returns
-returns c =
-    let d = c .before .before .before .before in
+add-looked : tie.Need-add-looked
+add-looked c = let h = few (c .before .before .before .before) in search needs
+
+-- the effect's facts, literals and rows, put together
+gathered : (d : tie.After-mark-all2)
+    → let n = d .before .before in
+    let b = n .before .before .before .before .before .args in
+    (r : Gathered) → r .adds ≡ d .before .mark-all .result .state → r .deletes ≡ d .mark-all2 .result .state
+    → r .looked ≡ b .g .looked + n .condition .result .looked → r .next ≡ d .mark-all2 .result .next
+    → ((b .i < r .next) × (r .looked ≤ r .next) × (r .next ≤ length (now (b .marks)))) × Gathers (member (b .s)) (now (b .marks)) (now (b .values)) (b .i) (b .g) r
+gathered d r added deleted looks next =
     let a = d .before in
     let n = a .before in
-    let st = n .before .before .before .before .before in
-    let b = st .args in
-    let few : b .g .looked + n .condition .result .looked ≤ d .mark-all2 .result .next =
-    omega (arith, st .pre .2, n .condition .ensures .1 .0, a .mark-all .ensures .1, d .mark-all2 .ensures .1) in (
-      (search needs, few, search needs),
+    let b = n .before .before .before .before .before .args in (
+      (
+        omega (arith, next, n .condition .ensures .1, a .mark-all .ensures .1, d .mark-all2 .ensures .1),
+        omega (arith, looks, next, few d),
+        omega (arith, next, d .mark-all2 .ensures .1),
+      ),
       λ e xs h stop. gathered-with (member (b .s)) (now (b .marks)) (now (b .values)) (b .i) (b .g) (n .condition .result) (n .condition .ensures .0)
-          (a .mark-all .result) (d .mark-all2 .result) (a .mark-all .ensures .0) (d .mark-all2 .ensures .0) e xs h stop _ refl refl refl refl,
+          (a .mark-all .result) (d .mark-all2 .result) (a .mark-all .ensures .0) (d .mark-all2 .ensures .0) e xs h stop r added deleted looks next,
     )
+
+returns : tie.Need-returns
+returns c = gathered (c .before .before .before .before) _ refl refl refl refl
 
 pub one-effect-spec : {M : Type 1} → statement M
 one-effect-spec =
@@ -54,5 +78,5 @@ one-effect-spec =
     condition-requires
     mark-all-requires
     mark-all-requires-2
-    add-t13
+    add-looked
     returns)
