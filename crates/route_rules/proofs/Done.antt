@@ -12,6 +12,7 @@ use Rattle.task.specs.File.{Sizes, sizes, rows, taskOf}
 use Rattle.task.specs.Check
 use Rattle.task.specs.Check.{Answer, Context, Walk, accepted, mayEnd, follow, valueAllowed, nextWalk, firstWalk, walkOn, sizesAllowed, walk, check}
 use Rattle.task.specs.Verdict.{verdict}
+use Rattle.task.specs.Literals.{literals}
 use Rattle.plan.specs.Judged
 use Rattle.plan.specs.Judged.{Judged, stepsKnown, judgedBy, judged}
 use Rattle.plan.specs.Walked
@@ -48,7 +49,7 @@ areWritten (Outcomes.written d p) = true
 areWritten (Outcomes.refused n i) = false
 
 abbrev pub isGiven : Walked → Bool
-isGiven (given v) = true
+isGiven (given v looked) = true
 isGiven (Walked.refused n i) = false
 
 abbrev pub isWorth : Settled → Bool
@@ -152,10 +153,10 @@ texts-done b domain problem = go (check b) (check-done b)
 abbrev WalkDone : Walked → Type 0
 WalkDone w = returnsZero (ofWalk w) ≡ isGiven w
 
-verdict-done : (v : Walked.Walk) → WalkDone (given v)
-verdict-done (Walked.solved cost met) = refl
-verdict-done (Walked.stopped i) = refl
-verdict-done Walked.goal-missed = refl
+verdict-done : (v : Walked.Walk) (looked : ℕ) → WalkDone (given v looked)
+verdict-done (Walked.solved cost met) looked = refl
+verdict-done (Walked.stopped i) looked = refl
+verdict-done Walked.goal-missed looked = refl
 
 -- a judged plan, whose refusal has another number than 0
 abbrev Numbered : Judged → Type 0
@@ -180,8 +181,8 @@ walked-done : (b p : List ℕ) → WalkDone (walked b p)
 unfolding walked
 walked-done b p = go (judged b p) (judged-numbered b p)
   where
-    go : (j : Judged) → Numbered j → WalkDone (unsettled j)
-    go (Judged.given v) e = verdict-done (unpriced v)
+    go : (j : Judged) → Numbered j → WalkDone (unsettled (literals (taskOf b) p) j)
+    go (Judged.given v) e = verdict-done (unpriced v) (literals (taskOf b) p)
     go (Judged.refused n i) e = e
 
 text-done : (b t : List ℕ) → WalkDone (textWalked b t)
