@@ -7,7 +7,7 @@ use native.Mathlib.Omega.{arith}
 use lib.Dec.{leb, ltb}
 use lib.ListN.{length}
 use Rattle.task.specs.Lists.{all}
-use Rattle.task.specs.Task.{Row, taskRows}
+use Rattle.task.specs.Task.{taskRows}
 use Rattle.task.specs.File
 use Rattle.task.specs.File.{sizes, taskOf}
 use Rattle.task.specs.Check

@@ -2,18 +2,13 @@
 use mathlib.Core.Path.{_≡_, sym, ap, _∙_, subst}
 use mathlib.Core.Bool.{Bool, true, false, _&&_}
 use mathlib.Core.List.{List}
-use Prim.Native.Nat.{ℕ, _+_, _≤_, _<_}
-use native.Mathlib.Omega.{arith}
-use lib.Dec.{T}
+use Prim.Native.Nat.{ℕ, _+_, _<_}
 use lib.ListN.{length}
 use borrow.Author.Tests.{lt-ltb}
-use Rattle.task.specs.Lists.{all}
 use Rattle.task.specs.Task.{Task, conditionRows}
 use Rattle.task.specs.Rows.{valueAt}
-use Rattle.task.specs.Spelling.{preferenceSpellable}
 use Rattle.task.specs.Literals.{lookedAt}
 use Rattle.task.specs.Meaning.{State as Facts, isTrue, actionAt, applies}
-use Rattle.task.proofs.Tests.{tests}
 use Rattle.state.specs.Member.{member}
 use Rattle.state.specs.Conditions.{begin, readAs, evaluateAt}
 use Rattle.state.specs.Effects.{Changed-by, Changes}

@@ -8,7 +8,7 @@ use Rattle.task.specs.Marks.{ACTION}
 use Rattle.task.specs.Task.{Action, Task, Row, row, conditionRows, effectRows, taskRows}
 use Rattle.task.specs.File.{paired, marks, isPreference, opensPreference}
 use Rattle.task.specs.Rows.{valueAt}
-use Rattle.task.specs.Meaning.{State as Facts, isTrue, opening, after, actionAt}
+use Rattle.task.specs.Meaning.{State as Facts, opening, actionAt}
 use Rattle.task.proofs.Tests.{upTo-map}
 use Rattle.task.proofs.Bytes.{marks-paired}
 use Rattle.task.proofs.Reading.{value-at}
@@ -16,11 +16,10 @@ use Rattle.task.proofs.WellFormed.{start-below, effects-below}
 use Rattle.task.proofs.Passing.{stepRows}
 use Rattle.task.proofs.Back.{fromGoal, task-grouped}
 use Rattle.task.proofs.Positions.{drop-next, drop-behind, tailRows, tail-stops, effects-stop, goal-behind, preferences-behind}
-use Rattle.state.specs.Member.{empty, member}
+use Rattle.state.specs.Member.{empty}
 use Rattle.state.specs.Conditions.{inCondition, begin, readAs, evaluateAt}
-use Rattle.state.specs.Effects.{inEffects, Changed-by, Changes, Result}
+use Rattle.state.specs.Effects.{inEffects, Changed-by, Changes}
 use Rattle.state.specs.declared.effects.Changed.{Changed}
-use Rattle.state.specs.declared.conditions.Evaluated.{Evaluated}
 use Rattle.state.specs.Opening.{openAt}
 use Rattle.state.proofs.OpeningRows.{opening-at}
 use Rattle.state.proofs.ConditionRows.{condition-at}

@@ -211,14 +211,7 @@ fn read_sides(marks: &[u8], values: &[u8], i: usize, s: State) -> Sides
 }
 
 // The monitors of the preferences that stand from row `at` on see state s, and so many literals are looked at.
-pub fn watch(
-    marks: &[u8],
-    values: &[u8],
-    at: usize,
-    s: State,
-    last: bool,
-    ms: &mut [u8],
-) -> usize
+pub fn watch(marks: &[u8], values: &[u8], at: usize, s: State, last: bool, ms: &mut [u8]) -> usize
     requires { ⌜ (4 * length (now marks) ≤ length (now values)) × (length (now marks) ≤ 12000) × (length (now ms) ≡ 16) ⌝ }
     ensures { λ r. ⌜ r ≤ 384000 ⌝ }
     ensures { λ r. ⌜ Watched (now (marks .entry)) (now (values .entry)) at last (member s) (now (ms .entry)) (now (ms .exit)) r ⌝ }

@@ -60,14 +60,7 @@ fn step(marks: &[u8], values: &[u8], from: usize, p: Position) -> Moved
 
 // The verdict after the last step, by monitors that have seen the states before it; the preferences stand from row `at` on,
 // the goal's condition from row `goal` on.
-fn finish(
-    marks: &[u8],
-    values: &[u8],
-    at: usize,
-    goal: usize,
-    p: Position,
-    ms: &mut [u8],
-) -> Walked
+fn finish(marks: &[u8], values: &[u8], at: usize, goal: usize, p: Position, ms: &mut [u8]) -> Walked
     requires { ⌜ (4 * length (now marks) ≤ length (now values)) × (length (now marks) ≤ 12000) × (at ≤ length (now marks)) ⌝ }
     requires { ⌜ (p .cost < 2 ^ 62) × (p .looked < 2 ^ 62) × (length (now ms) ≡ 16) ⌝ }
     ensures { λ r. ⌜ Finishes (now (marks .entry)) (now (values .entry)) at goal p (now (ms .entry)) r ⌝ }
@@ -150,5 +143,14 @@ pub fn run(marks: &[u8], values: &[u8], plan: &[u8]) -> Walked
     let mut table: [usize; 128] = [0; 128];
     let many = places::note_actions(marks, &mut table);
     let mut ms: [u8; 16] = [0; 16];
-    follow(marks, values, at, goal, &table[0..many], start.state, plan, &mut ms)
+    follow(
+        marks,
+        values,
+        at,
+        goal,
+        &table[0..many],
+        start.state,
+        plan,
+        &mut ms,
+    )
 }

@@ -33,7 +33,7 @@ returns c =
     let a = l .before .before .before .before .args in (
       omega (arith, l .loop .inv .few, l .loop .inv .few-literals),
       full (now (a .marks)) (now (a .values)) (a .at) (a .last) (member (a .s)) (now (a .ms)) (l .loop .ms) (l .loop .looked) (l .loop .k) (l .loop .i)
-      (l .loop .inv) (omega (arith, l .loop .inv .all-there, c .if1 .taken)),
+          (l .loop .inv) (omega (arith, l .loop .inv .all-there, c .if1 .taken)),
     )
 
 read-sides-requires : tie.Need-read-sides-requires Inv-loop μ-loop
@@ -113,7 +113,7 @@ returns-2 c =
     let a = l .before .before .before .before .args in (
       omega (arith, l .loop .inv .few, l .loop .inv .few-literals),
       ends (now (a .marks)) (now (a .values)) (a .at) (a .last) (member (a .s)) (now (a .ms)) (l .loop .ms) (l .loop .looked) (l .loop .k) (l .loop .i)
-      (l .loop .inv) (search needs),
+          (l .loop .inv) (search needs),
     )
 
 pub watch-spec : {M : Type 1} → statement M

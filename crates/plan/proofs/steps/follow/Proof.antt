@@ -73,8 +73,7 @@ looked-on-requires c κs = search needs
 step-requires : tie.Need-step-requires Inv-loop μ-loop
 step-requires c κs =
     let w = c .before .before in
-    let b = w .before .before .before .before .before .before .before .before .before .before .before .before .before in
-    (
+    let b = w .before .before .before .before .before .before .before .before .before .before .before .before .before in (
       (search needs, search needs, known (length (now (b .args .marks))) (now (b .args .starts)) (b .pre .1 .0) (w .wide .result) (entry w) _ refl),
       (search needs, search needs),
     )

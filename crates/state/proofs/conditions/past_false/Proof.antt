@@ -58,12 +58,12 @@ loop-again c =
       search needs,
       search needs,
       λ n. one-past (member (record { low = a .low; high = a .high })) (now (a .marks)) (now (a .values)) (a .at) (l .loop .i) n (search needs)
-      (l .loop .inv .2 n) (search needs) (c .if1 .left ∙ c .before .false-mark .ensures ∙ rw (c .before .before .value-at .ensures)),
+          (l .loop .inv .2 n) (search needs) (c .if1 .left ∙ c .before .false-mark .ensures ∙ rw (c .before .before .value-at .ensures)),
     )
 
 returns-2 : tie.Need-returns-2 Inv-loop μ-loop
 returns-2 c =
-    let l = c .before in ((search needs, search needs), record { looks = l .loop .inv .2; stops = λ h e. absurd (omega (arith, c .loop-test)); })
+    let l = c .before in ((search needs, search needs), record { looks = l .loop .inv .2; stops = λ h e. absurd (omega (arith, c .loop-test)) })
 
 pub past-false-spec : {M : Type 1} → statement M
 past-false-spec =

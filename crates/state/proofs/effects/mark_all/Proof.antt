@@ -30,8 +30,8 @@ returns c =
     let l = c .before .before .before in
     let a = l .before .before .before .args in (
       sym (stops-at (markRow (a .fires)) (λ (n : ℕ). eqb n (a .mark)) ending (member (l .loop .f)) (now (a .marks)) (now (a .values)) (l .loop .i) (search needs)
-      (ne-eqb _ _ (c .if1 .taken)))
-      ∙ l .loop .inv .2,
+          (ne-eqb _ _ (c .if1 .taken)))
+          ∙ l .loop .inv .2,
       search needs,
     )
 
@@ -54,10 +54,10 @@ loop-again c =
       search needs,
       search needs,
       ap (λ (g : Facts). markAt (a .mark) (a .fires) g (now (a .marks)) (now (a .values)) (l .loop .i + 1))
-      (c .marked-if .ensures ∙ rw (c .before .value-at .ensures))
-      ∙ sym (goes-on (markRow (a .fires)) (λ (n : ℕ). eqb n (a .mark)) ending (member (l .loop .f)) (now (a .marks)) (now (a .values)) (l .loop .i) (search needs)
-      (eq-eqb _ _ (c .before .before .if1 .left)))
-      ∙ l .loop .inv .2,
+          (c .marked-if .ensures ∙ rw (c .before .value-at .ensures))
+          ∙ sym (goes-on (markRow (a .fires)) (λ (n : ℕ). eqb n (a .mark)) ending (member (l .loop .f)) (now (a .marks)) (now (a .values)) (l .loop .i) (search needs)
+          (eq-eqb _ _ (c .before .before .if1 .left)))
+          ∙ l .loop .inv .2,
     )
 
 returns-2 : tie.Need-returns-2 Inv-loop μ-loop
@@ -65,7 +65,7 @@ returns-2 c =
     let l = c .before in
     let a = l .before .before .before .args in (
       sym (ends-at (markRow (a .fires)) (λ (n : ℕ). eqb n (a .mark)) ending (member (l .loop .f)) (now (a .marks)) (now (a .values)) (l .loop .i) (search needs))
-      ∙ l .loop .inv .2,
+          ∙ l .loop .inv .2,
       search needs,
     )
 
