@@ -14,6 +14,7 @@ pub mod Faithful
 -- Its file
 pub mod Spellable
 pub mod Written
+pub mod Rules
 pub mod Examples
 -- Document 01's attacks
 pub mod Before

@@ -1,5 +1,5 @@
--- Document 01's attacks, refuted: for each wrong translator a source task on which demand 3 fails.
-use mathlib.Core.Path.{_≡_, subst, subst⁻¹}
+-- Document 01's attacks and request 8's, refuted: for each wrong translator a source task on which demand 3 fails.
+use mathlib.Core.Path.{_≡_, refl, subst, subst⁻¹}
 use mathlib.Core.Bool.{Bool, true, false, not, _&&_, _||_}
 use mathlib.Core.List.{List, [], _∷_}
 use Prim.Native.Nat.{ℕ, zero, suc, _<_}
@@ -9,7 +9,7 @@ use Rattle.task.specs.Lists.{one, all}
 use Rattle.task.specs.Task.{Kind, always, sometime, at-most-once, sometime-before, within, always-within, Condition, Action, Preference, Task, wellFormed}
 use Rattle.task.specs.File.{fileOf}
 use Rattle.task.specs.Check.{Answer, accepted, refused, check, walk}
-use Rattle.task.specs.Meaning.{State, isTrue, opening, after, noAction, actionAt, applies, solves, cost, metric}
+use Rattle.task.specs.Meaning.{State, isTrue, opening, after, noAction, actionAt, applies, keepsRules, solves, cost, metric}
 use Rattle.classical.specs.Translation.{holdsFact, alone, effect, translated}
 use Rattle.classical.specs.Claim.{Faithful, sourcePart}
 use Rattle.task.proofs.Tests.{and-left, and-right, all-at}
@@ -17,7 +17,7 @@ use Rattle.classical.proofs.Runs.{wins, solves-win}
 use Rattle.classical.proofs.Faithful.{faithful}
 use Rattle.classical.proofs.Wrong.{Translator, translatedBy, opens, inSource, inEnd, ends, forgone, right}
 use Rattle.classical.proofs.Wrong.{fixed, never-ends, opening-only, follows-first, last-only, all-but-last, reads-reached}
-use Rattle.classical.proofs.Wrong.{counts-states, forgo-met, own-state, denied-at-once, one-step-less, one-step-more, late-forgiven}
+use Rattle.classical.proofs.Wrong.{counts-states, forgo-met, own-state, denied-at-once, one-step-less, one-step-more, late-forgiven, forgo-hard, softened}
 
 -- What shows that a task c is not faithful to a source s, and the test that it does
 
@@ -26,6 +26,8 @@ pub data Evidence : Type 0 where
   mispriced : List ℕ → Evidence
   -- a plan that solves s, where nothing solves c
   unsolved : List ℕ → Evidence
+  -- a list that solves c, where its source part does not solve s
+  unearned : List ℕ → Evidence
 
 -- the goal fails in s and after every action that applies there, n deep at most, where no action applies any more
 abbrev pub dead : Task → ℕ → State → Bool
@@ -36,6 +38,7 @@ dead c (suc n) s =
 abbrev pub shows : Task → Task → Evidence → Bool
 shows s c (mispriced x) = solves c x && not (eqb (cost c x) (metric s (sourcePart s x)))
 shows s c (unsolved p) = solves s p && dead c 2 (opening c)
+shows s c (unearned x) = solves c x && not (solves s (sourcePart s x))
 
 -- The table
 
@@ -68,7 +71,10 @@ lit ps =
 
 -- of weight 1
 abbrev rule : Kind → Condition → Condition → Preference
-rule k φ ψ = record { kind = k; weight = 1; first = φ; second = ψ }
+rule k φ ψ = record { kind = k; hard = false; weight = 1; first = φ; second = ψ }
+
+abbrev hard-rule : Kind → Condition → Condition → Preference
+hard-rule k φ ψ = record { kind = k; hard = true; weight = 0; first = φ; second = ψ }
 
 abbrev fact0 : Condition
 fact0 = alone (one (holdsFact 0))
@@ -90,6 +96,8 @@ attacks =
     ∷ attack one-step-less (lit (one (rule (within 1) fact0 []))) (mispriced (0 ∷ 1 ∷ 3 ∷ []))
     ∷ attack one-step-more (lit (one (rule (always-within 0) [] fact0))) (mispriced (0 ∷ 1 ∷ 2 ∷ []))
     ∷ attack late-forgiven (lit (one (rule (always-within 0) [] fact0))) (mispriced (0 ∷ 1 ∷ 2 ∷ []))
+    ∷ attack forgo-hard (lit (one (hard-rule always fact0 []))) (unearned (0 ∷ 1 ∷ 3 ∷ []))
+    ∷ attack softened (lit (one (hard-rule sometime fact0 []))) (unearned (1 ∷ 3 ∷ []))
     ∷ []
 
 -- What the evidence means
@@ -123,7 +131,10 @@ unfaithful s c (mispriced x) h f =
     (subst (λ (m : ℕ). T (eqb (cost c x) m)) (f .priced x solved) (eqb-refl (cost c x)))
 unfaithful s c (unsolved p) h f =
     let x : (x : List ℕ) × T (solves c x) × (sourcePart s x ≡ p) = f .reaches p .1 (and-left (solves s p) _ h) in
-    never-wins c 2 (opening c) (and-right (solves s p) _ h) (x .0) (subst T (solves-win c (x .0)) (x .1))
+    let won : T (wins c (opening c) (x .0)) = and-left (wins c (opening c) (x .0)) (keepsRules c (x .0)) (subst T (solves-win c (x .0)) (x .1)) in
+    never-wins c 2 (opening c) (and-right (solves s p) _ h) (x .0) won
+unfaithful s c (unearned x) h f =
+    not-true (solves s (sourcePart s x)) (and-right (solves c x) _ h) (f .reaches (sourcePart s x) .0 (x, and-left (solves c x) _ h, refl))
 
 -- The claim
 

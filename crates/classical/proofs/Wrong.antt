@@ -1,5 +1,5 @@
 -- Wrong translators, each the right one with a part replaced: what document 01 says a reviewer will try, and its mistakes that
--- would pass a quick test, and three more about deadlines.
+-- would pass a quick test, three more about deadlines and two about hard rules.
 use mathlib.Core.Path.{_≡_, refl}
 use mathlib.Core.Bool.{Bool, true, false, cond}
 use mathlib.Core.List.{List, [], _∷_, _++_, map}
@@ -36,9 +36,15 @@ inEnd t = allTrackers true (t .facts) (t .preferences)
 abbrev pub ends : Task → List ℕ
 ends t = one (ended (t .facts) (length (t .preferences)))
 
--- what forgo k asks for, beside its turn
+-- what forgo k asks for, beside its turn: that the preference is missed, and of a hard one what can't be
+abbrev pub missed : Task → ℕ → Preference → Condition
+missed t k p = alone (map deny (metClause (factS (t .facts) k) (factB (t .facts) k) (p .kind)))
+
+abbrev pub barred : Task → Preference → Condition
+barred t p = cond (p .hard) (alone (one (lacksFact (ended (t .facts) (length (t .preferences)))))) []
+
 abbrev pub forgone : Task → ℕ → Preference → Condition
-forgone t k p = alone (map deny (metClause (factS (t .facts) k) (factB (t .facts) k) (p .kind)))
+forgone t k p = missed t k p ++ barred t p
 
 -- A translator by its parts, in this order
 
@@ -113,11 +119,11 @@ opening-only =
     (λ (t : Task). opens t ++ concatMap (λ (e : Effect). cond (isTrue (opening t) (e .condition)) (e .adds) []) (inEnd t))
     (λ (t : Task) (a : Action). []) (λ (t : Task). []) ends forgone
 
--- each preference is followed as preference 0, at its own weight
+-- each preference is followed as preference 0, at its own weight, and hard if it is
 abbrev pub follows-first : Translator
 follows-first t =
     let q : Preference = preferenceAt t 0 in
-    translatedAs (λ (p : Preference). record { kind = q .kind; weight = p .weight; first = q .first; second = q .second }) t
+    translatedAs (λ (p : Preference). record { kind = q .kind; hard = p .hard; weight = p .weight; first = q .first; second = q .second }) t
 
 -- Mistakes that would pass a quick test
 
@@ -146,9 +152,9 @@ counts-states =
     ∷ effect (alone (one (holdsFact S)) ++ φ) (one B) (one S)
     ∷ []))
 
--- forgo asks for its turn alone
+-- forgo does not ask that the preference is missed
 abbrev pub forgo-met : Translator
-forgo-met = translatedBy opens inSource inEnd ends (λ (t : Task) (k : ℕ) (p : Preference). [])
+forgo-met = translatedBy opens inSource inEnd ends (λ (t : Task) (k : ℕ) (p : Preference). barred t p)
 
 -- sometime-before: φ adds B only where ψ fails in the same state, too
 abbrev pub own-state : Translator
@@ -170,7 +176,7 @@ steps k = sum (values (stepsRows k))
 
 -- a preference of another kind
 abbrev pub of-kind : Kind → Preference → Preference
-of-kind k p = record { kind = k; weight = p .weight; first = p .first; second = p .second }
+of-kind k p = record { kind = k; hard = p .hard; weight = p .weight; first = p .first; second = p .second }
 
 -- within t is followed as within t − 1
 abbrev pub one-step-less : Translator
@@ -186,3 +192,17 @@ one-step-more =
 abbrev pub late-forgiven : Translator
 late-forgiven =
     byTrackers (instead ALWAYS-WITHIN (λ k last S B E φ ψ. trackersOf k last S B E φ ψ ++ one (effect ψ [] (one B))))
+
+-- Hard rules
+
+-- forgo of a hard preference lacks normal instead of ended: it still applies
+abbrev pub forgo-hard : Translator
+forgo-hard =
+    translatedBy opens inSource inEnd ends
+    (λ (t : Task) (k : ℕ) (p : Preference).
+    missed t k p ++ cond (p .hard) (alone (one (lacksFact (normal (t .facts) (length (t .preferences)))))) [])
+
+-- a hard preference is followed as a soft one: its miss costs its weight, which is 0
+abbrev pub softened : Translator
+softened =
+    translatedAs (λ (p : Preference). record { kind = p .kind; hard = false; weight = p .weight; first = p .first; second = p .second })

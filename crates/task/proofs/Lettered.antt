@@ -52,7 +52,7 @@ leading n =
     }
 
 abbrev rule : Kind → Preference
-rule k = record { kind = k; weight = 1; first = holding 0; second = cond (two-sided k) (holding 1) [] }
+rule k = record { kind = k; hard = false; weight = 1; first = holding 0; second = cond (two-sided k) (holding 1) [] }
 
 abbrev small : Kind → ℕ → Task
 small k n =

@@ -27,7 +27,7 @@ abbrev no : ℕ → Literal
 no n = record { holds = false; fact = n }
 
 abbrev rule : Kind → Condition → Condition → Preference
-rule k φ ψ = record { kind = k; weight = 1; first = φ; second = ψ }
+rule k φ ψ = record { kind = k; hard = false; weight = 1; first = φ; second = ψ }
 
 -- The states of fact 0 alone and of fact 1 alone, and two clauses: x is true in both, after 2 and after 1 literals;
 -- y is false in the first, after 3, and true in the second, after 2

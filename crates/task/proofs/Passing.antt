@@ -1,16 +1,16 @@
 -- Which marks the rows of a piece have.
-use mathlib.Core.Bool.{Bool, true, false, cond}
+use mathlib.Core.Bool.{Bool, true, false, cond, _&&_}
 use mathlib.Core.List.{List, [], _∷_, _++_, map}
-use Prim.Native.Nat.{ℕ, _<_}
+use Prim.Native.Nat.{ℕ, _+_, _<_}
 use lib.Dec.{T, ltb, lit<}
 use lib.ListN.{getD}
 use Rattle.task.specs.Marks.{EFFECT, CLAUSE, HOLDS, LACKS, ADD, DELETE, START}
-use Rattle.task.specs.Marks.{ALWAYS, SOMETIME, AT-END, AT-MOST-ONCE, SOMETIME-BEFORE, SOMETIME-AFTER, SECOND, WITHIN, ALWAYS-WITHIN, STEPS}
+use Rattle.task.specs.Marks.{ALWAYS, SOMETIME, AT-END, AT-MOST-ONCE, SOMETIME-BEFORE, SOMETIME-AFTER, SECOND, WITHIN, ALWAYS-WITHIN, STEPS, HARD}
 use Rattle.task.specs.Lists.{all, concatMap}
 use Rattle.task.specs.Task.{Kind, always, sometime, at-end, at-most-once, sometime-before, sometime-after, within, always-within, Literal}
-use Rattle.task.specs.Task.{Condition, Effect, Action, Preference, Task, Row, row, two-sided, kindMark, stepsRows, literalRow, clauseRows, conditionRows}
+use Rattle.task.specs.Task.{Condition, Effect, Action, Preference, Task, Row, row, two-sided, kindMark, openingMark, stepsRows, literalRow, clauseRows, conditionRows}
 use Rattle.task.specs.Task.{effectRows, actionRows, preferenceRows, taskRows}
-use Rattle.task.proofs.Tests.{and-both, all-at, all-both, all-map, all-concat}
+use Rattle.task.proofs.Tests.{and-left, and-right, and-both, all-at, all-both, all-map, all-concat}
 
 -- Rows of a preference and of an action behind the first
 
@@ -52,12 +52,12 @@ module _ (p : Row → Bool) (p4 : Passes p HOLDS) (p5 : Passes p LACKS) where
     effects-pass p2 =
         all-concat p effectRows (λ e. and-both (p (row EFFECT 0)) _ (p2 0) (changes-pass (e .condition) (e .adds) (e .deletes)))
 
--- the marks that open a preference
+-- the marks that open a soft preference
 abbrev pub kindMarks : List ℕ
 kindMarks = ALWAYS ∷ SOMETIME ∷ AT-END ∷ AT-MOST-ONCE ∷ SOMETIME-BEFORE ∷ SOMETIME-AFTER ∷ WITHIN ∷ ALWAYS-WITHIN ∷ []
 
 module _ (p : Row → Bool) where
-  -- the row that opens a preference
+  -- the row that opens a soft preference
   pub kind-passes : ((v : ℕ) → T (all (λ (m : ℕ). p (row m v)) kindMarks)) → (k : Kind) → Passes p (kindMark k)
   kind-passes h k v = go k
     where
@@ -83,6 +83,15 @@ module _ (p : Row → Bool) where
   steps-pass steps sometime-after = tt
   steps-pass steps (within t) = and-both (p (row STEPS t)) true (steps t) tt
   steps-pass steps (always-within t) = and-both (p (row STEPS t)) true (steps t) tt
+
+-- the row that opens a preference, hard or soft
+pub opening-passes : (p : Row → Bool) → ((v : ℕ) → T (all (λ (m : ℕ). p (row m v) && p (row (m + HARD) v)) kindMarks))
+    → (h : Bool) (k : Kind) → Passes p (openingMark h k)
+opening-passes p t h k v = go h (kind-passes (λ (x : Row). p x && p (row (x .mark + HARD) (x .value))) t k v)
+  where
+    go : (h : Bool) → T (p (row (kindMark k) v) && p (row (kindMark k + HARD) v)) → T (p (row (openingMark h k) v))
+    go true t = and-right (p (row (kindMark k) v)) (p (row (kindMark k + HARD) v)) t
+    go false t = and-left (p (row (kindMark k) v)) (p (row (kindMark k + HARD) v)) t
 
 pub conditions-pass : (p : Row → Bool) → Passes p HOLDS → Passes p LACKS → Passes p CLAUSE → Passes p SECOND → (q : Preference)
     → T (all p (conditionsOf q))
@@ -114,8 +123,8 @@ action-marks a =
 
 preference-marks : (q : Preference) → T (all markFits (preferenceRows q))
 preference-marks q =
-    and-both (markFits (row (kindMark (q .kind)) (q .weight))) (all markFits (sideRows q))
-    (kind-passes markFits (λ v. tt) (q .kind) (q .weight))
+    and-both (markFits (row (openingMark (q .hard) (q .kind)) (q .weight))) (all markFits (sideRows q))
+    (opening-passes markFits (λ v. tt) (q .hard) (q .kind) (q .weight))
     (sides-pass markFits (λ v. tt) (λ v. tt) (λ v. tt) (λ v. tt) (λ v. tt) q)
 
 pub task-marks : (t : Task) → T (all markFits (taskRows t))

@@ -1,18 +1,18 @@
 -- Where the parts of a task stand among its rows, and what stands behind each.
 use mathlib.Core.Path.{_≡_, refl, sym, ap, _∙_}
-use mathlib.Core.Bool.{Bool, false, not}
+use mathlib.Core.Bool.{Bool, false, not, _&&_}
 use mathlib.Core.List.{List, [], _∷_, _++_, map, append-nil}
 use Prim.Native.Nat.{ℕ, _+_}
 use lib.Dec.{T}
 use lib.ListN.{length, drop, length-map}
 use lib.Seq.{drop-drop, drop-at}
-use Rattle.task.specs.Lists.{concatMap, upTo}
-use Rattle.task.specs.Marks.{ACTION, EFFECT, GOAL, START}
-use Rattle.task.specs.Task.{Kind, Effect, Action, Preference, Task, Row, row, kindMark, conditionRows, effectRows, actionRows, preferenceRows, taskRows}
+use Rattle.task.specs.Lists.{all, concatMap, upTo}
+use Rattle.task.specs.Marks.{ACTION, EFFECT, GOAL, START, HARD}
+use Rattle.task.specs.Task.{Kind, Effect, Action, Preference, Task, Row, row, openingMark, conditionRows, effectRows, actionRows, preferenceRows, taskRows}
 use Rattle.task.specs.File.{isPreference}
 use Rattle.task.specs.Rows.{Stops}
 use Rattle.task.proofs.Tests.{tests, noneOf, without, all-both, all-map, all-concat, upTo-none, as-true, as-false}
-use Rattle.task.proofs.Passing.{condition-passes, effects-pass, kindMarks, kind-passes}
+use Rattle.task.proofs.Passing.{condition-passes, effects-pass, kindMarks, opening-passes}
 use Rattle.task.proofs.Back.{fromGoal, task-grouped}
 
 -- Rows behind other rows
@@ -33,16 +33,17 @@ behind-drop rows n ys (xs, e, l) = ap (drop n) e ∙ drop-at xs ys n l
 -- What may stand behind a condition, and behind effects
 
 -- no mark that opens a preference passes the test
-pub past-kinds : (p : ℕ → Bool) → T (noneOf p kindMarks) → (k : Kind) → p (kindMark k) ≡ false
-past-kinds p t k = as-false (p (kindMark k)) (kind-passes (λ (x : Row). not (p (x .mark))) (λ v. t) k 0)
+pub past-kinds : (p : ℕ → Bool) → T (all (λ (m : ℕ). not (p m) && not (p (m + HARD))) kindMarks) → (h : Bool) (k : Kind)
+    → p (openingMark h k) ≡ false
+past-kinds p t h k = as-false (p (openingMark h k)) (opening-passes (λ (x : Row). not (p (x .mark))) (λ v. t) h k 0)
 
 abbrev pub tailRows : List Action → List Preference → List Row
 tailRows l qs = concatMap actionRows l ++ concatMap preferenceRows qs
 
-module _ (p : ℕ → Bool) (kinds : (k : Kind) → p (kindMark k) ≡ false) where
+module _ (p : ℕ → Bool) (kinds : (h : Bool) (k : Kind) → p (openingMark h k) ≡ false) where
   pub preferences-stop : (qs : List Preference) → Stops p (concatMap preferenceRows qs)
   preferences-stop [] = tt
-  preferences-stop (q ∷ qs) = kinds (q .kind)
+  preferences-stop (q ∷ qs) = kinds (q .hard) (q .kind)
 
   pub tail-stops : p ACTION ≡ false → (l : List Action) (qs : List Preference) → Stops p (tailRows l qs)
   tail-stops action [] qs = preferences-stop qs
@@ -83,12 +84,13 @@ front-no-preference t =
     (condition-passes (without isPreference) (λ v. tt) (λ v. tt) (λ v. tt) (t .goal)))
     (all-concat (without isPreference) actionRows action-no-preference (t .actions))
 
-pub kind-preference : (k : Kind) (v : ℕ) → T (isPreference (row (kindMark k) v))
-kind-preference k v = kind-passes isPreference (λ v. tt) k v
+pub kind-preference : (h : Bool) (k : Kind) (v : ℕ) → T (isPreference (row (openingMark h k) v))
+kind-preference = opening-passes isPreference (λ v. tt)
 
 up-to-preferences : (qs : List Preference) → upTo isPreference (concatMap preferenceRows qs) ≡ []
 up-to-preferences [] = refl
-up-to-preferences (q ∷ qs) = rw (as-true (isPreference (row (kindMark (q .kind)) (q .weight))) (kind-preference (q .kind) (q .weight)))
+up-to-preferences (q ∷ qs) =
+    rw (as-true (isPreference (row (openingMark (q .hard) (q .kind)) (q .weight))) (kind-preference (q .hard) (q .kind) (q .weight)))
 
 pub preferences-behind : (t : Task) → drop (length (upTo isPreference (taskRows t))) (taskRows t) ≡ concatMap preferenceRows (t .preferences)
 preferences-behind t =

@@ -10,11 +10,11 @@ use Rattle.task.specs.Marks.{ADD, DELETE, GOAL, START}
 use Rattle.task.specs.Marks.{AT-MOST-ONCE, SOMETIME-BEFORE, SOMETIME-AFTER, SECOND, STEPS}
 use Rattle.task.specs.Lists.{all, concatMap, isEmpty}
 use Rattle.task.specs.Task.{Kind, always, sometime, at-end, at-most-once, sometime-before, sometime-after, within, always-within, Condition}
-use Rattle.task.specs.Task.{Row, row, two-sided, kindMark, stepsRows, factsBelow, literalRow, conditionRows, effectRows, actionRows, preferenceRows}
+use Rattle.task.specs.Task.{Row, row, two-sided, kindMark, openingMark, stepsRows, factsBelow, literalRow, conditionRows, effectRows, actionRows, preferenceRows}
 use Rattle.task.specs.Check.{Place, goal, precondition, effect, last-side, first-side, Context, opening, open-condition, open-clause, after-literal}
 use Rattle.task.specs.Check.{after-add, after-delete, open-within, open-always-within}
-use Rattle.task.specs.Check.{limit, mostSteps, valueAllowed}
-use Rattle.task.specs.Spelling.{kindSpellable}
+use Rattle.task.specs.Check.{mostSteps, valueAllowed}
+use Rattle.task.specs.Spelling.{kindSpellable, weightAllowed}
 use Rattle.task.proofs.Tests.{tests}
 use Rattle.task.proofs.Pieces.{literalsOk, clauseOk, conditionOk, effectOk, actionOk, preferenceOk, startOk}
 use Rattle.task.proofs.Walk.{weight-value, onward}
@@ -135,39 +135,39 @@ two-sided-mark sometime-after t = refl
 two-sided-mark (within n) t = absurd t
 two-sided-mark (always-within n) t = absurd t
 
-single-spelled : (x : Row) (xs ys : List Row) (k : Kind) (φ : Condition) (rest : List Row) → x .mark ≡ kindMark k
+single-spelled : (x : Row) (xs ys : List Row) (h : Bool) (k : Kind) (φ : Condition) (rest : List Row) → x .mark ≡ openingMark h k
     → two-sided k ≡ false
     → xs ≡ stepsRows k ++ ys → ys ≡ conditionRows φ ++ rest
-    → x ∷ xs ≡ preferenceRows (record { kind = k; weight = x .value; first = φ; second = [] }) ++ rest
-single-spelled x xs ys k φ rest e side e₀ e₁ =
-    rw (side, append-nil (conditionRows φ), append-assoc (stepsRows k) (conditionRows φ) rest) (cc (marked (kindMark k) x e))
+    → x ∷ xs ≡ preferenceRows (record { kind = k; hard = h; weight = x .value; first = φ; second = [] }) ++ rest
+single-spelled x xs ys h k φ rest e side e₀ e₁ =
+    rw (side, append-nil (conditionRows φ), append-assoc (stepsRows k) (conditionRows φ) rest) (cc (marked (openingMark h k) x e))
 
-double-spelled : (x : Row) (xs ys : List Row) (k : Kind) (φ ψ : Condition) (mid rest : List Row) → x .mark ≡ kindMark k
+double-spelled : (x : Row) (xs ys : List Row) (h : Bool) (k : Kind) (φ ψ : Condition) (mid rest : List Row) → x .mark ≡ openingMark h k
     → two-sided k ≡ true
     → xs ≡ stepsRows k ++ ys → ys ≡ conditionRows φ ++ mid → mid ≡ row SECOND 0 ∷ (conditionRows ψ ++ rest)
-    → x ∷ xs ≡ preferenceRows (record { kind = k; weight = x .value; first = φ; second = ψ }) ++ rest
-double-spelled x xs ys k φ ψ mid rest e side e₀ e₁ e₂ =
+    → x ∷ xs ≡ preferenceRows (record { kind = k; hard = h; weight = x .value; first = φ; second = ψ }) ++ rest
+double-spelled x xs ys h k φ ψ mid rest e side e₀ e₁ e₂ =
     rw (
       side,
       append-assoc (stepsRows k) (conditionRows φ ++ row SECOND 0 ∷ conditionRows ψ) rest,
       append-assoc (conditionRows φ) (row SECOND 0 ∷ conditionRows ψ) rest,
     )
-    (cc (marked (kindMark k) x e))
+    (cc (marked (openingMark h k) x e))
 
-module _ (F floor : ℕ) (x : Row) (xs ys : List Row) (k : Kind) (e : x .mark ≡ kindMark k)
-    (allowed : T (valueAllowed F floor (row (kindMark k) (x .value)))) (timed : T (kindSpellable k)) (e₀ : xs ≡ stepsRows k ++ ys) where
+module _ (F floor : ℕ) (x : Row) (xs ys : List Row) (h : Bool) (k : Kind) (e : x .mark ≡ openingMark h k)
+    (allowed : T (valueAllowed F floor (row (openingMark h k) (x .value)))) (timed : T (kindSpellable k)) (e₀ : xs ≡ stepsRows k ++ ys) where
   preference-ok : (φ ψ : Condition) → T (conditionOk F φ) → T (conditionOk F ψ) → T (two-sided k || isEmpty ψ)
-      → T (preferenceOk F (record { kind = k; weight = x .value; first = φ; second = ψ }))
+      → T (preferenceOk F (record { kind = k; hard = h; weight = x .value; first = φ; second = ψ }))
   preference-ok φ ψ s t u =
-      let w : T (leb (x .value) limit) = subst T (weight-value F floor k (x .value)) allowed in
+      let w : T (weightAllowed h (x .value)) = subst T (weight-value F floor h k (x .value)) allowed in
       search tests
 
   pub single : two-sided k ≡ false → Holding F (Preferences F) ys → Preferences F (x ∷ xs)
   single side (φ, rest, e₁, ok, qs) =
       more preferenceRows (preferenceOk F) (λ (xs : List Row). xs ≡ []) (x ∷ xs) (
-        record { kind = k; weight = x .value; first = φ; second = [] },
+        record { kind = k; hard = h; weight = x .value; first = φ; second = [] },
         rest,
-        single-spelled x xs ys k φ rest e side e₀ e₁,
+        single-spelled x xs ys h k φ rest e side e₀ e₁,
         preference-ok φ [] ok tt (rw side tt),
         qs,
       )
@@ -175,9 +175,9 @@ module _ (F floor : ℕ) (x : Row) (xs ys : List Row) (k : Kind) (e : x .mark �
   pub double : two-sided k ≡ true → Holding F (Behind F first-side) ys → Preferences F (x ∷ xs)
   double side (φ, mid, e₁, ok₁, (mid′, e₂, (ψ, rest, e₃, ok₂, qs))) =
       more preferenceRows (preferenceOk F) (λ (xs : List Row). xs ≡ []) (x ∷ xs) (
-        record { kind = k; weight = x .value; first = φ; second = ψ },
+        record { kind = k; hard = h; weight = x .value; first = φ; second = ψ },
         rest,
-        double-spelled x xs ys k φ ψ mid rest e side e₀ e₁ (cc),
+        double-spelled x xs ys h k φ ψ mid rest e side e₀ e₁ (cc),
         preference-ok φ ψ ok₁ ok₂ (rw side tt),
         qs,
       )

@@ -9,13 +9,14 @@ use lib.ListN.{length, drop, getD, length-drop}
 use borrow.Author.Tests.{lt-leb, ne-eqb}
 use Rattle.task.specs.Marks.{ALWAYS, SOMETIME, AT-END, AT-MOST-ONCE, SOMETIME-BEFORE, SOMETIME-AFTER, WITHIN, STEPS}
 use Rattle.task.specs.Task.{Kind, always, sometime, at-end, at-most-once, sometime-before, sometime-after, within, always-within, Preference, Row, row}
-use Rattle.task.specs.Task.{kindMark, stepsRows, preferenceRows}
-use Rattle.task.specs.File.{paired, kindOf}
+use Rattle.task.specs.Task.{kindMark, openingMark, stepsRows, preferenceRows}
+use Rattle.task.specs.File.{paired, opensHard, softMark, kindOf}
 use Rattle.task.specs.Check.{mostSteps}
 use Rattle.task.specs.Spelling.{kindSpellable}
 use Rattle.task.specs.Rows.{valueAt, stepsAt}
 use Rattle.task.proofs.Bytes.{length-paired}
 use Rattle.task.proofs.Passing.{conditionsOf}
+use Rattle.task.proofs.Hard.{soft-back, hard-back}
 use Rattle.task.proofs.Reading.{mark-at, value-at}
 use Rattle.task.proofs.Positions.{drop-next, drop-behind}
 
@@ -57,13 +58,19 @@ module _ (ms vs : List ℕ) (i : ℕ) where
   module _ (q : Preference) (more : List Row) (e : drop i (paired ms vs) ≡ preferenceRows q ++ more) where
     pub behind-opening : drop (i + 1) (paired ms vs) ≡ stepsRows (q .kind) ++ (conditionsOf q ++ more)
     behind-opening =
-        drop-next i (paired ms vs) (row (kindMark (q .kind)) (q .weight)) ((stepsRows (q .kind) ++ conditionsOf q) ++ more) e
+        drop-next i (paired ms vs) (row (openingMark (q .hard) (q .kind)) (q .weight)) ((stepsRows (q .kind) ++ conditionsOf q) ++ more) e
         ∙ append-assoc (stepsRows (q .kind)) (conditionsOf q) more
 
     pub behind-steps : drop (i + 1 + length (stepsRows (q .kind))) (paired ms vs) ≡ conditionsOf q ++ more
     behind-steps = drop-behind (i + 1) (paired ms vs) (stepsRows (q .kind)) (conditionsOf q ++ more) behind-opening
 
-    pub kind-at : i < length ms → T (kindSpellable (q .kind)) → kindOf (getD ms i 0) (stepsAt ms vs i) ≡ q .kind
+    pub soft-at : i < length ms → softMark (getD ms i 0) ≡ kindMark (q .kind)
+    soft-at h = ap softMark (mark-at ms vs i h e) ∙ soft-back (q .hard) (q .kind)
+
+    pub hard-at : i < length ms → opensHard (getD ms i 0) ≡ q .hard
+    hard-at h = ap opensHard (mark-at ms vs i h e) ∙ hard-back (q .hard) (q .kind)
+
+    pub kind-at : i < length ms → T (kindSpellable (q .kind)) → kindOf (softMark (getD ms i 0)) (stepsAt ms vs i) ≡ q .kind
     kind-at h ok =
-        ap (λ (m : ℕ). kindOf m (stepsAt ms vs i)) (mark-at ms vs i h e)
+        ap (λ (m : ℕ). kindOf m (stepsAt ms vs i)) (soft-at h)
         ∙ kind-read (q .kind) (conditionsOf q ++ more) ok behind-opening

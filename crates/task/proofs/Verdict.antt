@@ -3,49 +3,52 @@ use mathlib.Core.Path.{_≡_, refl, sym, ap, ap₂, _∙_, subst}
 use mathlib.Core.Logic.{_↔_}
 use mathlib.Core.Bool.{Bool, true, false, cond, _&&_, true≢false}
 use mathlib.Core.List.{List, [], _∷_, map}
-use Prim.Native.Nat.{ℕ, suc, _+_, _<_}
+use Prim.Native.Nat.{ℕ, suc, _+_, _<_, _≤_}
 use native.Mathlib.Omega.{arith}
 use lib.Dec.{T}
 use lib.IntN.{ℤ, pos, _+ℤ_, pos-+ℤ-pos, +ℤ-assoc, -ℤ-+ℤ-cancel}
 use lib.ListN.{length, getD, take}
-use Rattle.task.specs.Lists.{sum, lastOr}
+use Rattle.task.specs.Lists.{all, firstFailing, sum, lastOr}
 use Rattle.task.specs.Task.{Task, Preference}
-use Rattle.task.specs.Meaning.{State, isTrue, opening, after, actionAt, applies, runs, reached, final, solves, cost, isMet, missedWeight, metWeight}
+use Rattle.task.specs.Meaning.{State, isTrue, opening, after, actionAt, applies, runs, reached, final, solves, cost, noPreference, isMet, isKept, keepsRules, missedWeight, metWeight}
 use Rattle.task.specs.Meaning.{metric, utility}
-use Rattle.task.specs.Verdict.{Verdict, solved, stopped, goal-missed, stepsApplied, metSet, verdict}
+use Rattle.task.specs.Verdict.{Verdict, solved, stopped, goal-missed, rule-missed, stepsApplied, metSet, missedRule, verdictBy, verdict}
 
 abbrev isSolved : Verdict → Bool
 isSolved (solved c m u s) = true
 isSolved (stopped i) = false
 isSolved goal-missed = false
+isSolved (rule-missed i) = false
 
 -- solved is the verdict on the plans that solve, and on no others
 pub solved-iff : (t : Task) (p : List ℕ) → (verdict t p ≡ solved (cost t p) (metric t p) (utility t p) (metSet t p)) ↔ T (solves t p)
 unfolding verdict
-solved-iff t p = go (runs t (opening t) p) (isTrue (final t p) (t .goal)) (stepsApplied t (opening t) p)
+solved-iff t p = go (runs t (opening t) p) (isTrue (final t p) (t .goal)) (keepsRules t p)
   where
-    go : (a b : Bool) (i : ℕ)
-        → (cond a (cond b (solved (cost t p) (metric t p) (utility t p) (metSet t p)) goal-missed) (stopped i)
-        ≡ solved (cost t p) (metric t p) (utility t p) (metSet t p)) ↔ T (a && b)
-    go true true i = (λ e. tt, λ h. refl)
-    go true false i = (λ e. subst (λ (v : Verdict). T (isSolved v)) (sym e) tt, λ h. absurd h)
-    go false b i = (λ e. subst (λ (v : Verdict). T (isSolved v)) (sym e) tt, λ h. absurd h)
+    go : (a b c : Bool) → (verdictBy t p a b c ≡ solved (cost t p) (metric t p) (utility t p) (metSet t p)) ↔ T (a && b && c)
+    go true true true = (λ e. tt, λ h. refl)
+    go true true false = (λ e. subst (λ (v : Verdict). T (isSolved v)) (sym e) tt, λ h. absurd h)
+    go true false true = (λ e. subst (λ (v : Verdict). T (isSolved v)) (sym e) tt, λ h. absurd h)
+    go true false false = (λ e. subst (λ (v : Verdict). T (isSolved v)) (sym e) tt, λ h. absurd h)
+    go false b c = (λ e. subst (λ (v : Verdict). T (isSolved v)) (sym e) tt, λ h. absurd h)
 
 abbrev metricIn : Verdict → ℕ
 metricIn (solved c m u s) = m
 metricIn (stopped i) = 0
 metricIn goal-missed = 0
+metricIn (rule-missed i) = 0
 
 -- where the verdict is solved with metric m, the plan solves and m is its metric
 pub solved-only : (t : Task) (p : List ℕ) (c m : ℕ) (u : ℤ) (s : ℕ → Bool) → verdict t p ≡ solved c m u s → T (solves t p) × (metric t p ≡ m)
 unfolding verdict
-solved-only t p c m u s = go (runs t (opening t) p) (isTrue (final t p) (t .goal)) (stepsApplied t (opening t) p)
+solved-only t p c m u s = go (runs t (opening t) p) (isTrue (final t p) (t .goal)) (keepsRules t p)
   where
-    go : (a b : Bool) (i : ℕ) → cond a (cond b (solved (cost t p) (metric t p) (utility t p) (metSet t p)) goal-missed) (stopped i) ≡ solved c m u s
-        → T (a && b) × (metric t p ≡ m)
-    go true true i e = (tt, ap metricIn e)
-    go true false i e = absurd (subst (λ (v : Verdict). T (isSolved v)) (sym e) tt)
-    go false b i e = absurd (subst (λ (v : Verdict). T (isSolved v)) (sym e) tt)
+    go : (a b k : Bool) → verdictBy t p a b k ≡ solved c m u s → T (a && b && k) × (metric t p ≡ m)
+    go true true true e = (tt, ap metricIn e)
+    go true true false e = absurd (subst (λ (v : Verdict). T (isSolved v)) (sym e) tt)
+    go true false true e = absurd (subst (λ (v : Verdict). T (isSolved v)) (sym e) tt)
+    go true false false e = absurd (subst (λ (v : Verdict). T (isSolved v)) (sym e) tt)
+    go false b k e = absurd (subst (λ (v : Verdict). T (isSolved v)) (sym e) tt)
 
 -- p stops at step i from s on: the steps before it apply in turn, and it doesn't apply
 pub record Stops (t : Task) (s : State) (p : List ℕ) (i : ℕ) : Type 0 where
@@ -64,6 +67,63 @@ stops t s (k ∷ ks) e = go (applies t s k) refl e (stops t (after s (actionAt t
         let r : Stops t (after s (actionAt t k)) ks (stepsApplied t (after s (actionAt t k)) ks) = rest e in
         record { within = omega (arith, r .within); before = ap₂ _&&_ a (r .before); here = r .here }
     go false a e rest = record { within = omega arith; before = refl; here = a }
+
+-- number i of a list is the first that fails a test: those before it pass
+pub record Lowest {A : Type 0} (ok : A → Bool) (xs : List A) (d : A) (i : ℕ) : Type 0 where
+  pub within : i < length xs
+  pub here : ok (getD xs i d) ≡ false
+  pub before : all ok (take i xs) ≡ true
+
+pub lowest : {A : Type 0} (ok : A → Bool) (xs : List A) (d : A) → all ok xs ≡ false → Lowest ok xs d (firstFailing ok xs)
+lowest ok [] d e = absurd (true≢false e)
+lowest ok (x ∷ xs) d e = go (ok x) refl e (lowest ok xs d)
+  where
+    go : (b : Bool) → ok x ≡ b → (b && all ok xs) ≡ false → (all ok xs ≡ false → Lowest ok xs d (firstFailing ok xs))
+        → Lowest ok (x ∷ xs) d (cond b (suc (firstFailing ok xs)) 0)
+    go true a e rest =
+        let r : Lowest ok xs d (firstFailing ok xs) = rest e in
+        record { within = omega (arith, r .within); here = r .here; before = ap₂ _&&_ a (r .before) }
+    go false a e rest = record { within = omega arith; here = a; before = refl }
+
+-- the first that fails stands in the list where one fails, and after it where none does
+pub one-fails : {A : Type 0} (ok : A → Bool) (xs : List A) → firstFailing ok xs < length xs → all ok xs ≡ false
+one-fails ok [] h = absurd (omega arith)
+one-fails ok (x ∷ xs) h = go (ok x) h (one-fails ok xs)
+  where
+    go : (b : Bool) → cond b (suc (firstFailing ok xs)) 0 < length (x ∷ xs) → (firstFailing ok xs < length xs → all ok xs ≡ false) → (b && all ok xs) ≡ false
+    go true h rest = rest (omega arith)
+    go false h rest = refl
+
+pub none-fails : {A : Type 0} (ok : A → Bool) (xs : List A) → length xs ≤ firstFailing ok xs → all ok xs ≡ true
+none-fails ok [] h = refl
+none-fails ok (x ∷ xs) h = go (ok x) h (none-fails ok xs)
+  where
+    go : (b : Bool) → length (x ∷ xs) ≤ cond b (suc (firstFailing ok xs)) 0 → (length xs ≤ firstFailing ok xs → all ok xs ≡ true) → (b && all ok xs) ≡ true
+    go true h rest = rest (omega arith)
+    go false h rest = absurd (omega arith)
+
+-- the number of a missed rule, from 1 on; 0 where the verdict is another
+abbrev ruleIn : Verdict → ℕ
+ruleIn (solved c m u s) = 0
+ruleIn (stopped i) = 0
+ruleIn goal-missed = 0
+ruleIn (rule-missed i) = suc i
+
+-- where the verdict is rule missed, the steps apply, the goal holds, and the number is that of the lowest hard preference missed
+pub rule-missed-only : (t : Task) (p : List ℕ) (i : ℕ) → verdict t p ≡ rule-missed i
+    → T (runs t (opening t) p && isTrue (final t p) (t .goal)) × Lowest (isKept t p) (t .preferences) noPreference i
+unfolding verdict
+rule-missed-only t p i = go (runs t (opening t) p) (isTrue (final t p) (t .goal)) (keepsRules t p) refl
+  where
+    go : (a b k : Bool) → keepsRules t p ≡ k → verdictBy t p a b k ≡ rule-missed i
+        → T (a && b) × Lowest (isKept t p) (t .preferences) noPreference i
+    go true true true q e = absurd (omega (arith, ap ruleIn e))
+    go true true false q e =
+        let same : missedRule t p ≡ i = omega (arith, ap ruleIn e) in
+        (tt, subst (Lowest (isKept t p) (t .preferences) noPreference) same (lowest (isKept t p) (t .preferences) noPreference q))
+    go true false true q e = absurd (omega (arith, ap ruleIn e))
+    go true false false q e = absurd (omega (arith, ap ruleIn e))
+    go false b k q e = absurd (omega (arith, ap ruleIn e))
 
 -- every weight is that of a met preference or of a missed one
 module _ (t : Task) (p : List ℕ) where

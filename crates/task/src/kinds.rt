@@ -3,7 +3,7 @@ ghost use mathlib.Core.Path.{_≡_};
 ghost use Prim.Native.Nat.{_*_, _≤_, _<_};
 ghost use lib.Dec.{T};
 ghost use lib.ListN.{length, getD};
-ghost use Rattle.task.specs.File.{kindOf};
+ghost use Rattle.task.specs.File.{softMark, kindOf};
 ghost use Rattle.task.specs.Spelling.{kindSpellable};
 ghost use Rattle.task.specs.Rows.{stepsAt};
 ghost use Rattle.task.specs.Answers.{asKind};
@@ -22,13 +22,13 @@ pub enum Kind {
     AlwaysWithin(u8),
 }
 
-// The kind of the preference that row i opens.
+// The kind of the preference that row i opens, hard or soft.
 pub fn kind_at(marks: &[u8], values: &[u8], i: usize) -> Kind
     requires { ⌜ (4 * length (now marks) ≤ length (now values)) × (length (now marks) ≤ 12000) × (i < length (now marks)) ⌝ }
-    ensures { λ r. ⌜ asKind r ≡ kindOf (getD (now (marks .entry)) i 0) (stepsAt (now (marks .entry)) (now (values .entry)) i) ⌝ }
+    ensures { λ r. ⌜ asKind r ≡ kindOf (softMark (getD (now (marks .entry)) i 0)) (stepsAt (now (marks .entry)) (now (values .entry)) i) ⌝ }
     ensures { λ r. ⌜ T (kindSpellable (asKind r)) ⌝ }
 {
-    let mark = marks[i];
+    let mark = super::soft_mark(marks[i]);
     match mark {
         marks::ALWAYS => Kind::Always,
         marks::SOMETIME => Kind::Sometime,
