@@ -15,8 +15,8 @@ use Rattle.task.specs.Task.{Condition, Preference, Row, row, two-sided, stepsRo
 use Rattle.task.specs.File.{paired}
 use Rattle.task.specs.Rows.{between, runAt, Stops}
 use Rattle.task.proofs.Passing.{condition-passes, steps-pass}
-use Rattle.task.proofs.Steps.{behind-opening, behind-steps}
-use Rattle.task.proofs.Reading.{mark-at, passes, run-stop, run-through, goes-on, stops-at, ends-at}
+use Rattle.task.proofs.Steps.{behind-opening, behind-steps, soft-at}
+use Rattle.task.proofs.Reading.{passes, run-stop, run-through, goes-on, stops-at, ends-at}
 use Rattle.task.proofs.Positions.{drop-behind, preferences-stop, past-kinds}
 use Rattle.trackers.specs.Writer.{part}
 use Rattle.trackers.specs.Places.{endAt, Located}
@@ -144,7 +144,7 @@ module _ (ms vs : List ℕ) (at : ℕ) (q : Preference) (qs : List Preference)
   pub located : at < length ms → Located ms vs at q qs (record { first = first; mid = mid; second = second; next = next })
   located h =
       record {
-        mark = mark-at ms vs at h e;
+        mark = soft-at ms vs at q (concatMap preferenceRows qs) e h;
         first = part-is ms vs first mid (conditionRows (q .first)) (secondRows (two-sided (q .kind)) ++ more) behind-head mid-is;
         second = λ p. second-part (q .second) (behind-second true p);
         rest = rest-behind (cond (two-sided (q .kind)) (q .second) []) (behind-second (two-sided (q .kind)) refl);

@@ -13,7 +13,7 @@ use Rattle.task.specs.Lists.{one, numbers, concatMap, concatFrom}
 use Rattle.task.specs.Marks.{EFFECT, CLAUSE, HOLDS, LACKS, ADD, DELETE, AT-END}
 use Rattle.task.specs.Task.{Kind, always, sometime, at-end, at-most-once, sometime-before, sometime-after, within, always-within, Clause, Condition, Effect}
 use Rattle.task.specs.Task.{Preference, Row, row, kindMark, two-sided, literalRow, clauseRows, conditionRows, effectRows, preferenceRows}
-use Rattle.task.specs.File.{paired, kindOf}
+use Rattle.task.specs.File.{paired, softMark, kindOf}
 use Rattle.task.specs.Meaning.{noPreference}
 use Rattle.task.specs.Spelling.{kindSpellable}
 use Rattle.task.specs.Rows.{valueAt, stepsAt}
@@ -22,8 +22,7 @@ use Rattle.trackers.specs.Writer.{part}
 use Rattle.trackers.specs.Places.{Located}
 use Rattle.trackers.specs.declared.places.Sides.{Sides}
 use Rattle.task.proofs.Tests.{concat-append}
-use Rattle.task.proofs.Reading.{mark-at}
-use Rattle.task.proofs.Steps.{kind-at}
+use Rattle.task.proofs.Steps.{soft-at, kind-at}
 use Rattle.trackers.specs.Rows.{changeRows, closeRows, falseRow, falseRows, onceRows, beforeRows, afterRows, onwardRows, withinRows}
 use Rattle.trackers.specs.Rows.{waitRows, soonRows, trackerRows}
 use Rattle.trackers.specs.Trackers.{preferenceTrackers, allTrackerRows}
@@ -286,8 +285,8 @@ other-side (always-within n) last s b d t xs ys us h = ap (soonRows s b d t xs) 
 module _ (ms vs : List ℕ) (at : ℕ) (last : Bool) (s d : ℕ) (q : Preference) (qs : List Preference)
     (e : drop at (paired ms vs) ≡ concatMap preferenceRows (q ∷ qs)) where
   -- at-end has no trackers but in end
-  pub not-yet : at < length ms → eqb (getD ms at 0) AT-END && not last ≡ true → [] ≡ preferenceTrackers last s d q
-  not-yet h t = go (q .kind) last (ap (λ (m : ℕ). eqb m AT-END && not last) (sym (mark-at ms vs at h e)) ∙ t)
+  pub not-yet : at < length ms → eqb (softMark (getD ms at 0)) AT-END && not last ≡ true → [] ≡ preferenceTrackers last s d q
+  not-yet h t = go (q .kind) last (ap (λ (m : ℕ). eqb m AT-END && not last) (sym (soft-at ms vs at q (concatMap preferenceRows qs) e h)) ∙ t)
     where
       go : (k : Kind) (l : Bool) → eqb (kindMark k) AT-END && not l ≡ true → [] ≡ concatMap effectRows (trackersOf k l s (s + 1) d (q .first) (q .second))
       go at-end false p = refl
@@ -302,7 +301,7 @@ module _ (ms vs : List ℕ) (at : ℕ) (last : Bool) (s d : ℕ) (q : Preference
 
   -- the trackers by the mark, the sides and the steps that were found
   pub as-located : at < length ms → T (kindSpellable (q .kind)) → (p : Sides) → Located ms vs at q qs p
-      → trackerRows (getD ms at 0) last s (s + 1) d (stepsAt ms vs at) (part ms vs (p .first) (p .mid)) (part ms vs (p .second) (p .next)) ≡ preferenceTrackers last s d q
+      → trackerRows (softMark (getD ms at 0)) last s (s + 1) d (stepsAt ms vs at) (part ms vs (p .first) (p .mid)) (part ms vs (p .second) (p .next)) ≡ preferenceTrackers last s d q
   as-located h fine p l =
       (λ z. trackerRows (l .mark z) last s (s + 1) d (stepsAt ms vs at) (l .first z) (part ms vs (p .second) (p .next)))
       ∙ other-side (q .kind) last s (s + 1) d (stepsAt ms vs at) (conditionRows (q .first)) (part ms vs (p .second) (p .next)) (conditionRows (q .second)) (l .second)
@@ -331,19 +330,19 @@ before-next F qs c h = omega (arith, ap (λ (n : ℕ). further (take n qs)) (add
 
 module _ (ms vs : List ℕ) (at : ℕ) (h : at < length ms) (q : Preference) (more : List Row) (e : drop at (paired ms vs) ≡ preferenceRows q ++ more) where
   module _ (fine : T (kindSpellable (q .kind))) (n : ℕ) (read : n ≡ stepsAt ms vs at) where
-    as-read : kindOf (getD ms at 0) n ≡ q .kind
-    as-read = ap (kindOf (getD ms at 0)) read ∙ kind-at ms vs at q more e h fine
+    as-read : kindOf (softMark (getD ms at 0)) n ≡ q .kind
+    as-read = ap (kindOf (softMark (getD ms at 0))) read ∙ kind-at ms vs at q more e h fine
 
-    pub further-within : getD ms at 0 ≡ 17 → n + 1 ≡ furtherFacts (q .kind)
+    pub further-within : softMark (getD ms at 0) ≡ 17 → n + 1 ≡ furtherFacts (q .kind)
     further-within m = ap furtherFacts (sym (ap (λ (k : ℕ). kindOf k n) m) ∙ as-read)
 
-    pub further-soon : getD ms at 0 ≡ 18 → n ≡ furtherFacts (q .kind)
+    pub further-soon : softMark (getD ms at 0) ≡ 18 → n ≡ furtherFacts (q .kind)
     further-soon m = ap furtherFacts (sym (ap (λ (k : ℕ). kindOf k n) m) ∙ as-read)
 
-  pub further-none : (getD ms at 0 ≡ 17 → ⊥) → (getD ms at 0 ≡ 18 → ⊥) → 0 ≡ furtherFacts (q .kind)
-  further-none w a = go (q .kind) (mark-at ms vs at h e)
+  pub further-none : (softMark (getD ms at 0) ≡ 17 → ⊥) → (softMark (getD ms at 0) ≡ 18 → ⊥) → 0 ≡ furtherFacts (q .kind)
+  further-none w a = go (q .kind) (soft-at ms vs at q more e h)
     where
-      go : (k : Kind) → getD ms at 0 ≡ kindMark k → 0 ≡ furtherFacts k
+      go : (k : Kind) → softMark (getD ms at 0) ≡ kindMark k → 0 ≡ furtherFacts k
       go always m = refl
       go sometime m = refl
       go at-end m = refl

@@ -7,7 +7,7 @@ use lib.Dec.{T}
 use lib.ListN.{length, drop, getD}
 use Rattle.task.specs.Lists.{all, concatMap}
 use Rattle.task.specs.Task.{Preference, Row, kindMark, two-sided, conditionRows, preferenceRows}
-use Rattle.task.specs.File.{paired}
+use Rattle.task.specs.File.{paired, softMark}
 use Rattle.task.specs.Rows.{between, runAt}
 use Rattle.task.specs.Spelling.{kindSpellable}
 use Rattle.trackers.specs.Writer.{part}
@@ -19,7 +19,7 @@ endAt least most = runAt (λ (w : Unit {0}) (x : Row). w) (between least most) (
 
 -- the rows of preference q, which stands at row `at` with the preferences qs behind it
 pub record Located (ms vs : List ℕ) (at : ℕ) (q : Preference) (qs : List Preference) (r : Sides) : Type 0 where
-  pub mark : getD ms at 0 ≡ kindMark (q .kind)
+  pub mark : softMark (getD ms at 0) ≡ kindMark (q .kind)
   pub first : part ms vs (r .first) (r .mid) ≡ conditionRows (q .first)
   pub second : two-sided (q .kind) ≡ true → part ms vs (r .second) (r .next) ≡ conditionRows (q .second)
   pub rest : drop (r .next) (paired ms vs) ≡ concatMap preferenceRows qs

@@ -8,6 +8,7 @@ pub mod writer;
 ghost use mathlib.Core.Path.{_≡_};
 ghost use Prim.Native.Nat.{_+_, _*_, _≤_, _<_};
 ghost use lib.ListN.{length, getD};
+ghost use Rattle.task.specs.File.{softMark};
 ghost use Rattle.task.specs.Rows.{stepsAt};
 ghost use Rattle.trackers.specs.Writer.{Wrote, part};
 ghost use Rattle.trackers.specs.Trackers.{WroteAt, WroteFor, preferenceTrackers, allTrackerRows, Further};
@@ -46,10 +47,10 @@ fn trackers_of(
     last: bool,
 ) -> usize
     requires { ⌜ (n ≤ 12000) × (8 + 5 * n ≤ length (now out)) × (4 * length (now marks) ≤ length (now values)) × (length (now marks) ≤ 12000) × (at < length (now marks)) × (p .mid ≤ length (now marks)) × (p .next ≤ length (now marks)) × (s < 1000000) × (d < 1000000) ⌝ }
-    ensures { λ r. ⌜ Wrote (now (out .entry)) n i (trackerRows (getD (now (marks .entry)) at 0) last s (s + 1) d (stepsAt (now (marks .entry)) (now (values .entry)) at) (part (now (marks .entry)) (now (values .entry)) (p .first) (p .mid)) (part (now (marks .entry)) (now (values .entry)) (p .second) (p .next))) r (now (out .exit)) ⌝ }
+    ensures { λ r. ⌜ Wrote (now (out .entry)) n i (trackerRows (softMark (getD (now (marks .entry)) at 0)) last s (s + 1) d (stepsAt (now (marks .entry)) (now (values .entry)) at) (part (now (marks .entry)) (now (values .entry)) (p .first) (p .mid)) (part (now (marks .entry)) (now (values .entry)) (p .second) (p .next))) r (now (out .exit)) ⌝ }
 {
     let b = s + 1;
-    let mark = marks[at];
+    let mark = task::soft_mark(marks[at]);
     match mark {
         marks::ALWAYS => kinds::always(&mut *out, n, i, marks, values, p.first, p.mid, b),
         marks::AT_MOST_ONCE => {
@@ -91,7 +92,7 @@ fn trackers_at(
     if marks.len() <= at {
         return i;
     }
-    let mark = marks[at];
+    let mark = task::soft_mark(marks[at]);
     if (mark == marks::AT_END) & !last {
         return i;
     }
@@ -107,7 +108,7 @@ fn further_at(marks: &[u8], values: &[u8], at: usize) -> u32
     if marks.len() <= at {
         return 0;
     }
-    let mark = marks[at];
+    let mark = task::soft_mark(marks[at]);
     match mark {
         marks::WITHIN => (rows::steps_at(marks, values, at) as u32) + 1,
         marks::ALWAYS_WITHIN => rows::steps_at(marks, values, at) as u32,

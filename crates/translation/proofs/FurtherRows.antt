@@ -1,6 +1,6 @@
 -- The facts D1, D2, … counted over the rows of a task are those of its preferences.
 use mathlib.Core.Path.{_≡_, refl, sym, ap, ap₂, _∙_}
-use mathlib.Core.Bool.{Bool, true, false, not, cond, _&&_}
+use mathlib.Core.Bool.{Bool, true, false, not, cond, _&&_, _||_}
 use mathlib.Core.List.{List, [], _∷_, _++_, map, append-nil}
 use Prim.Native.Nat.{ℕ, _+_, _*_, _%_, _≤_, _<_}
 use native.Mathlib.Nat.{zero-add}
@@ -8,9 +8,9 @@ use native.Mathlib.Omega.{arith}
 use lib.Dec.{T, leb, leb→le}
 use lib.ListN.{length, drop, getD}
 use Rattle.task.specs.Lists.{all, concatMap, sum}
-use Rattle.task.specs.Marks.{START, GOAL, WITHIN, STEPS}
+use Rattle.task.specs.Marks.{START, GOAL, WITHIN, STEPS, HARD}
 use Rattle.task.specs.Task.{Kind, always, sometime, at-end, at-most-once, sometime-before, sometime-after, within, always-within, Action, Preference, Task, Row, row}
-use Rattle.task.specs.Task.{kindMark, stepsRows, conditionRows, effectRows, actionRows, preferenceRows, taskRows}
+use Rattle.task.specs.Task.{openingMark, stepsRows, conditionRows, effectRows, actionRows, preferenceRows, taskRows}
 use Rattle.task.specs.File.{is, paired}
 use Rattle.task.specs.Check.{mostSteps}
 use Rattle.task.specs.Spelling.{kindSpellable, preferenceSpellable, spellable}
@@ -30,25 +30,34 @@ further-append (x ∷ xs) ys = let e : furtherRows (xs ++ ys) ≡ furtherRows xs
 
 -- rows of other marks
 abbrev quiet : Row → Bool
-quiet x = not (is STEPS x) && not (is WITHIN x)
+quiet x = not (is STEPS x) && not (is WITHIN x || is (WITHIN + HARD) x)
 
 quiet-rows : (xs : List Row) → T (all quiet xs) → furtherRows xs ≡ 0
 quiet-rows [] t = refl
 quiet-rows (x ∷ xs) t =
-    let e : furtherRow x ≡ 0 = rw (as-false (is STEPS x) (search tests), as-false (is WITHIN x) (search tests)) in
+    let e : furtherRow x ≡ 0 = rw (as-false (is STEPS x) (search tests), as-false (is WITHIN x || is (WITHIN + HARD) x) (search tests)) in
     omega (arith, e, quiet-rows xs (search tests))
 
 -- A preference
 
-head-further : (k : Kind) (w : ℕ) → T (kindSpellable k) → furtherRow (row (kindMark k) w) + furtherRows (stepsRows k) ≡ furtherFacts k
-head-further always w t = refl
-head-further sometime w t = refl
-head-further at-end w t = refl
-head-further at-most-once w t = refl
-head-further sometime-before w t = refl
-head-further sometime-after w t = refl
-head-further (within n) w t = let few : n ≤ 15 = leb→le n mostSteps t in omega arith
-head-further (always-within n) w t = let few : n ≤ 15 = leb→le n mostSteps t in omega arith
+head-further : (h : Bool) (k : Kind) (w : ℕ) → T (kindSpellable k)
+    → furtherRow (row (openingMark h k) w) + furtherRows (stepsRows k) ≡ furtherFacts k
+head-further true always w t = refl
+head-further true sometime w t = refl
+head-further true at-end w t = refl
+head-further true at-most-once w t = refl
+head-further true sometime-before w t = refl
+head-further true sometime-after w t = refl
+head-further true (within n) w t = let few : n ≤ 15 = leb→le n mostSteps t in omega arith
+head-further true (always-within n) w t = let few : n ≤ 15 = leb→le n mostSteps t in omega arith
+head-further false always w t = refl
+head-further false sometime w t = refl
+head-further false at-end w t = refl
+head-further false at-most-once w t = refl
+head-further false sometime-before w t = refl
+head-further false sometime-after w t = refl
+head-further false (within n) w t = let few : n ≤ 15 = leb→le n mostSteps t in omega arith
+head-further false (always-within n) w t = let few : n ≤ 15 = leb→le n mostSteps t in omega arith
 
 preference-further : (q : Preference) → T (kindSpellable (q .kind)) → furtherRows (preferenceRows q) ≡ furtherFacts (q .kind)
 preference-further q t =
@@ -56,7 +65,7 @@ preference-further q t =
       arith,
       further-append (stepsRows (q .kind)) (conditionsOf q),
       quiet-rows (conditionsOf q) (conditions-pass quiet (λ v. tt) (λ v. tt) (λ v. tt) (λ v. tt) q),
-      head-further (q .kind) (q .weight) t,
+      head-further (q .hard) (q .kind) (q .weight) t,
     )
 
 preferences-further : (qs : List Preference) → T (all preferenceSpellable qs) → furtherRows (concatMap preferenceRows qs) ≡ further qs

@@ -11,21 +11,22 @@ use Rattle.task.specs.Lists.{all, one, concatMap, concatFrom}
 use Rattle.task.specs.Marks.{ACTION, EFFECT, CLAUSE, HOLDS, LACKS, DELETE}
 use Rattle.task.specs.Task.{always, sometime-before, sometime-after, always-within, Condition, Action, Preference}
 use Rattle.task.specs.Task.{Row, row, clauseRows, conditionRows, effectRows, actionRows, preferenceRows}
-use Rattle.task.specs.File.{paired, kindOf}
+use Rattle.task.specs.File.{paired, opensHard, softMark, kindOf}
 use Rattle.task.specs.Rows.{between, valueAt, stepsAt}
 use Rattle.task.specs.Spelling.{kindSpellable}
 use Rattle.task.proofs.Passing.{effects-pass}
+use Rattle.task.proofs.Tests.{concat-append}
 use Rattle.task.proofs.Bytes.{length-paired}
 use Rattle.task.proofs.Reading.{row-at, passes}
 use Rattle.task.proofs.Positions.{drop-next, drop-behind, tailRows, tail-stops, effects-stop, past-kinds}
-use Rattle.task.proofs.Steps.{kind-at}
+use Rattle.task.proofs.Steps.{hard-at, kind-at}
 use Rattle.classical.specs.Translation.{holdsFact, lacksFact, alone, factS, factB, factC, normal, ended, metClause, allTrackers, sourceAction, endAction}
 use Rattle.classical.specs.Translation.{closing, collect, forgo, closings, allClosed}
 use Rattle.trackers.specs.Writer.{Wrote, part}
 use Rattle.trackers.specs.Places.{endAt, Starts}
 use Rattle.trackers.specs.Rows.{singleRows}
 use Rattle.trackers.specs.Trackers.{allTrackerRows}
-use Rattle.translation.specs.Parts.{sourceRows, endRows, missed, closingRows, preferenceClosings, preferencesTo, closedRows}
+use Rattle.translation.specs.Parts.{sourceRows, endRows, missed, neverRows, closingRows, preferenceClosings, preferencesTo, closedRows}
 use Rattle.trackers.proofs.Putting.{Onward, then, wrote-none, wrote-full, as-rows}
 use Rattle.trackers.proofs.Ends.{end-behind, part-is, condition-between}
 use Rattle.trackers.proofs.TrackerRows.{concat-from, rows-append, effects-append}
@@ -157,6 +158,11 @@ pub closed-is : (F k : ℕ) (qs : List Preference) → closedRows F k (length qs
 closed-is F k [] = refl
 closed-is F k (q ∷ qs) = ap (λ (xs : List Row). singleRows HOLDS (factC F k) ++ xs) (closed-is F (k + 1) qs)
 
+never-is : (F P E : ℕ) → E ≡ ended F P → (hard : Bool)
+    → neverRows hard E ≡ conditionRows (cond hard (alone (one (lacksFact (ended F P)))) [])
+never-is F P E e true = ap (singleRows LACKS) e
+never-is F P E e false = refl
+
 pub closings-are : (F P k E : ℕ) (q : Preference) → E ≡ ended F P
     → preferenceClosings (eqb (factS F k) F) (factS F k) E q ≡ concatMap actionRows (collect F P k q ∷ forgo F P k q ∷ [])
 closings-are F P k E q e =
@@ -166,8 +172,11 @@ closings-are F P k E q e =
     let collected : closingRows 0 first S E (clauseRows (metClause S B (q .kind))) ≡ actionRows (collect F P k q) =
     ap (closingRows 0 first S E) (sym (append-nil (clauseRows (metClause S B (q .kind)))))
     ∙ closing-is F P k 0 (one (metClause S B (q .kind))) S E refl e in
-    let forgone : closingRows (q .weight) first S E (conditionRows (missed S B (q .kind))) ≡ actionRows (forgo F P k q) =
-    closing-is F P k (q .weight) (missed S B (q .kind)) S E refl e in
+    let never : Condition = cond (q .hard) (alone (one (lacksFact (ended F P)))) [] in
+    let forgone : closingRows (q .weight) first S E (conditionRows (missed S B (q .kind)) ++ neverRows (q .hard) E) ≡ actionRows (forgo F P k q) =
+    ap (λ (xs : List Row). closingRows (q .weight) first S E (conditionRows (missed S B (q .kind)) ++ xs)) (never-is F P E e (q .hard))
+    ∙ ap (closingRows (q .weight) first S E) (sym (concat-append clauseRows (missed S B (q .kind)) never))
+    ∙ closing-is F P k (q .weight) (missed S B (q .kind) ++ never) S E refl e in
     (λ z. collected z ++ (forgone ∙ sym (append-nil (actionRows (forgo F P k q)))) z)
 
 -- collect and forgo of preference k over F facts
@@ -187,14 +196,16 @@ headValue (x ∷ xs) = x .value
 -- collect and forgo by the mark and the value that were read
 pub as-read : (ms vs : List ℕ) (at : ℕ) (first : Bool) (s E : ℕ) (q : Preference) (qs : List Preference)
     → drop at (paired ms vs) ≡ concatMap preferenceRows (q ∷ qs) → T (kindSpellable (q .kind)) → at < length ms → (v : ℕ) → v ≡ valueAt vs at
-    → closingRows 0 first s E (clauseRows (metClause s (s + 1) (kindOf (getD ms at 0) (stepsAt ms vs at))))
-    ++ closingRows v first s E (conditionRows (missed s (s + 1) (kindOf (getD ms at 0) (stepsAt ms vs at))))
+    → (m : ℕ) → m ≡ softMark (getD ms at 0) → (hard : Bool) → hard ≡ opensHard (getD ms at 0)
+    → closingRows 0 first s E (clauseRows (metClause s (s + 1) (kindOf m (stepsAt ms vs at))))
+    ++ closingRows v first s E (conditionRows (missed s (s + 1) (kindOf m (stepsAt ms vs at))) ++ neverRows hard E)
     ≡ preferenceClosings first s E q
-as-read ms vs at first s E q qs e fine h v value =
-    let kind : kindOf (getD ms at 0) (stepsAt ms vs at) ≡ q .kind = kind-at ms vs at q (concatMap preferenceRows qs) e h fine in
+as-read ms vs at first s E q qs e fine h v value m mark hard is-hard =
+    let rule : hard ≡ q .hard = is-hard ∙ hard-at ms vs at q (concatMap preferenceRows qs) e h in
+    let kind : kindOf m (stepsAt ms vs at) ≡ q .kind = ap (λ (m : ℕ). kindOf m (stepsAt ms vs at)) mark ∙ kind-at ms vs at q (concatMap preferenceRows qs) e h fine in
     let weight : v ≡ q .weight = value ∙ ap headValue (sym (row-at ms vs at h) ∙ e) in
     (λ z. closingRows 0 first s E (clauseRows (metClause s (s + 1) (kind z)))
-    ++ closingRows (weight z) first s E (conditionRows (missed s (s + 1) (kind z))))
+    ++ closingRows (weight z) first s E (conditionRows (missed s (s + 1) (kind z)) ++ neverRows (rule z) E))
 
 -- The goal's clauses
 

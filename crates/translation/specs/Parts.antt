@@ -35,6 +35,10 @@ endRows F N qs =
 abbrev pub missed : ℕ → ℕ → Kind → Condition
 missed S B k = alone (map deny (metClause S B k))
 
+-- what forgo of a hard preference has after them: lacks ended
+abbrev pub neverRows : Bool → ℕ → List Row
+neverRows hard E = cond hard (singleRows LACKS E) []
+
 -- what collect and forgo have before the outcome
 abbrev pub closingHead : ℕ → Bool → ℕ → ℕ → List Row
 closingHead cost first s E =
@@ -47,7 +51,7 @@ closingRows cost first s E outcome = closingHead cost first s E ++ (outcome ++ (
 abbrev pub preferenceClosings : Bool → ℕ → ℕ → Preference → List Row
 preferenceClosings first s E q =
     closingRows 0 first s E (clauseRows (metClause s (s + 1) (q .kind)))
-    ++ closingRows (q .weight) first s E (conditionRows (missed s (s + 1) (q .kind)))
+    ++ closingRows (q .weight) first s E (conditionRows (missed s (s + 1) (q .kind)) ++ neverRows (q .hard) E)
 
 abbrev pub ClosesFor : List ℕ → List ℕ → List ℕ → ℕ → ℕ → List ℕ → ℕ → ℕ → ℕ → List ℕ → Type 0
 ClosesFor ms vs starts F E b n i r out =

@@ -14,6 +14,7 @@ fn count_row(mark: u8, value: u32) -> u32
     match mark {
         marks::STEPS => value % 16,
         marks::WITHIN => 1,
+        marks::HARD_WITHIN => 1,
         _ => 0,
     }
 }

@@ -8,7 +8,7 @@ ghost use Rattle.task.specs.File.{kindOf};
 ghost use Rattle.classical.specs.Translation.{metClause};
 ghost use Rattle.trackers.specs.Writer.{Wrote, part};
 ghost use Rattle.trackers.specs.Trackers.{WroteAt, WroteFor};
-ghost use Rattle.translation.specs.Parts.{sourceRows, endRows, missed, preferencesTo, closedRows, closingHead, closingRows, preferenceClosings, ActsFor, ClosesFor};
+ghost use Rattle.translation.specs.Parts.{sourceRows, endRows, missed, neverRows, preferencesTo, closedRows, closingHead, closingRows, preferenceClosings, ActsFor, ClosesFor};
 use task::marks;
 use task::rows;
 use trackers::places;
@@ -158,6 +158,34 @@ fn open_closing(
     writer::put_single(&mut *out, n, k, marks::LACKS, s + 2)
 }
 
+// What forgo of a hard preference has after its outcome: lacks ended.
+fn put_never(out: &mut [u8], n: usize, i: usize, hard: bool, ended: u32) -> usize
+    requires { ⌜ (n ≤ 12000) × (8 + 5 * n ≤ length (now out)) ⌝ }
+    ensures { λ r. ⌜ Wrote (now (out .entry)) n i (neverRows hard ended) r (now (out .exit)) ⌝ }
+{
+    if hard {
+        return writer::put_single(&mut *out, n, i, marks::LACKS, ended);
+    }
+    i
+}
+
+// The outcome that forgo needs.
+fn put_forgone(
+    out: &mut [u8],
+    n: usize,
+    i: usize,
+    mark: u8,
+    hard: bool,
+    s: u32,
+    ended: u32,
+) -> usize
+    requires { ⌜ (n ≤ 12000) × (8 + 5 * n ≤ length (now out)) × (s < 1000000) ⌝ }
+    ensures { λ r. ⌜ ((t : ℕ) → Wrote (now (out .entry)) n i (conditionRows (missed s (s + 1) (kindOf mark t)) ++ neverRows hard ended) r (now (out .exit))) ⌝ }
+{
+    let k = put_missed(&mut *out, n, i, mark, s);
+    put_never(&mut *out, n, k, hard, ended)
+}
+
 // The effect of collect and forgo: C is added.
 fn put_closed(out: &mut [u8], n: usize, i: usize, s: u32) -> usize
     requires { ⌜ (n ≤ 12000) × (8 + 5 * n ≤ length (now out)) × (s < 1000000) ⌝ }
@@ -173,19 +201,20 @@ fn put_closing(
     n: usize,
     i: usize,
     mark: u8,
+    hard: bool,
     weight: u32,
     first: bool,
     s: u32,
     ended: u32,
 ) -> usize
     requires { ⌜ (n ≤ 12000) × (8 + 5 * n ≤ length (now out)) × (1 ≤ s) × (s < 1000000) ⌝ }
-    ensures { λ r. ⌜ ((t : ℕ) → Wrote (now (out .entry)) n i (closingRows 0 first s ended (clauseRows (metClause s (s + 1) (kindOf mark t))) ++ closingRows weight first s ended (conditionRows (missed s (s + 1) (kindOf mark t)))) r (now (out .exit))) ⌝ }
+    ensures { λ r. ⌜ ((t : ℕ) → Wrote (now (out .entry)) n i (closingRows 0 first s ended (clauseRows (metClause s (s + 1) (kindOf mark t))) ++ closingRows weight first s ended (conditionRows (missed s (s + 1) (kindOf mark t)) ++ neverRows hard ended)) r (now (out .exit))) ⌝ }
 {
     let k = open_closing(&mut *out, n, i, 0, first, s, ended);
     let k = put_met(&mut *out, n, k, mark, s);
     let k = put_closed(&mut *out, n, k, s);
     let k = open_closing(&mut *out, n, k, weight, first, s, ended);
-    let k = put_missed(&mut *out, n, k, mark, s);
+    let k = put_forgone(&mut *out, n, k, mark, hard, s, ended);
     put_closed(&mut *out, n, k, s)
 }
 
@@ -208,7 +237,10 @@ fn closing_at(
         return i;
     }
     let weight = rows::value_at(values, at);
-    put_closing(&mut *out, n, i, marks[at], weight, first, s, ended)
+    let row = marks[at];
+    let mark = task::soft_mark(row);
+    let hard = task::opens_hard(row);
+    put_closing(&mut *out, n, i, mark, hard, weight, first, s, ended)
 }
 
 // Collect and forgo of all preferences, by the rows at which they begin.

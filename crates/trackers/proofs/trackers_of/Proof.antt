@@ -1,4 +1,4 @@
-use mathlib.Core.Path.{ap, _∙_}
+use mathlib.Core.Path.{sym, ap, _∙_}
 use denote.Ref.{now}
 use Rattle.trackers.specs.Writer.{part}
 use Rattle.trackers.specs.Rows.{withinRows, soonRows}
@@ -9,8 +9,11 @@ use borrow.Author.Needs.{needs}
 use Rattle.trackers.proofs.trackers_of.Statement.{statement}
 use Rattle.trackers.proofs.trackers_of.Tie as tie
 
-shared-slice-read-mark : tie.Need-shared-slice-read-mark
-shared-slice-read-mark c = search needs
+shared-slice-read-soft-mark : tie.Need-shared-slice-read-soft-mark
+shared-slice-read-soft-mark c = search needs
+
+soft-mark-requires : tie.Need-soft-mark-requires
+soft-mark-requires c κs = search needs
 
 add-b : tie.Need-add-b
 add-b c = search needs
@@ -46,25 +49,25 @@ same-length : tie.Need-same-length
 same-length c = search needs
 
 returns : tie.Need-returns
-returns c = as-rows (by-always _ _ _ _ _ _ _ _ (c .before .before .before .before .match .keys1)) (c .before .before .always .ensures)
+returns c = as-rows (by-always _ _ _ _ _ _ _ _ (sym (c .before .before .before .before .before .soft-mark .ensures) ∙ c .before .before .before .before .match .keys1)) (c .before .before .always .ensures)
 
 same-length-2 : tie.Need-same-length-2
 same-length-2 c = search needs
 
 returns-2 : tie.Need-returns-2
-returns-2 c = as-rows (by-once _ _ _ _ _ _ _ _ (c .before .before .before .before .match .keys2)) (c .before .before .at-most-once .ensures)
+returns-2 c = as-rows (by-once _ _ _ _ _ _ _ _ (sym (c .before .before .before .before .before .soft-mark .ensures) ∙ c .before .before .before .before .match .keys2)) (c .before .before .at-most-once .ensures)
 
 same-length-3 : tie.Need-same-length-3
 same-length-3 c = search needs
 
 returns-3 : tie.Need-returns-3
-returns-3 c = as-rows (by-before _ _ _ _ _ _ _ _ (c .before .before .before .before .match .keys3)) (c .before .before .sometime-before .ensures)
+returns-3 c = as-rows (by-before _ _ _ _ _ _ _ _ (sym (c .before .before .before .before .before .soft-mark .ensures) ∙ c .before .before .before .before .match .keys3)) (c .before .before .sometime-before .ensures)
 
 same-length-4 : tie.Need-same-length-4
 same-length-4 c = search needs
 
 returns-4 : tie.Need-returns-4
-returns-4 c = as-rows (by-after _ _ _ _ _ _ _ _ (c .before .before .before .before .match .keys4)) (c .before .before .sometime-after .ensures)
+returns-4 c = as-rows (by-after _ _ _ _ _ _ _ _ (sym (c .before .before .before .before .before .soft-mark .ensures) ∙ c .before .before .before .before .match .keys4)) (c .before .before .sometime-after .ensures)
 
 same-length-5 : tie.Need-same-length-5
 same-length-5 c = search needs
@@ -73,10 +76,10 @@ returns-5 : tie.Need-returns-5
 returns-5 c =
     let w = c .before .before in
     let t = w .before .before in
-    let a = t .before .before .before .before .before .before .args in
+    let a = t .before .before .before .before .before .before .before .args in
     let xs = part (now (a .marks)) (now (a .values)) (a .p .first) (a .p .mid) in
     as-rows
-    (ap (λ (t : Deadline). withinRows (t .s) (t .d) (t .steps) xs) (t .deadline .ensures .0) ∙ by-within _ _ _ _ _ _ _ _ (t .before .match .keys5))
+    (ap (λ (t : Deadline). withinRows (t .s) (t .d) (t .steps) xs) (t .deadline .ensures .0) ∙ by-within _ _ _ _ _ _ _ _ (sym (t .before .before .soft-mark .ensures) ∙ t .before .match .keys5))
     (w .within .ensures)
 
 same-length-6 : tie.Need-same-length-6
@@ -86,36 +89,42 @@ returns-6 : tie.Need-returns-6
 returns-6 c =
     let w = c .before .before in
     let t = w .before .before in
-    let a = t .before .before .before .before .before .before .args in
+    let a = t .before .before .before .before .before .before .before .args in
     let xs = part (now (a .marks)) (now (a .values)) (a .p .first) (a .p .mid) in
     let ys = part (now (a .marks)) (now (a .values)) (a .p .second) (a .p .next) in
     as-rows
-    (ap (λ (t : Deadline). soonRows (t .s) (t .b) (t .d) (t .steps) xs ys) (t .deadline2 .ensures .0) ∙ by-soon _ _ _ _ _ _ _ _ (t .before .match .keys6))
+    (ap (λ (t : Deadline). soonRows (t .s) (t .b) (t .d) (t .steps) xs ys) (t .deadline2 .ensures .0) ∙ by-soon _ _ _ _ _ _ _ _ (sym (t .before .before .soft-mark .ensures) ∙ t .before .match .keys6))
     (w .always-within .ensures)
 
 same-length-7 : tie.Need-same-length-7
 same-length-7 c = search needs
 
 returns-7 : tie.Need-returns-7
-returns-7 c = as-rows (by-reached _ _ _ _ _ _ _ _ (search needs) (search needs)) (c .before .before .reached .ensures)
+returns-7 c =
+    let m = c .before .before .before .before .before .before .before .soft-mark in
+    rw (← m .ensures) (as-rows (by-reached (m .result) _ _ _ _ _ _ _ (search needs) (search needs)) (c .before .before .reached .ensures))
 
 returns-8 : tie.Need-returns-8
 returns-8 c =
-    let a = c .before .before .before .before .before .before .args in
-    as-rows (by-below _ _ _ _ _ _ _ _ (c .before .match .rest .0 .0 .0 .0 .0 .1) (search needs)) (wrote-none (now (a .out)) (a .n) (a .i))
+    let m = c .before .before in
+    let a = m .before .before .before .before .before .args in
+    as-rows (by-below _ _ _ _ _ _ _ _ (λ x. c .before .match .rest .0 .0 .0 .0 .0 .1 (m .soft-mark .ensures ∙ x)) (search needs)) (wrote-none (now (a .out)) (a .n) (a .i))
 
 returns-9 : tie.Need-returns-9
 returns-9 c =
-    let a = c .before .before .before .before .before .before .before .args in
+    let m = c .before .before .before in
+    let a = m .before .before .before .before .before .args in
     let r = c .before .before .match .rest in
-    as-rows (by-above _ _ _ _ _ _ _ _ (r .0 .0 .0 .0 .1) (r .0 .0 .0 .1) (r .0 .0 .1) (r .0 .1) (r .1) (search needs)) (wrote-none (now (a .out)) (a .n) (a .i))
+    let e = m .soft-mark .ensures in
+    as-rows (by-above _ _ _ _ _ _ _ _ (λ x. r .0 .0 .0 .0 .1 (e ∙ x)) (λ x. r .0 .0 .0 .1 (e ∙ x)) (λ x. r .0 .0 .1 (e ∙ x)) (λ x. r .0 .1 (e ∙ x)) (λ x. r .1 (e ∙ x)) (search needs)) (wrote-none (now (a .out)) (a .n) (a .i))
 
 pub trackers-of-spec : {M : Type 1} → statement M
 trackers-of-spec =
     tie.close
     (tie.spec
     add-b
-    shared-slice-read-mark
+    shared-slice-read-soft-mark
+    soft-mark-requires
     always-requires
     at-most-once-requires
     sometime-before-requires

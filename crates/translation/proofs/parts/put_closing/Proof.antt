@@ -15,8 +15,8 @@ put-closed-requires c κs = search needs
 open-closing-requires-2 : tie.Need-open-closing-requires-2
 open-closing-requires-2 c κs = search needs
 
-put-missed-requires : tie.Need-put-missed-requires
-put-missed-requires c κs = search needs
+put-forgone-requires : tie.Need-put-forgone-requires
+put-forgone-requires c κs = search needs
 
 put-closed-requires-2 : tie.Need-put-closed-requires-2
 put-closed-requires-2 c κs = search needs
@@ -28,7 +28,7 @@ returns : tie.Need-returns
 returns c = λ t.
     then (search needs)
     (then (search needs) (c .before .before .before .before .before .before .before .before .before .before .before .before .before .before .before .before .before .before .before .before .before .before .open-closing .ensures) (then (search needs) (c .before .before .before .before .before .before .before .before .before .before .before .before .before .before .before .before .before .before .put-met .ensures t) (c .before .before .before .before .before .before .before .before .before .before .before .before .before .before .put-closed .ensures)))
-    (then (search needs) (c .before .before .before .before .before .before .before .before .before .before .open-closing2 .ensures) (then (search needs) (c .before .before .before .before .before .before .put-missed .ensures t) (c .before .before .put-closed2 .ensures)))
+    (then (search needs) (c .before .before .before .before .before .before .before .before .before .before .open-closing2 .ensures) (then (search needs) (c .before .before .before .before .before .before .put-forgone .ensures t) (c .before .before .put-closed2 .ensures)))
 
 pub put-closing-spec : {M : Type 1} → statement M
 put-closing-spec =
@@ -38,7 +38,7 @@ put-closing-spec =
     put-met-requires
     put-closed-requires
     open-closing-requires-2
-    put-missed-requires
+    put-forgone-requires
     put-closed-requires-2
     same-length
     returns)
