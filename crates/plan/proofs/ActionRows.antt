@@ -11,12 +11,12 @@ use lib.Seq.{drop-at, drop-cons}
 use borrow.Author.Tests.{lt-ltb}
 use Rattle.task.specs.Lists.{concatMap}
 use Rattle.task.specs.Marks.{ACTION, GOAL, START}
-use Rattle.task.specs.Task.{Action, Preference, Task, Row, row, kindMark, conditionRows, effectRows, actionRows, preferenceRows, taskRows}
+use Rattle.task.specs.Task.{Action, Preference, Task, Row, row, openingMark, conditionRows, effectRows, actionRows, preferenceRows, taskRows}
 use Rattle.task.specs.File.{paired, marks, is}
 use Rattle.task.specs.Meaning.{actionAt, noAction}
 use Rattle.task.proofs.Tests.{tests, noneOf, without, as-false, and-both, all-both, all-map, all-concat, concat-append}
 use Rattle.task.proofs.Bytes.{marks-paired}
-use Rattle.task.proofs.Passing.{stepRows, sideRows, condition-passes, effects-pass, kind-passes, sides-pass}
+use Rattle.task.proofs.Passing.{stepRows, sideRows, condition-passes, effects-pass, opening-passes, sides-pass}
 use Rattle.task.proofs.Positions.{tailRows}
 use Rattle.plan.specs.Reads.{Reads}
 use Rattle.plan.specs.Places.{actionsFrom, actionRow, AllBelow}
@@ -31,8 +31,8 @@ step-no-action a =
 
 preference-no-action : (q : Preference) → T (noneOf (is ACTION) (preferenceRows q))
 preference-no-action q =
-    and-both (without (is ACTION) (row (kindMark (q .kind)) (q .weight))) (noneOf (is ACTION) (sideRows q))
-    (kind-passes (without (is ACTION)) (λ v. tt) (q .kind) (q .weight))
+    and-both (without (is ACTION) (row (openingMark (q .hard) (q .kind)) (q .weight))) (noneOf (is ACTION) (sideRows q))
+    (opening-passes (without (is ACTION)) (λ v. tt) (q .hard) (q .kind) (q .weight))
     (sides-pass (without (is ACTION)) (λ v. tt) (λ v. tt) (λ v. tt) (λ v. tt) (λ v. tt) q)
 
 -- START, GOAL and the goal's condition

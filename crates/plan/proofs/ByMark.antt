@@ -7,7 +7,7 @@ use lib.Dec.{leb, eqb}
 use lib.ListN.{length}
 use borrow.Author.Tests.{ne-eqb, eqb-true, eqb-false}
 use Rattle.task.specs.Marks.{ALWAYS, SOMETIME, AT-END, AT-MOST-ONCE, SOMETIME-BEFORE, SOMETIME-AFTER, WITHIN, ALWAYS-WITHIN}
-use Rattle.task.specs.Task.{Kind, always, sometime, at-end, at-most-once, sometime-before, sometime-after, within, always-within, kindMark, two-sided, stepsRows}
+use Rattle.task.specs.Task.{Kind, always, sometime, at-end, at-most-once, sometime-before, sometime-after, within, always-within, kindMark, openingMark, two-sided, stepsRows}
 use Rattle.task.specs.File.{kindOf}
 use Rattle.task.specs.Monitor.{Monitor, good}
 use Rattle.task.proofs.Positions.{past-kinds}
@@ -85,8 +85,8 @@ side-count (always-within t) = refl
 
 -- Marks behind a condition, and behind effects
 
-pub kind-past : (k : Kind) → inCondition (kindMark k) ≡ false
+pub kind-past : (h : Bool) (k : Kind) → inCondition (openingMark h k) ≡ false
 kind-past = past-kinds inCondition tt
 
-pub kind-past-effects : (k : Kind) → inEffects (kindMark k) ≡ false
+pub kind-past-effects : (h : Bool) (k : Kind) → inEffects (openingMark h k) ≡ false
 kind-past-effects = past-kinds inEffects tt

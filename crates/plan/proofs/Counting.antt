@@ -6,7 +6,7 @@ use Prim.Native.Nat.{ℕ, _+_}
 use lib.Dec.{T}
 use lib.ListN.{length, drop}
 use Rattle.task.specs.Lists.{all, concatMap}
-use Rattle.task.specs.Task.{Preference, Task, Row, row, kindMark, preferenceRows, taskRows}
+use Rattle.task.specs.Task.{Preference, Task, Row, row, openingMark, preferenceRows, taskRows}
 use Rattle.task.specs.File.{paired, isPreference}
 use Rattle.task.specs.Rows.{run, runAt}
 use Rattle.task.proofs.Tests.{tests, noneOf, without, as-true, as-false}
@@ -20,7 +20,7 @@ all-go [] = tt
 all-go (x ∷ xs) = all-go xs
 
 abbrev pub openingRow : Preference → Row
-openingRow q = row (kindMark (q .kind)) (q .weight)
+openingRow q = row (openingMark (q .hard) (q .kind)) (q .weight)
 
 module _ {W : Type 0} (one : W → Row → W) where
   others : (w : W) (xs : List Row) → T (noneOf isPreference xs) → fold (counting one) w xs ≡ w
@@ -38,7 +38,7 @@ module _ {W : Type 0} (one : W → Row → W) where
       fold-append (counting one) w (preferenceRows q) (concatMap preferenceRows qs)
       ∙ ap (λ (u : W). fold (counting one) u (concatMap preferenceRows qs))
       (ap (λ (b : Bool). fold (counting one) (cond b w′ w) (sideRows q))
-      (as-true (isPreference (openingRow q)) (kind-preference (q .kind) (q .weight)))
+      (as-true (isPreference (openingRow q)) (kind-preference (q .hard) (q .kind) (q .weight)))
       ∙ others w′ (sideRows q) (sides-pass (without isPreference) (λ v. tt) (λ v. tt) (λ v. tt) (λ v. tt) (λ v. tt) q))
       ∙ all-counted w′ qs
 

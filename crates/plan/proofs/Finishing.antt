@@ -7,11 +7,13 @@ use native.Mathlib.Omega.{arith}
 use lib.Dec.{ltb}
 use lib.ListN.{length, getD, length-map, List·getD-eq-default}
 use borrow.Author.Tests.{ltb-true, ltb-false}
+use Rattle.task.specs.Lists.{all, firstFailing}
 use Rattle.task.specs.Task.{Task, Preference, conditionRows}
 use Rattle.task.specs.Meaning.{State as Facts, isTrue, seen, preferenceAt}
 use Rattle.task.specs.Literals.{lookedAt, lookedFrom}
 use Rattle.task.specs.Monitor.{Monitor, step}
 use Rattle.task.proofs.Tests.{tests}
+use Rattle.task.proofs.Verdict.{one-fails, none-fails}
 use Rattle.state.specs.Member.{bit, member}
 use Rattle.state.specs.Conditions.{begin, readAs, evaluateAt}
 use Rattle.state.specs.declared.conditions.Evaluated.{Evaluated}
@@ -20,13 +22,14 @@ use Rattle.state.proofs.Bits.{beyond-law}
 use Rattle.state.proofs.Words.{in-low}
 use Rattle.plan.specs.Monitors.{monitorAt, Have-seen, Watched}
 use Rattle.plan.specs.Reads.{Reads, PreferencesAt}
-use Rattle.plan.specs.Walked.{solved, goal-missed, given}
+use Rattle.plan.specs.Walked.{Walk, solved, goal-missed, rule-missed, given}
 use Rattle.plan.specs.Counting.{countAt}
-use Rattle.plan.specs.Met.{noneMet, found}
-use Rattle.plan.specs.Steps.{isGood, solvedBy, lastVerdict, MonitorsAre}
+use Rattle.plan.specs.Met.{Met, noneMet, found, asFound}
+use Rattle.plan.specs.Steps.{isGood, isSafe, solvedBy, lastVerdict, MonitorsAre}
+use Rattle.plan.specs.declared.met.Found.{Found}
 use Rattle.plan.specs.declared.steps.Position.{Position}
 use Rattle.plan.proofs.TaskRead.{goal-read}
-use Rattle.plan.proofs.Meeting.{met-is}
+use Rattle.plan.proofs.Meeting.{met-is, kept-is, number-is}
 
 module _ (t : Task) (ms vs : List ℕ) (R : Reads t ms vs) (p : Position) (μ : Preference → Monitor) (goal : ℕ)
     (there : goal ≡ length (t .start) + 1) (e : Evaluated) (read : e ≡ evaluateAt (member (p .state)) begin ms vs goal)
@@ -61,8 +64,10 @@ module _ (t : Task) (ms vs : List ℕ) (R : Reads t ms vs) (p : Position) (μ : 
   μ′ q = step (q .kind) true (μ q) (seen q σ)
 
   module _ (true-one : e .holds ≡ true) (are : MonitorsAre t l μ)
-      (found-ones : State) (says : (vs : List ℕ) → member found-ones ≡ countAt (found l′) noneMet ms vs at .met)
-      (fits : found-ones .low < 2 ^ 64) where
+      (all-found : Found) (says : (vs : List ℕ) → asFound all-found ≡ countAt (found l′) noneMet ms vs at) where
+    abbrev found-ones : State
+    found-ones = all-found .met
+
     have-seen : (j : ℕ) → j < length (t .preferences) → monitorAt l′ j ≡ μ′ (preferenceAt t j)
     have-seen j h =
         seen-by-all .monitors j h
@@ -72,11 +77,11 @@ module _ (t : Task) (ms vs : List ℕ) (R : Reads t ms vs) (p : Position) (μ : 
     outcomes = map (isGood μ′) (t .preferences)
 
     found-is : (x : ℕ) → member found-ones x ≡ getD outcomes x false
-    found-is x = ap (λ (f : Facts). f x) (says vs) ∙ met-is l′ μ′ ms vs at (t .preferences) prefs few have-seen x
+    found-is x = ap (λ (f : Met). f .met x) (says vs) ∙ met-is l′ μ′ ms vs at (t .preferences) prefs few have-seen x
 
     -- the met preferences are the low word's bits, and it has no others
-    bits : (x : ℕ) → bit (found-ones .low) x ≡ getD outcomes x false
-    bits x = go (ltb x 64) refl
+    bits : found-ones .low < 2 ^ 64 → (x : ℕ) → bit (found-ones .low) x ≡ getD outcomes x false
+    bits fits x = go (ltb x 64) refl
       where
         go : (b : Bool) → ltb x 64 ≡ b → bit (found-ones .low) x ≡ getD outcomes x false
         go true l = in-low found-ones x (ltb-true x 64 l) ∙ found-is x
@@ -85,11 +90,29 @@ module _ (t : Task) (ms vs : List ℕ) (R : Reads t ms vs) (p : Position) (μ : 
             ∙ sym (List·getD-eq-default outcomes false {n = x}
             (omega (arith, ltb-false x 64 l, few, length-map (t .preferences) (isGood μ′))))
 
-    verdict-is : solved (p .cost) (bit (found-ones .low)) ≡ lastVerdict t σ μ (p .cost)
-    verdict-is =
-        ap (solved (p .cost)) (fun-ext bits)
-        ∙ ap (λ (b : Bool). cond b (solvedBy t μ′ (p .cost)) goal-missed) (sym (sym goal-is ∙ true-one))
+    kept : all-found .kept ≡ firstFailing (isSafe μ′) (t .preferences)
+    kept = ap (λ (f : Met). f .kept) (says vs) ∙ kept-is l′ μ′ ms vs at (t .preferences) prefs have-seen
 
-    pub solved-is : given (solved (p .cost) (bit (found-ones .low))) (p .looked + n + e .looked)
-        ≡ given (lastVerdict t σ μ (p .cost)) (p .looked + lookedFrom t σ [])
-    solved-is = λ z. given (verdict-is z) (looked-is z)
+    many : all-found .number ≡ length (t .preferences)
+    many = ap (λ (f : Met). f .number) (says vs) ∙ number-is l′ μ′ ms vs at (t .preferences) prefs have-seen
+
+    -- the verdict by whether all are soft or met, and what it is with the goal reached
+    abbrev said : Bool → Walk
+    said b = cond b (solved (p .cost) (λ (k : ℕ). getD outcomes k false)) (rule-missed (firstFailing (isSafe μ′) (t .preferences)))
+
+    with-goal : (b : Bool) → all (isSafe μ′) (t .preferences) ≡ b → said b ≡ lastVerdict t σ μ (p .cost)
+    with-goal b e = ap said (sym e) ∙ ap (λ (b : Bool). cond b (solvedBy t μ′ (p .cost)) goal-missed) (sym (sym goal-is ∙ true-one))
+
+    pub rule-is : all-found .kept < all-found .number
+        → given (rule-missed (all-found .kept)) (p .looked + n + e .looked) ≡ given (lastVerdict t σ μ (p .cost)) (p .looked + lookedFrom t σ [])
+    rule-is h =
+        let v : rule-missed (all-found .kept) ≡ lastVerdict t σ μ (p .cost) =
+        ap rule-missed kept ∙ with-goal false (one-fails (isSafe μ′) (t .preferences) (omega (arith, kept, many))) in
+        λ z. given (v z) (looked-is z)
+
+    pub solved-is : found-ones .low < 2 ^ 64 → all-found .number ≤ all-found .kept
+        → given (solved (p .cost) (bit (found-ones .low))) (p .looked + n + e .looked) ≡ given (lastVerdict t σ μ (p .cost)) (p .looked + lookedFrom t σ [])
+    solved-is fits h =
+        let v : solved (p .cost) (bit (found-ones .low)) ≡ lastVerdict t σ μ (p .cost) =
+        ap (solved (p .cost)) (fun-ext (bits fits)) ∙ with-goal true (none-fails (isSafe μ′) (t .preferences) (omega (arith, kept, many))) in
+        λ z. given (v z) (looked-is z)

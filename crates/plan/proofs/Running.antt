@@ -1,6 +1,6 @@
 -- A plan run step by step comes to the verdict on it.
 use mathlib.Core.Path.{_≡_, refl, sym, ap, ap₂, _∙_, fun-ext, subst⁻¹}
-use mathlib.Core.Bool.{Bool, true, false, cond}
+use mathlib.Core.Bool.{Bool, true, false, not, cond, _||_}
 use mathlib.Core.List.{List, [], _∷_, map}
 use Prim.Native.Nat.{ℕ, suc, _+_, _*_, _≤_, _<_}
 use native.Mathlib.Nat.{add-zero, zero-add}
@@ -9,19 +9,18 @@ use native.Mathlib.Omega.{arith}
 use lib.Dec.{ltb, ltb→lt}
 use lib.ListN.{length, drop, getD, drop-of-length-le}
 use lib.Seq.{drop-cons}
-use Rattle.task.specs.Lists.{lastOr}
+use Rattle.task.specs.Lists.{all, firstFailing, lastOr}
 use Rattle.task.specs.Task.{Task, Action, Preference}
-use Rattle.task.specs.Meaning.{State as Facts, isTrue, opening, after, actionAt, applies, runs, reached, final, cost, metric, utility, seen, preferenceAt}
+use Rattle.task.specs.Meaning.{State as Facts, isTrue, opening, after, actionAt, applies, runs, reached, final, keepsRules, cost, seen, preferenceAt}
 use Rattle.task.specs.Literals.{lookedAt, lookedPreferences, lookedEffects, lookedFrom, literals}
 use Rattle.task.specs.Monitor.{Monitor, fresh, step}
-use Rattle.task.specs.Verdict
-use Rattle.task.specs.Verdict.{stepsApplied, metSet, verdict}
+use Rattle.task.specs.Verdict.{stepsApplied, metSet, missedRule, verdictBy, verdict}
 use Rattle.task.proofs.Tests.{tests, all-at}
 use Rattle.task.proofs.Watched.{stepAll, watchAll, good-watched}
 use Rattle.state.specs.Member.{member}
 use Rattle.plan.specs.Reads.{Reads, PreferencesAt}
 use Rattle.plan.specs.Monitors.{monitorAt, Have-seen, Watched}
-use Rattle.plan.specs.Walked.{Walk, solved, stopped, goal-missed, given, unpriced}
+use Rattle.plan.specs.Walked.{Walk, solved, stopped, goal-missed, rule-missed, given, unpriced}
 use Rattle.plan.specs.Places.{AllBelow, Layout}
 use Rattle.plan.specs.Steps.{Leads, Moving, solvedBy, lastVerdict, MonitorsAre, walkedOn}
 use Rattle.plan.specs.declared.steps.Position.{Position}
@@ -62,15 +61,20 @@ from-the-opening t p =
     step-by-step t (opening t) (λ (q : Preference). fresh) 0 0 p
     ∙ ap₂ (outcome t (opening t) (λ (q : Preference). fresh) p) (zero-add (cost t p)) (zero-add (stepsApplied t (opening t) p))
     ∙ ap (λ (ok : Preference → Bool). cond (runs t (opening t) p) (cond (isTrue (final t p) (t .goal))
-    (solved (cost t p) (λ (k : ℕ). getD (map ok (t .preferences)) k false)) goal-missed) (stopped (stepsApplied t (opening t) p)))
+    (cond (all (λ (q : Preference). not (q .hard) || ok q) (t .preferences))
+    (solved (cost t p) (λ (k : ℕ). getD (map ok (t .preferences)) k false))
+    (rule-missed (firstFailing (λ (q : Preference). not (q .hard) || ok q) (t .preferences))))
+    goal-missed) (stopped (stepsApplied t (opening t) p)))
     (fun-ext (good-watched t p))
-    ∙ go (runs t (opening t) p) (isTrue (final t p) (t .goal))
+    ∙ go (runs t (opening t) p) (isTrue (final t p) (t .goal)) (keepsRules t p)
   where
-    go : (a b : Bool) → cond a (cond b (solved (cost t p) (metSet t p)) goal-missed) (stopped (stepsApplied t (opening t) p))
-        ≡ unpriced (cond a (cond b (Verdict.solved (cost t p) (metric t p) (utility t p) (metSet t p)) Verdict.goal-missed) (Verdict.stopped (stepsApplied t (opening t) p)))
-    go true true = refl
-    go true false = refl
-    go false b = refl
+    go : (a b k : Bool)
+        → cond a (cond b (cond k (solved (cost t p) (metSet t p)) (rule-missed (missedRule t p))) goal-missed) (stopped (stepsApplied t (opening t) p))
+        ≡ unpriced (verdictBy t p a b k)
+    go true true true = refl
+    go true true false = refl
+    go true false k = refl
+    go false b k = refl
 
 -- The loop over the steps
 

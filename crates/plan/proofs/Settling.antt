@@ -18,9 +18,8 @@ use Rattle.task.specs.Spelling.{actionSpellable, spellable}
 use Rattle.task.specs.Literals.{literals}
 use Rattle.task.specs.Check
 use Rattle.task.specs.Check.{Answer, check}
-use Rattle.task.specs.Meaning.{noAction, noPreference, opening, runs, final, isTrue, actionAt, cost, isMet, metWeight, missedWeight, metric, utility}
-use Rattle.task.specs.Verdict
-use Rattle.task.specs.Verdict.{Verdict, stepsApplied, metSet, verdict}
+use Rattle.task.specs.Meaning.{noAction, noPreference, opening, runs, final, keepsRules, isTrue, actionAt, cost, isMet, metWeight, missedWeight, metric, utility}
+use Rattle.task.specs.Verdict.{metSet, verdictBy, verdict}
 use Rattle.task.specs.Answers.{answer as checked, asSizes, refusalIn}
 use Rattle.task.specs.declared.Sizes.{Sizes}
 use Rattle.task.specs.declared.Refusal.{Refusal}
@@ -184,16 +183,13 @@ module _ (b p : List ℕ) (z : File.Sizes) (h : check b ≡ Check.accepted z) (s
 
   verdict-settled : withAmounts b (unpriced (verdict t p)) ≡ Judged.given (verdict t p)
   unfolding verdict
-  verdict-settled = go (runs t (opening t) p) (isTrue (final t p) (t .goal))
+  verdict-settled = go (runs t (opening t) p) (isTrue (final t p) (t .goal)) (keepsRules t p)
     where
-      go : (x y : Bool)
-          → withAmounts b (unpriced (cond x (cond y (Verdict.solved (cost t p) (metric t p) (utility t p) (metSet t p)) Verdict.goal-missed)
-          (Verdict.stopped (stepsApplied t (opening t) p))))
-          ≡ Judged.given (cond x (cond y (Verdict.solved (cost t p) (metric t p) (utility t p) (metSet t p)) Verdict.goal-missed)
-          (Verdict.stopped (stepsApplied t (opening t) p)))
-      go true true = ap (priced (cost t p) (metSet t p)) settled-plan
-      go true false = refl
-      go false y = refl
+      go : (x y k : Bool) → withAmounts b (unpriced (verdictBy t p x y k)) ≡ Judged.given (verdictBy t p x y k)
+      go true true true = ap (priced (cost t p) (metSet t p)) settled-plan
+      go true true false = refl
+      go true false k = refl
+      go false y k = refl
 
 pub walk-then-settle : (b p : List ℕ) → andSettled b (walked b p) ≡ judged b p
 unfolding judged walked

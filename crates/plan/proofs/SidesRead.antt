@@ -11,7 +11,7 @@ use Rattle.task.specs.Lists.{concatMap, isEmpty}
 use Rattle.task.specs.Marks.{SECOND}
 use Rattle.task.specs.Task.{Condition, Preference, Row, row}
 use Rattle.task.specs.Task.{kindMark, stepsRows, two-sided, conditionRows, preferenceRows}
-use Rattle.task.specs.File.{paired}
+use Rattle.task.specs.File.{paired, softMark}
 use Rattle.task.specs.Spelling.{preferenceSpellable}
 use Rattle.task.specs.Literals.{lookedAt}
 use Rattle.task.specs.Meaning.{State as Facts, isTrue}
@@ -19,9 +19,8 @@ use Rattle.task.specs.Rows.{Stops}
 use Rattle.task.proofs.Tests.{tests}
 use Rattle.task.proofs.Bytes.{length-paired}
 use Rattle.task.proofs.Passing.{secondRows}
-use Rattle.task.proofs.Reading.{mark-at}
 use Rattle.task.proofs.Positions.{drop-next, drop-behind, preferences-stop}
-use Rattle.task.proofs.Steps.{behind-steps}
+use Rattle.task.proofs.Steps.{behind-steps, soft-at}
 use Rattle.state.specs.Conditions.{inCondition, begin, readAs, evaluateAt}
 use Rattle.state.specs.declared.conditions.Evaluated.{Evaluated}
 use Rattle.state.proofs.ConditionRows.{condition-at, condition-ends}
@@ -44,8 +43,8 @@ module _ (ms vs : List ℕ) (σ : Facts) where
 
   module _ (i : ℕ) (h : i < length ms) (q : Preference) (qs : List Preference)
       (e : drop i (paired ms vs) ≡ concatMap preferenceRows (q ∷ qs)) (ok : T (preferenceSpellable q)) where
-    pub mark-is : getD ms i 0 ≡ kindMark (q .kind)
-    mark-is = mark-at ms vs i h e
+    pub mark-is : softMark (getD ms i 0) ≡ kindMark (q .kind)
+    mark-is = soft-at ms vs i q (concatMap preferenceRows qs) e h
 
     abbrev more : List Row
     more = concatMap preferenceRows qs
@@ -54,7 +53,7 @@ module _ (ms vs : List ℕ) (σ : Facts) where
     abbrev from : ℕ
     from = i + 1 + length (stepsRows (q .kind))
 
-    from-is : i + headRows (getD ms i 0) ≡ from
+    from-is : i + headRows (softMark (getD ms i 0)) ≡ from
     from-is = ap (λ (m : ℕ). i + headRows m) mark-is ∙ omega (arith, head-rows (q .kind))
 
     behind-head : drop from (paired ms vs) ≡ conditionRows (q .first) ++ (secondRows q ++ more)
@@ -73,12 +72,12 @@ module _ (ms vs : List ℕ) (σ : Facts) where
           length-append (conditionRows (q .first)) (secondRows q),
         )
 
-    module _ (r : Evaluated) (first-read : r ≡ evaluateAt σ begin ms vs (i + headRows (getD ms i 0))) where
+    module _ (r : Evaluated) (first-read : r ≡ evaluateAt σ begin ms vs (i + headRows (softMark (getD ms i 0)))) where
       first-whole : Stops inCondition (secondRows q ++ more)
           → r ≡ readAs σ (q .first) (from + length (conditionRows (q .first)))
       first-whole stop = first-read ∙ ap (evaluateAt σ begin ms vs) from-is ∙ first-is stop
 
-      pub one-side : isTwoSided (getD ms i 0) ≡ false → Sides-of q i σ (record { phi = r .holds; psi = true; looked = r .looked; next = r .next })
+      pub one-side : isTwoSided (softMark (getD ms i 0)) ≡ false → Sides-of q i σ (record { phi = r .holds; psi = true; looked = r .looked; next = r .next })
       one-side e₁ =
           let one : two-sided (q .kind) ≡ false = sym (ap isTwoSided mark-is ∙ side-count (q .kind)) ∙ e₁ in
           let whole : r ≡ readAs σ (q .first) (from + length (conditionRows (q .first))) =
@@ -92,7 +91,7 @@ module _ (ms vs : List ℕ) (σ : Facts) where
             next = ap (λ (x : Evaluated). x .next) whole ∙ omega (arith, all-rows, no-rows);
           }
 
-      pub two-sides : isTwoSided (getD ms i 0) ≡ true → (x : Evaluated) → x ≡ evaluateAt σ begin ms vs (r .next + 1)
+      pub two-sides : isTwoSided (softMark (getD ms i 0)) ≡ true → (x : Evaluated) → x ≡ evaluateAt σ begin ms vs (r .next + 1)
           → Sides-of q i σ (record { phi = r .holds; psi = x .holds; looked = r .looked + x .looked; next = x .next })
       two-sides e₁ x second-read =
           let two : two-sided (q .kind) ≡ true = sym (ap isTwoSided mark-is ∙ side-count (q .kind)) ∙ e₁ in

@@ -12,7 +12,7 @@ use lib.Seq.{drop-cons, getD-set-same, getD-set-other}
 use borrow.Author.Tests.{ne-eqb, ltb-true, ltb-false, eqb-true, eqb-false}
 use Rattle.task.specs.Lists.{all, concatMap, nonEmpty}
 use Rattle.task.specs.Task.{Kind, Preference, Row, preferenceRows}
-use Rattle.task.specs.File.{paired, kindOf}
+use Rattle.task.specs.File.{paired, softMark, kindOf}
 use Rattle.task.specs.Rows.{stepsAt}
 use Rattle.task.specs.Spelling.{preferenceSpellable}
 use Rattle.task.specs.Meaning.{State as Facts, seen, noPreference}
@@ -80,7 +80,7 @@ module _ (ms vs : List ℕ) (at : ℕ) (last : Bool) (σ : Facts) (before : List
       go false p = ltb-false k (length qs) p
 
   module _ (now then : List ℕ) (looked k i : ℕ) (h : i < length ms) (r : Sides) (sees : Sees ms vs i σ r) (n : ℕ) (more : n ≡ looked + r .looked)
-      (kind : Kind) (read : kind ≡ kindOf (getD ms i 0) (stepsAt ms vs i))
+      (kind : Kind) (read : kind ≡ kindOf (softMark (getD ms i 0)) (stepsAt ms vs i))
       (put : (j : ℕ) → monitorAt then j
       ≡ cond (eqb j k) (step kind last (monitorAt now k) (record { φ = r .phi; ψ = r .psi })) (monitorAt now j)) where
     -- what is put at place k

@@ -4,7 +4,7 @@ use Rattle.plan.specs.Walked
 use Rattle.plan.specs.Walked.{Walk}
 use Rattle.plan.specs.Settled
 use Rattle.plan.specs.declared.Verdict.{Verdict}
-use Rattle.plan.specs.declared.Verdict.the-variants.{Solved, Stopped, GoalMissed}
+use Rattle.plan.specs.declared.Verdict.the-variants.{Solved, Stopped, GoalMissed, RuleMissed}
 use Rattle.plan.specs.declared.Walked.{Walked}
 use Rattle.plan.specs.declared.Walked.the-variants as walk
 use Rattle.plan.specs.declared.Settled.{Settled}
@@ -14,6 +14,7 @@ abbrev pub asVerdict : Verdict → Walk
 asVerdict (Solved s) = Walked.solved (s .cost) (bit (s .met))
 asVerdict (Stopped i) = Walked.stopped i
 asVerdict GoalMissed = Walked.goal-missed
+asVerdict (RuleMissed i) = Walked.rule-missed i
 
 abbrev pub walkedAs : Walked → Walked.Walked
 walkedAs (walk.Given v looked) = Walked.given (asVerdict v) looked

@@ -13,7 +13,7 @@ use Rattle.task.specs.Verdict
 use Rattle.plan.specs.Judged
 use Rattle.plan.specs.Judged.{Judged}
 use Rattle.plan.specs.Walked
-use Rattle.plan.specs.Walked.{Walk, solved, stopped, goal-missed, Walked, given}
+use Rattle.plan.specs.Walked.{Walk, solved, stopped, goal-missed, rule-missed, Walked, given}
 
 -- metric and utility, or a refusal with a number and a place
 pub data Settled : Type 0 where
@@ -51,6 +51,7 @@ abbrev pub withAmounts : List ℕ → Walk → Judged
 withAmounts b (solved cost met) = priced cost met (settled b cost met)
 withAmounts b (stopped i) = Judged.given (Verdict.stopped i)
 withAmounts b goal-missed = Judged.given Verdict.goal-missed
+withAmounts b (rule-missed i) = Judged.given (Verdict.rule-missed i)
 
 -- however many literals were looked at
 abbrev pub andSettled : List ℕ → Walked → Judged

@@ -1,9 +1,10 @@
 -- What one step, the end of a plan and a whole run give, on marks and values that spell a task.
 use mathlib.Core.Path.{_≡_}
-use mathlib.Core.Bool.{Bool, true, false, cond}
+use mathlib.Core.Bool.{Bool, true, false, not, cond, _||_}
 use mathlib.Core.List.{List, [], map}
 use Prim.Native.Nat.{ℕ, _+_, _≤_, _<_}
 use lib.ListN.{length, getD}
+use Rattle.task.specs.Lists.{all, firstFailing}
 use Rattle.task.specs.Task.{Task, Preference}
 use Rattle.task.specs.Meaning.{State as Facts, isTrue, opening, after, actionAt, applies, seen, preferenceAt}
 use Rattle.task.specs.Literals.{lookedAt, lookedEffects, lookedFrom, literals}
@@ -11,7 +12,7 @@ use Rattle.task.specs.Monitor.{Monitor, fresh, step, good}
 use Rattle.task.specs.Verdict.{verdict}
 use Rattle.state.specs.Member.{member}
 use Rattle.plan.specs.Walked
-use Rattle.plan.specs.Walked.{Walk, solved, goal-missed, given, unpriced}
+use Rattle.plan.specs.Walked.{Walk, solved, goal-missed, rule-missed, given, unpriced}
 use Rattle.plan.specs.Answers.{walkedAs}
 use Rattle.plan.specs.Monitors.{monitorAt}
 use Rattle.plan.specs.Reads.{Reads, PreferencesAt}
@@ -48,9 +49,16 @@ Moves ms vs i p r =
 abbrev pub isGood : (Preference → Monitor) → Preference → Bool
 isGood μ q = good (q .kind) (μ q)
 
+-- it is soft or met
+abbrev pub isSafe : (Preference → Monitor) → Preference → Bool
+isSafe μ q = not (q .hard) || isGood μ q
+
 -- the verdict on a plan whose goal holds, of cost c, by such monitors
 abbrev pub solvedBy : Task → (Preference → Monitor) → ℕ → Walk
-solvedBy t μ c = solved c (λ (k : ℕ). getD (map (isGood μ) (t .preferences)) k false)
+solvedBy t μ c =
+    cond (all (isSafe μ) (t .preferences))
+    (solved c (λ (k : ℕ). getD (map (isGood μ) (t .preferences)) k false))
+    (rule-missed (firstFailing (isSafe μ) (t .preferences)))
 
 -- the verdict behind the last step, in the last state σ, by monitors that have seen those before it
 abbrev pub lastVerdict : Task → Facts → (Preference → Monitor) → ℕ → Walk

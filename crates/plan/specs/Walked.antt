@@ -10,11 +10,13 @@ use Rattle.task.specs.Verdict.{Verdict}
 use Rattle.plan.specs.Judged
 use Rattle.plan.specs.Judged.{Judged, judged}
 
--- a verdict: solved has cost and the set of the met preferences' numbers; stopped has the first step that doesn't apply
+-- a verdict: solved has cost and the set of the met preferences' numbers; stopped has the first step that doesn't apply,
+-- and rule-missed the lowest hard preference that is missed
 pub data Walk : Type 0 where
   solved : ℕ → (ℕ → Bool) → Walk
   stopped : ℕ → Walk
   goal-missed : Walk
+  rule-missed : ℕ → Walk
 
 -- a verdict with the number of literals looked at, or a refusal with a number and a place
 pub data Walked : Type 0 where
@@ -26,6 +28,7 @@ abbrev pub unpriced : Verdict → Walk
 unpriced (Verdict.solved cost metric utility met) = solved cost met
 unpriced (Verdict.stopped i) = stopped i
 unpriced Verdict.goal-missed = goal-missed
+unpriced (Verdict.rule-missed i) = rule-missed i
 
 -- with so many literals looked at
 abbrev pub unsettled : ℕ → Judged → Walked

@@ -21,11 +21,12 @@ pub struct Solution {
     pub met: u64,
 }
 
-// Stopped has the first step that doesn't apply.
+// Stopped has the first step that doesn't apply, RuleMissed the lowest hard preference that is missed.
 pub enum Verdict {
     Solved(Solution),
     Stopped(usize),
     GoalMissed,
+    RuleMissed(u32),
 }
 
 // A walked plan: a verdict with the number of literals looked at, or a refusal of the task or of the plan.

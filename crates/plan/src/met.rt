@@ -4,41 +4,60 @@ ghost use mathlib.Core.List.{List};
 ghost use Prim.Native.Nat.{ℕ, _+_, _≤_, _<_};
 ghost use lib.ListN.{length};
 ghost use Rattle.task.specs.Task.{row};
-ghost use Rattle.state.specs.Member.{member};
 ghost use Rattle.plan.specs.Counting.{counting, countAt};
-ghost use Rattle.plan.specs.Met.{noneMet, found, asFound};
+ghost use Rattle.plan.specs.Met.{keptWith, noneMet, found, asFound};
 use super::monitors;
 use state::State;
 
-// So many preferences, and those of them that are met.
-struct Found {
+// So many preferences, how many of them stand before the first hard one that is missed, and those that are met.
+pub struct Found {
     pub number: u32,
+    pub kept: u32,
     pub met: State,
+}
+
+// How many are kept, with one preference more.
+fn kept_with(number: u32, kept: u32, hard: bool, good: bool) -> u32
+    requires { ⌜ kept < 65535 ⌝ }
+    ensures { λ r. ⌜ (r ≡ keptWith number kept hard good) × (r ≤ kept + 1) ⌝ }
+{
+    if (kept == number) & (!hard | good) {
+        kept + 1
+    } else {
+        kept
+    }
 }
 
 // One preference more.
 fn find_one(f: Found, mark: u8, ms: &[u8]) -> Found
-    requires { ⌜ f .number < 65535 ⌝ }
+    requires { ⌜ (f .number < 65535) × (f .kept < 65535) ⌝ }
     ensures { λ r. ⌜ ((v : ℕ) → asFound r ≡ found (now (ms .entry)) (asFound f) (row mark v)) ⌝ }
-    ensures { λ r. ⌜ r .number ≤ f .number + 1 ⌝ }
+    ensures { λ r. ⌜ (r .number ≤ f .number + 1) × (r .kept ≤ f .kept + 1) ⌝ }
 {
     let k = f.number;
     let met = f.met;
-    if monitors::is_good(mark, monitors::monitor_at(ms, k)) {
+    let good = monitors::is_good(task::soft_mark(mark), monitors::monitor_at(ms, k));
+    let kept = kept_with(k, f.kept, task::opens_hard(mark), good);
+    if good {
         Found {
             number: k + 1,
+            kept,
             met: state::with(met, k),
         }
     } else {
-        Found { number: k + 1, met }
+        Found {
+            number: k + 1,
+            kept,
+            met,
+        }
     }
 }
 
 // One row more: each that opens a preference counts.
 fn find_row(f: Found, mark: u8, ms: &[u8]) -> Found
-    requires { ⌜ f .number < 65535 ⌝ }
+    requires { ⌜ (f .number < 65535) × (f .kept < 65535) ⌝ }
     ensures { λ r. ⌜ ((v : ℕ) → asFound r ≡ counting (found (now (ms .entry))) (asFound f) (row mark v)) ⌝ }
-    ensures { λ r. ⌜ r .number ≤ f .number + 1 ⌝ }
+    ensures { λ r. ⌜ (r .number ≤ f .number + 1) × (r .kept ≤ f .kept + 1) ⌝ }
 {
     if task::is_preference(mark) {
         find_one(f, mark, ms)
@@ -48,12 +67,13 @@ fn find_row(f: Found, mark: u8, ms: &[u8]) -> Found
 }
 
 // The met preferences of those that stand from row `at` on. The rows' values don't matter.
-pub fn find(marks: &[u8], at: usize, ms: &[u8]) -> State
+pub fn find(marks: &[u8], at: usize, ms: &[u8]) -> Found
     requires { ⌜ (length (now marks) ≤ 12000) × (at ≤ length (now marks)) ⌝ }
-    ensures { λ r. ⌜ ((vs : List ℕ) → member r ≡ countAt (found (now (ms .entry))) noneMet (now (marks .entry)) vs at .met) ⌝ }
+    ensures { λ r. ⌜ ((vs : List ℕ) → asFound r ≡ countAt (found (now (ms .entry))) noneMet (now (marks .entry)) vs at) ⌝ }
 {
     let mut f = Found {
         number: 0,
+        kept: 0,
         met: state::none(),
     };
     let mut i = at;
@@ -61,5 +81,5 @@ pub fn find(marks: &[u8], at: usize, ms: &[u8]) -> State
         f = find_row(f, marks[i], ms);
         i += 1;
     }
-    f.met
+    f
 }

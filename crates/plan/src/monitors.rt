@@ -190,7 +190,7 @@ fn read_sides(marks: &[u8], values: &[u8], i: usize, s: State) -> Sides
     ensures { λ r. ⌜ (i < r .next) × (r .looked ≤ 24000) ⌝ }
     ensures { λ r. ⌜ Sees (now (marks .entry)) (now (values .entry)) i (member s) r ⌝ }
 {
-    let mark = marks[i];
+    let mark = task::soft_mark(marks[i]);
     let first = conditions::condition(marks, values, i + head_rows(mark), s);
     if !is_two_sided(mark) {
         return Sides {

@@ -73,9 +73,13 @@ fn finish(marks: &[u8], values: &[u8], at: usize, goal: usize, p: Position, ms: 
         return Walked::Given(Verdict::GoalMissed, looked);
     }
     let found = met::find(marks, at, &*ms);
+    if found.kept < found.number {
+        return Walked::Given(Verdict::RuleMissed(found.kept), looked);
+    }
+    let ones = found.met;
     let solution = Solution {
         cost: p.cost,
-        met: found.low,
+        met: ones.low,
     };
     Walked::Given(Verdict::Solved(solution), looked)
 }

@@ -20,7 +20,7 @@ use Rattle.report.specs.Rows.{rowLine, rowLines}
 pub record Listed (met : ℕ → Bool) (ms vs b : List ℕ) (at : ℕ) (out : List ℕ) (p k i : ℕ) : Type 0 where
   pub within : i ≤ length ms
   pub counted : k ≤ i
-  pub near : p ≤ at + 65 * i
+  pub near : p ≤ at + 70 * i
   pub lines : List ℕ
   pub wrote : Wrote b at lines p out
   pub rest : lines ++ rowLines met k (drop i (paired ms vs)) ≡ rowLines met 0 (paired ms vs)
@@ -32,7 +32,7 @@ module _ (met : ℕ → Bool) (ms vs b : List ℕ) (at : ℕ) where
   module _ (out : List ℕ) (p k i : ℕ) (l : Listed met ms vs b at out p k i) where
     pub next-row : (q j : ℕ) (out′ : List ℕ) → i < length ms
         → Wrote out p (rowLine met k (row (getD ms i 0) (valueAt vs i))) q out′
-        → j ≡ count (isPreference (row (getD ms i 0) (valueAt vs i))) k → q ≤ p + 65 → j ≤ k + 1
+        → j ≡ count (isPreference (row (getD ms i 0) (valueAt vs i))) k → q ≤ p + 70 → j ≤ k + 1
         → Listed met ms vs b at out′ q j (i + 1)
     unfolding rowLines
     next-row q j out′ h w e n s =
@@ -48,7 +48,7 @@ module _ (met : ℕ → Bool) (ms vs b : List ℕ) (at : ℕ) where
               (ap (λ (xs : List Row). l .lines ++ rowLines met k xs) (sym (row-at ms vs i h)) ∙ l .rest);
         }
 
-    pub all-rows : length ms ≤ i → Wrote b at (rowLines met 0 (paired ms vs)) p out × (p ≤ at + 65 * length ms)
+    pub all-rows : length ms ≤ i → Wrote b at (rowLines met 0 (paired ms vs)) p out × (p ≤ at + 70 * length ms)
     unfolding rowLines
     all-rows h =
         let e : l .lines ≡ rowLines met 0 (paired ms vs) =

@@ -4,18 +4,18 @@ use mathlib.Core.Bool.{Bool, true, false, cond}
 use mathlib.Core.List.{List, [], _∷_, _++_, map}
 use Prim.Native.Nat.{ℕ, zero, suc, _+_, _*_, _-_, _^_, _≤_, _<_}
 use native.Mathlib.Omega.{arith}
-use lib.Dec.{T, leb, leb→le, ltb}
+use lib.Dec.{T, leb, leb→le, ltb, eqb→eq}
 use lib.IntN.{pos, negsuc, _-ℤ_}
 use lib.ListN.{length, length-append}
 use borrow.Author.Tests.{le-leb, leb-true}
-use Rattle.task.specs.Lists.{all, sum, concatFrom}
+use Rattle.task.specs.Lists.{all, firstFailing, sum, concatFrom}
 use Rattle.task.specs.Task.{Kind, always, sometime, at-end, at-most-once, sometime-before, sometime-after, within, always-within, Preference, Task}
 use Rattle.task.specs.File.{Sizes, taskOf}
 use Rattle.task.specs.Check
 use Rattle.task.specs.Check.{Answer, accepted, check, limit}
-use Rattle.task.specs.Spelling.{preferenceSpellable, spellable}
-use Rattle.task.specs.Meaning.{State, opening, after, actionAt, applies, runs, final, isTrue, isMet, cost, metWeight, missedWeight, metric, utility}
-use Rattle.task.specs.Verdict.{Verdict, solved, stopped, goal-missed, stepsApplied, metSet, verdict}
+use Rattle.task.specs.Spelling.{weightAllowed, preferenceSpellable, spellable}
+use Rattle.task.specs.Meaning.{State, opening, after, actionAt, applies, runs, final, isTrue, isMet, isKept, keepsRules, cost, metWeight, missedWeight, metric, utility}
+use Rattle.task.specs.Verdict.{Verdict, solved, stepsApplied, metSet, missedRule, verdictBy, verdict}
 use Rattle.task.proofs.Tests.{tests}
 use Rattle.task.proofs.Checking.{within as sizes-within}
 use Rattle.task.proofs.Spelled.{accepted-spelling}
@@ -25,7 +25,7 @@ use Rattle.text.specs.Ascii.{ascii}
 use Rattle.text.specs.Text.{decimal, integer}
 use Rattle.text.proofs.Decimal.{few-digits}
 use Rattle.outcome.specs.Outcome.{written}
-use Rattle.report.specs.Report.{kindWord, outcomeWord, solvedLine, preferenceLine, amountsLine, stoppedLine, preferenceLines, verdictText, reportOf, reportOn, reportOutcome}
+use Rattle.report.specs.Report.{kindWord, hardWord, fullKind, outcomeWord, solvedLine, preferenceLine, amountsLine, stoppedLine, ruleMissedLine, preferenceLines, verdictText, reportOf, reportOn, reportOutcome}
 
 -- Words and numbers
 
@@ -38,6 +38,10 @@ short-kind sometime-before = omega arith
 short-kind sometime-after = omega arith
 short-kind (within t) = omega arith
 short-kind (always-within t) = omega arith
+
+short-full-kind : (h : Bool) (k : Kind) → length (fullKind h k) ≤ 20
+short-full-kind true k = omega (arith, short-kind k)
+short-full-kind false k = omega (arith, short-kind k)
 
 short-outcome : (b : Bool) → length (outcomeWord b) ≤ 6
 short-outcome true = omega arith
@@ -74,10 +78,16 @@ short-stopped : (n : ℕ) → n < 10000000000 → length (stoppedLine n) ≤ 19
 unfolding stoppedLine
 short-stopped n h = omega (arith, length-append (ascii "stopped " ++ decimal n) (ascii "\n"), length-append (ascii "stopped ") (decimal n), ten-digits n h)
 
-short-preference : (k w : ℕ) (kind : Kind) (b : Bool) → k < 10000000000 → w < 10000000000 → length (preferenceLine k kind w b) ≤ 45
+short-rule : (n : ℕ) → n < 10000000000 → length (ruleMissedLine n) ≤ 23
+unfolding ruleMissedLine
+short-rule n h =
+    omega (arith, length-append (ascii "rule missed " ++ decimal n) (ascii "\n"), length-append (ascii "rule missed ") (decimal n), ten-digits n h)
+
+short-preference : (k w : ℕ) (hard : Bool) (kind : Kind) (b : Bool) → k < 10000000000 → w < 10000000000
+    → length (preferenceLine k hard kind w b) ≤ 50
 unfolding preferenceLine
-short-preference k w kind b h l =
-    let first : List ℕ = decimal k ++ ascii " " ++ kindWord kind in
+short-preference k w hard kind b h l =
+    let first : List ℕ = decimal k ++ ascii " " ++ fullKind hard kind in
     let second : List ℕ = first ++ ascii " " ++ decimal w in
     omega (
       arith,
@@ -86,11 +96,11 @@ short-preference k w kind b h l =
       length-append second (ascii " "),
       length-append (first ++ ascii " ") (decimal w),
       length-append first (ascii " "),
-      length-append (decimal k ++ ascii " ") (kindWord kind),
+      length-append (decimal k ++ ascii " ") (fullKind hard kind),
       length-append (decimal k) (ascii " "),
       ten-digits k h,
       ten-digits w l,
-      short-kind kind,
+      short-full-kind hard kind,
       short-outcome b,
     )
 
@@ -110,16 +120,20 @@ short-amounts m g c h k l =
 
 -- The preferences, each of a weight that is allowed
 
+small-weight : (hard : Bool) (w : ℕ) → T (weightAllowed hard w) → w ≤ limit
+small-weight true w t = let e : w ≡ 0 = eqb→eq w 0 t in omega arith
+small-weight false w t = leb→le w limit t
+
 short-lines : (met : ℕ → Bool) (k : ℕ) (qs : List Preference) → k + length qs ≤ 16 → T (all preferenceSpellable qs)
-    → length (concatFrom (λ (k : ℕ) (q : Preference). preferenceLine k (q .kind) (q .weight) (met k)) k qs) ≤ 45 * length qs
+    → length (concatFrom (λ (k : ℕ) (q : Preference). preferenceLine k (q .hard) (q .kind) (q .weight) (met k)) k qs) ≤ 50 * length qs
 short-lines met k [] h t = omega arith
 short-lines met k (q ∷ qs) h t =
-    let w : q .weight ≤ limit = leb→le (q .weight) limit (search tests) in
+    let w : q .weight ≤ limit = small-weight (q .hard) (q .weight) (search tests) in
     omega (
       arith,
-      length-append (preferenceLine k (q .kind) (q .weight) (met k))
-          (concatFrom (λ (k : ℕ) (q : Preference). preferenceLine k (q .kind) (q .weight) (met k)) (k + 1) qs),
-      short-preference k (q .weight) (q .kind) (met k) (omega arith) (omega (arith, w)),
+      length-append (preferenceLine k (q .hard) (q .kind) (q .weight) (met k))
+          (concatFrom (λ (k : ℕ) (q : Preference). preferenceLine k (q .hard) (q .kind) (q .weight) (met k)) (k + 1) qs),
+      short-preference k (q .weight) (q .hard) (q .kind) (met k) (omega arith) (omega (arith, w)),
       short-lines met (k + 1) qs (omega arith) (search tests),
     )
 
@@ -128,7 +142,7 @@ weights : (part : Preference → ℕ) → ((q : Preference) → part q ≤ q .we
     → sum (map part qs) ≤ limit * length qs
 weights part least [] t = omega arith
 weights part least (q ∷ qs) t =
-    let w : q .weight ≤ limit = leb→le (q .weight) limit (search tests) in
+    let w : q .weight ≤ limit = small-weight (q .hard) (q .weight) (search tests) in
     omega (arith, least q, w, weights part least qs (search tests))
 
 some-or-none : (b : Bool) (w : ℕ) → (cond b w 0 ≤ w) × (cond b 0 w ≤ w)
@@ -141,6 +155,14 @@ few-applied t s (k ∷ ks) = go (applies t s k) (few-applied t (after s (actionA
   where
     go : (b : Bool) → stepsApplied t (after s (actionAt t k)) ks ≤ length ks
         → cond b (suc (stepsApplied t (after s (actionAt t k)) ks)) 0 ≤ suc (length ks)
+    go true rest = omega (arith, rest)
+    go false rest = omega arith
+
+few-kept : {A : Type 0} (ok : A → Bool) (xs : List A) → firstFailing ok xs ≤ length xs
+few-kept ok [] = omega arith
+few-kept ok (x ∷ xs) = go (ok x) (few-kept ok xs)
+  where
+    go : (b : Bool) → firstFailing ok xs ≤ length xs → cond b (suc (firstFailing ok xs)) 0 ≤ suc (length xs)
     go true rest = omega (arith, rest)
     go false rest = omega arith
 
@@ -174,15 +196,13 @@ module _ (t : Task) (spelling : T (spellable t)) (few : length (t .preferences) 
 
   short-verdict : length (verdictText (preferenceLines t) (length p) (verdict t p)) ≤ 2048
   unfolding verdict
-  short-verdict = go (runs t (opening t) p) (isTrue (final t p) (t .goal))
+  short-verdict = go (runs t (opening t) p) (isTrue (final t p) (t .goal)) (keepsRules t p)
     where
-      go : (x y : Bool)
-          → length (verdictText (preferenceLines t) (length p) (cond x
-          (cond y (solved (cost t p) (metric t p) (utility t p) (metSet t p)) goal-missed)
-          (stopped (stepsApplied t (opening t) p)))) ≤ 2048
-      go true true = short-solution
-      go true false = omega arith
-      go false y =
+      go : (x y k : Bool) → length (verdictText (preferenceLines t) (length p) (verdictBy t p x y k)) ≤ 2048
+      go true true true = short-solution
+      go true true false = omega (arith, short-rule (missedRule t p) (omega (arith, few, few-kept (isKept t p) (t .preferences))))
+      go true false k = omega arith
+      go false y k =
           omega (arith, short-stopped (stepsApplied t (opening t) p) (omega (arith, short, few-applied t (opening t) p)))
 
 pub longest : (b p : List ℕ) → length (reportOn b p) ≤ 2048

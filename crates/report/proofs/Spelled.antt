@@ -6,13 +6,14 @@ use Prim.Native.Nat.{ℕ, _+_}
 use lib.Dec.{T}
 use Rattle.task.specs.Lists.{concatMap, concatFrom}
 use Rattle.task.specs.Task.{Kind, always, sometime, at-end, at-most-once, sometime-before, sometime-after, within, always-within, Preference, Task}
-use Rattle.task.specs.Task.{Row, row, kindMark, preferenceRows, taskRows}
+use Rattle.task.specs.Task.{Row, row, kindMark, openingMark, preferenceRows, taskRows}
 use Rattle.task.specs.File.{isPreference, kindOf}
 use Rattle.task.proofs.Tests.{tests, noneOf, without, as-true, as-false}
+use Rattle.task.proofs.Hard.{soft-back, hard-back}
 use Rattle.task.proofs.Passing.{sideRows, sides-pass}
 use Rattle.task.proofs.Positions.{kind-preference, front, front-no-preference}
 use Rattle.plan.specs.Judged.{Judged, given, refused}
-use Rattle.task.specs.Verdict.{solved, stopped, goal-missed}
+use Rattle.task.specs.Verdict.{solved, stopped, goal-missed, rule-missed}
 use Rattle.report.specs.Report.{kindWord, preferenceLine, solvedLine, amountsLine, preferenceLines, reportOf}
 use Rattle.report.specs.Rows.{rowLine, rowLines, reportOfRows}
 
@@ -34,19 +35,25 @@ module _ (met : ℕ → Bool) where
   no-lines k (x ∷ xs) ys t = rw (as-false (isPreference x) (search tests)) (no-lines k xs ys (search tests))
 
   -- the row that opens preference k
-  opening-line : (k : ℕ) (kind : Kind) (w : ℕ) (xs : List Row)
-      → rowLines met k (row (kindMark kind) w ∷ xs) ≡ preferenceLine k kind w (met k) ++ rowLines met (k + 1) xs
+  opening-line : (k : ℕ) (hard : Bool) (kind : Kind) (w : ℕ) (xs : List Row)
+      → rowLines met k (row (openingMark hard kind) w ∷ xs) ≡ preferenceLine k hard kind w (met k) ++ rowLines met (k + 1) xs
   unfolding rowLine rowLines preferenceLine
-  opening-line k kind w xs = rw (as-true (isPreference (row (kindMark kind) w)) (kind-preference kind w), word-by-mark kind)
+  opening-line k hard kind w xs =
+      rw (
+        as-true (isPreference (row (openingMark hard kind) w)) (kind-preference hard kind w),
+        soft-back hard kind,
+        hard-back hard kind,
+        word-by-mark kind,
+      )
 
   abbrev lineOf : ℕ → Preference → List ℕ
-  lineOf k p = preferenceLine k (p .kind) (p .weight) (met k)
+  lineOf k p = preferenceLine k (p .hard) (p .kind) (p .weight) (met k)
 
   all-lines : (k : ℕ) (qs : List Preference) → rowLines met k (concatMap preferenceRows qs) ≡ concatFrom lineOf k qs
   unfolding rowLines
   all-lines k [] = refl
   all-lines k (q ∷ qs) =
-      opening-line k (q .kind) (q .weight) (sideRows q ++ concatMap preferenceRows qs)
+      opening-line k (q .hard) (q .kind) (q .weight) (sideRows q ++ concatMap preferenceRows qs)
       ∙ ap (λ (l : List ℕ). lineOf k q ++ l) (no-lines (k + 1) (sideRows q) (concatMap preferenceRows qs)
       (sides-pass (without isPreference) (λ v. tt) (λ v. tt) (λ v. tt) (λ v. tt) (λ v. tt) q)
       ∙ all-lines (k + 1) qs)
@@ -59,4 +66,5 @@ task-report t n (given (solved cost metric utility met)) =
     ap (λ (l : List ℕ). solvedLine n cost ++ l ++ amountsLine metric utility) (task-lines met t)
 task-report t n (given (stopped step)) = refl
 task-report t n (given goal-missed) = refl
+task-report t n (given (rule-missed rule)) = refl
 task-report t n (refused number place) = refl

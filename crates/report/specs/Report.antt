@@ -1,4 +1,4 @@
--- The text of a judged plan: document 01, 'A belt and a gate', and request 6.
+-- The text of a judged plan: document 01, 'A belt and a gate', and requests 6 and 8.
 use mathlib.Core.Path.{_≡_}
 use mathlib.Core.Bool.{Bool, true, false}
 use mathlib.Core.List.{List, [], _++_}
@@ -8,7 +8,7 @@ use lib.ListN.{length}
 use Rattle.task.specs.Lists.{concatFrom}
 use Rattle.task.specs.Task.{Kind, always, sometime, at-end, at-most-once, sometime-before, sometime-after, within, always-within, Preference, Task}
 use Rattle.task.specs.File.{taskOf}
-use Rattle.task.specs.Verdict.{Verdict, solved, stopped, goal-missed}
+use Rattle.task.specs.Verdict.{Verdict, solved, stopped, goal-missed, rule-missed}
 use Rattle.plan.specs.Judged.{Judged, given, refused, judged}
 use Rattle.plan.specs.Walked
 use Rattle.plan.specs.Walked.{Walk, walked}
@@ -28,6 +28,14 @@ kindWord sometime-after = ascii "sometime-after"
 kindWord (within t) = ascii "within"
 kindWord (always-within t) = ascii "always-within"
 
+-- with hard- before that of a hard preference
+abbrev pub hardWord : Bool → List ℕ
+hardWord true = ascii "hard-"
+hardWord false = []
+
+abbrev pub fullKind : Bool → Kind → List ℕ
+fullKind hard k = hardWord hard ++ kindWord k
+
 abbrev pub outcomeWord : Bool → List ℕ
 outcomeWord true = ascii "met"
 outcomeWord false = ascii "missed"
@@ -37,9 +45,9 @@ unfoldable pub solvedLine : ℕ → ℕ → List ℕ
 solvedLine steps cost = ascii "solved steps " ++ decimal steps ++ ascii " cost " ++ decimal cost ++ ascii "\n"
 
 -- number, kind, weight and outcome
-unfoldable pub preferenceLine : ℕ → Kind → ℕ → Bool → List ℕ
-preferenceLine k kind weight isMet =
-    decimal k ++ ascii " " ++ kindWord kind ++ ascii " " ++ decimal weight ++ ascii " " ++ outcomeWord isMet ++ ascii "\n"
+unfoldable pub preferenceLine : ℕ → Bool → Kind → ℕ → Bool → List ℕ
+preferenceLine k hard kind weight isMet =
+    decimal k ++ ascii " " ++ fullKind hard kind ++ ascii " " ++ decimal weight ++ ascii " " ++ outcomeWord isMet ++ ascii "\n"
 
 unfoldable pub amountsLine : ℕ → ℤ → List ℕ
 amountsLine metric utility = ascii "metric " ++ decimal metric ++ ascii " utility " ++ integer utility ++ ascii "\n"
@@ -47,12 +55,16 @@ amountsLine metric utility = ascii "metric " ++ decimal metric ++ ascii " utilit
 unfoldable pub stoppedLine : ℕ → List ℕ
 stoppedLine step = ascii "stopped " ++ decimal step ++ ascii "\n"
 
+unfoldable pub ruleMissedLine : ℕ → List ℕ
+ruleMissedLine rule = ascii "rule missed " ++ decimal rule ++ ascii "\n"
+
 -- The text of a plan of n steps, with the lines of the preferences by the numbers of the met ones
 
 abbrev pub verdictText : ((ℕ → Bool) → List ℕ) → ℕ → Verdict → List ℕ
 verdictText lines n (solved cost metric utility met) = solvedLine n cost ++ lines met ++ amountsLine metric utility
 verdictText lines n (stopped step) = stoppedLine step
 verdictText lines n goal-missed = ascii "goal missed\n"
+verdictText lines n (rule-missed rule) = ruleMissedLine rule
 
 -- a refused plan has no text
 abbrev pub textWith : ((ℕ → Bool) → List ℕ) → ℕ → Judged → List ℕ
@@ -62,7 +74,7 @@ textWith lines n (refused number place) = []
 -- a line per preference, numbered from 0
 abbrev pub preferenceLines : Task → (ℕ → Bool) → List ℕ
 preferenceLines t met =
-    concatFrom (λ (k : ℕ) (p : Preference). preferenceLine k (p .kind) (p .weight) (met k)) 0 (t .preferences)
+    concatFrom (λ (k : ℕ) (p : Preference). preferenceLine k (p .hard) (p .kind) (p .weight) (met k)) 0 (t .preferences)
 
 abbrev pub reportOf : Task → ℕ → Judged → List ℕ
 reportOf t = textWith (preferenceLines t)

@@ -3,7 +3,7 @@ use mathlib.Core.Bool.{Bool, cond}
 use mathlib.Core.List.{List, [], _∷_, _++_}
 use Prim.Native.Nat.{ℕ}
 use Rattle.task.specs.Task.{Row}
-use Rattle.task.specs.File.{isPreference, kindOf}
+use Rattle.task.specs.File.{opensHard, softMark, isPreference, kindOf}
 use Rattle.task.specs.Check.{count}
 use Rattle.task.specs.Verdict.{Verdict}
 use Rattle.plan.specs.Judged.{Judged}
@@ -11,7 +11,7 @@ use Rattle.report.specs.Report.{preferenceLine, verdictText, textWith}
 
 -- a row that opens preference k has a line, any other row has none; the steps have no place in it
 unfoldable pub rowLine : (ℕ → Bool) → ℕ → Row → List ℕ
-rowLine met k x = cond (isPreference x) (preferenceLine k (kindOf (x .mark) 0) (x .value) (met k)) []
+rowLine met k x = cond (isPreference x) (preferenceLine k (opensHard (x .mark)) (kindOf (softMark (x .mark)) 0) (x .value) (met k)) []
 
 -- the lines of rows before which k preferences stand
 unfoldable pub rowLines : (ℕ → Bool) → ℕ → List Row → List ℕ

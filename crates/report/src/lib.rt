@@ -77,6 +77,7 @@ fn put_verdict(
         }
         Verdict::Stopped(step) => lines::put_stopped(out, 0, step),
         Verdict::GoalMissed => text::put_word(out, 0, b"goal missed\n"),
+        Verdict::RuleMissed(rule) => lines::put_rule_missed(out, 0, rule),
     }
 }
 

@@ -1,12 +1,12 @@
 // The lines of the text, one by one. Each function writes from a place on and answers the place behind.
 ghost use Prim.Native.Nat.{_+_, _^_, _≤_, _<_};
-ghost use Rattle.task.specs.File.{kindOf};
+ghost use Rattle.task.specs.File.{opensHard, softMark, kindOf};
 ghost use Rattle.text.specs.Area.{Wrote};
-ghost use Rattle.report.specs.Report.{kindWord, outcomeWord, solvedLine, preferenceLine, amountsLine, stoppedLine};
+ghost use Rattle.report.specs.Report.{kindWord, hardWord, fullKind, outcomeWord, solvedLine, preferenceLine, amountsLine, stoppedLine, ruleMissedLine};
 use task::marks;
 
-// Writes the kind that a mark opens.
-fn put_kind(out: &mut [u8], at: usize, mark: u8) -> usize
+// Writes the kind that a soft preference's mark opens.
+fn put_soft_kind(out: &mut [u8], at: usize, mark: u8) -> usize
     requires { ⌜ at + 15 < 2 ^ 64 ⌝ }
     ensures { λ r. ⌜ Wrote (now (out .entry)) at (kindWord (kindOf mark 0)) r (now (out .exit)) ⌝ }
     ensures { λ r. ⌜ r ≤ at + 15 ⌝ }
@@ -23,6 +23,27 @@ fn put_kind(out: &mut [u8], at: usize, mark: u8) -> usize
     }
 }
 
+fn put_hard(out: &mut [u8], at: usize, hard: bool) -> usize
+    requires { ⌜ at + 5 < 2 ^ 64 ⌝ }
+    ensures { λ r. ⌜ Wrote (now (out .entry)) at (hardWord hard) r (now (out .exit)) ⌝ }
+    ensures { λ r. ⌜ r ≤ at + 5 ⌝ }
+{
+    if hard {
+        return text::put_word(out, at, b"hard-");
+    }
+    at
+}
+
+// Writes the kind that a mark opens, with `hard-` before that of a hard preference.
+fn put_kind(out: &mut [u8], at: usize, mark: u8) -> usize
+    requires { ⌜ at + 20 < 2 ^ 64 ⌝ }
+    ensures { λ r. ⌜ Wrote (now (out .entry)) at (fullKind (opensHard mark) (kindOf (softMark mark) 0)) r (now (out .exit)) ⌝ }
+    ensures { λ r. ⌜ r ≤ at + 20 ⌝ }
+{
+    let a = put_hard(&mut *out, at, task::opens_hard(mark));
+    put_soft_kind(&mut *out, a, task::soft_mark(mark))
+}
+
 fn put_outcome(out: &mut [u8], at: usize, met: bool) -> usize
     requires { ⌜ at + 6 < 2 ^ 64 ⌝ }
     ensures { λ r. ⌜ Wrote (now (out .entry)) at (outcomeWord met) r (now (out .exit)) ⌝ }
@@ -35,7 +56,7 @@ fn put_outcome(out: &mut [u8], at: usize, met: bool) -> usize
     }
 }
 
-// Writes the line of preference k, whose kind is the one that the mark opens.
+// Writes the line of preference k, which the mark opens.
 pub fn put_preference(
     out: &mut [u8],
     at: usize,
@@ -44,9 +65,9 @@ pub fn put_preference(
     weight: u32,
     met: bool,
 ) -> usize
-    requires { ⌜ at + 65 < 2 ^ 64 ⌝ }
-    ensures { λ r. ⌜ Wrote (now (out .entry)) at (preferenceLine k (kindOf mark 0) weight met) r (now (out .exit)) ⌝ }
-    ensures { λ r. ⌜ r ≤ at + 65 ⌝ }
+    requires { ⌜ at + 70 < 2 ^ 64 ⌝ }
+    ensures { λ r. ⌜ Wrote (now (out .entry)) at (preferenceLine k (opensHard mark) (kindOf (softMark mark) 0) weight met) r (now (out .exit)) ⌝ }
+    ensures { λ r. ⌜ r ≤ at + 70 ⌝ }
 {
     let a = text::put_decimal(&mut *out, at, k as u64);
     let b = text::put_byte(&mut *out, a, b' ');
@@ -85,4 +106,12 @@ pub fn put_stopped(out: &mut [u8], at: usize, step: usize) -> usize
     ensures { λ r. ⌜ Wrote (now (out .entry)) at (stoppedLine step) r (now (out .exit)) ⌝ }
 {
     text::put_number(out, at, b"stopped ", step as u64, b"\n")
+}
+
+// Writes the line of a plan that misses a rule.
+pub fn put_rule_missed(out: &mut [u8], at: usize, rule: u32) -> usize
+    requires { ⌜ at + 33 < 2 ^ 64 ⌝ }
+    ensures { λ r. ⌜ Wrote (now (out .entry)) at (ruleMissedLine rule) r (now (out .exit)) ⌝ }
+{
+    text::put_number(out, at, b"rule missed ", rule as u64, b"\n")
 }

@@ -19,9 +19,9 @@ pub struct Next {
 
 // Writes the line of a row that opens a preference, and nothing for another row.
 fn put_row(out: &mut [u8], next: Next, mark: u8, value: u32, met: u64) -> Next
-    requires { ⌜ (next .at + 65 < 2 ^ 64) × (next .number < 2 ^ 32) ⌝ }
+    requires { ⌜ (next .at + 70 < 2 ^ 64) × (next .number < 2 ^ 32) ⌝ }
     ensures { λ r. ⌜ Wrote (now (out .entry)) (next .at) (rowLine (bit met) (next .number) (row mark value)) (r .at) (now (out .exit)) ⌝ }
-    ensures { λ r. ⌜ (r .number ≡ count (isPreference (row mark value)) (next .number)) × (r .at ≤ next .at + 65) × (r .number ≤ next .number + 1) ⌝ }
+    ensures { λ r. ⌜ (r .number ≡ count (isPreference (row mark value)) (next .number)) × (r .at ≤ next .at + 70) × (r .number ≤ next .number + 1) ⌝ }
 {
     let at = next.at;
     let k = next.number;
@@ -36,9 +36,9 @@ fn put_row(out: &mut [u8], next: Next, mark: u8, value: u32, met: u64) -> Next
 
 // Writes the lines of all rows.
 pub fn put_rows(out: &mut [u8], at: usize, met: u64, marks: &[u8], values: &[u8]) -> usize
-    requires { ⌜ (4 * length (now marks) ≤ length (now values)) × (length (now marks) ≤ 12000) × (at + 65 * length (now marks) < 2 ^ 64) ⌝ }
+    requires { ⌜ (4 * length (now marks) ≤ length (now values)) × (length (now marks) ≤ 12000) × (at + 70 * length (now marks) < 2 ^ 64) ⌝ }
     ensures { λ r. ⌜ Wrote (now (out .entry)) at (rowLines (bit met) 0 (paired (now (marks .entry)) (now (values .entry)))) r (now (out .exit)) ⌝ }
-    ensures { λ r. ⌜ r ≤ at + 65 * length (now (marks .entry)) ⌝ }
+    ensures { λ r. ⌜ r ≤ at + 70 * length (now (marks .entry)) ⌝ }
 {
     let mut next = Next { at, number: 0 };
     let mut i = 0;

@@ -157,6 +157,7 @@ verdict-done : (v : Walked.Walk) (looked : ℕ) → WalkDone (given v looked)
 verdict-done (Walked.solved cost met) looked = refl
 verdict-done (Walked.stopped i) looked = refl
 verdict-done Walked.goal-missed looked = refl
+verdict-done (Walked.rule-missed i) looked = refl
 
 -- a judged plan, whose refusal has another number than 0
 abbrev Numbered : Judged → Type 0

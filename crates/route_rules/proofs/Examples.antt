@@ -8,7 +8,7 @@ use Rattle.task.specs.Verdict.{verdict}
 use Rattle.task.proofs.Lettered.{belt}
 use Rattle.state.specs.Member.{bit}
 use Rattle.plan.specs.Judged.{judged}
-use Rattle.plan.specs.Walked.{given, stopped, walked}
+use Rattle.plan.specs.Walked.{given, stopped, rule-missed, walked}
 use Rattle.plan.specs.Settled.{settled}
 use Rattle.classical.specs.Translation.{translated}
 use Rattle.translation.specs.Translated.{outcome}
@@ -35,6 +35,7 @@ examples =
     ∷ example (ofWalk (walked belt (0 ∷ 0 ∷ 0 ∷ []))) 0 (0 ∷ 1 ∷ 0 ∷ 9 ∷ 2 ∷ 9 ∷ 0 ∷ 0 ∷ [])
     ∷ example (ofSettle (settled belt 9 (bit 2))) 0 (0 ∷ 14 ∷ (2 ^ 64 - 2) ∷ 0 ∷ 0 ∷ 0 ∷ 0 ∷ 0 ∷ [])
     ∷ example (ofWalk (given (stopped 10) 77)) 0 (0 ∷ 2 ∷ 10 ∷ 0 ∷ 0 ∷ 77 ∷ 0 ∷ 0 ∷ [])
+    ∷ example (ofWalk (given (rule-missed 3) 77)) 0 (0 ∷ 4 ∷ 3 ∷ 0 ∷ 0 ∷ 77 ∷ 0 ∷ 0 ∷ [])
     ∷ example (ofWalk (walked belt [])) 0 (0 ∷ 3 ∷ 0 ∷ 0 ∷ 0 ∷ 3 ∷ 0 ∷ 0 ∷ [])
     ∷ example (ofWalk (walked belt (0 ∷ 2 ∷ []))) 11 (1 ∷ 0 ∷ 0 ∷ 0 ∷ 0 ∷ 0 ∷ 0 ∷ 0 ∷ [])
     -- the largest cost, and one more; a preference that is not there

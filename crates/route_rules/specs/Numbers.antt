@@ -7,7 +7,7 @@ use lib.IntN.{ℤ, pos, negsuc}
 use Rattle.task.specs.Check
 use Rattle.task.specs.Check.{Answer}
 use Rattle.plan.specs.Walked
-use Rattle.plan.specs.Walked.{Walk, solved, stopped, goal-missed, Walked, given}
+use Rattle.plan.specs.Walked.{Walk, solved, stopped, goal-missed, rule-missed, Walked, given}
 use Rattle.plan.specs.Settled
 use Rattle.plan.specs.Settled.{Settled, worth}
 use Rattle.pddl_text.specs.Outcomes
@@ -50,12 +50,14 @@ unfoldable pub bits : ℕ → (ℕ → Bool) → ℕ
 bits zero f = 0
 bits (suc n) f = cond (f 0) 1 0 + 2 * bits n (λ (k : ℕ). f (suc k))
 
--- word 1 is the verdict: 1 solved, 2 stopped, 3 goal missed. Word 2 is the step at which a plan stopped, words 3 and 4 are
--- cost and the met preferences of a plan that solves; word 5 is how many literals were looked at, with every verdict
+-- word 1 is the verdict: 1 solved, 2 stopped, 3 goal missed, 4 rule missed. Word 2 is the step at which a plan stopped, or the
+-- rule that it missed, words 3 and 4 are cost and the met preferences of a plan that solves; word 5 is how many literals were
+-- looked at, with every verdict
 abbrev pub ofVerdict : Walk → ℕ → Call
 ofVerdict (solved cost met) looked = answered 1 0 cost (bits 64 met) looked 0 0
 ofVerdict (stopped step) looked = answered 2 step 0 0 looked 0 0
 ofVerdict goal-missed looked = answered 3 0 0 0 looked 0 0
+ofVerdict (rule-missed rule) looked = answered 4 rule 0 0 looked 0 0
 
 abbrev pub ofWalk : Walked → Call
 ofWalk (given v looked) = ofVerdict v looked

@@ -38,6 +38,8 @@ const STOPPED: u64 = 2;
 
 const GOAL_MISSED: u64 = 3;
 
+const RULE_MISSED: u64 = 4;
+
 // Writes a refusal, and returns its number.
 fn put_refusal(f: Refusal, answer: &mut [u64; 8]) -> u32
     ensures { λ r. ⌜ call r (now (answer .exit)) ≡ refusal (f .number) (f .place) ⌝ }
@@ -112,6 +114,7 @@ fn put_verdict(v: Verdict, looked: u64, answer: &mut [u64; 8]) -> u32
         Verdict::Solved(s) => put_solution(s, looked, answer),
         Verdict::Stopped(step) => put_values(answer, STOPPED, step as u64, 0, 0, looked, 0),
         Verdict::GoalMissed => put_values(answer, GOAL_MISSED, 0, 0, 0, looked, 0),
+        Verdict::RuleMissed(rule) => put_values(answer, RULE_MISSED, rule as u64, 0, 0, looked, 0),
     }
 }
 

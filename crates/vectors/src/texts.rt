@@ -33,6 +33,10 @@ fn write_verdict(file: &[u8], v: Verdict) {
         Verdict::GoalMissed => {
             io::write_all(STDOUT_FILENO, b"goal missed\n");
         }
+        Verdict::RuleMissed(i) => {
+            lines::write_amount(b"rule missed ", i as u64);
+            io::write_all(STDOUT_FILENO, b"\n");
+        }
     }
 }
 

@@ -17,6 +17,7 @@ fn write_verdict(v: Verdict) {
         Verdict::GoalMissed => {
             io::write_all(STDOUT_FILENO, b"goal missed");
         }
+        Verdict::RuleMissed(i) => lines::write_amount(b"rule missed ", i as u64),
     }
 }
 

@@ -26,6 +26,12 @@ slice-aggregate-put-word c = search needs
 put-word-requires : tie.Need-put-word-requires
 put-word-requires c κs = search needs
 
+enum-known-v-3 : tie.Need-enum-known-v-3
+enum-known-v-3 c = search needs
+
+put-rule-missed-requires : tie.Need-put-rule-missed-requires
+put-rule-missed-requires c κs = search needs
+
 same-length : tie.Need-same-length
 same-length c = search needs
 
@@ -51,6 +57,14 @@ returns-3 c =
     let p = c .before .before in
     rw (p .before .before .before .enum-told .given .1) (p .put-word .ensures)
 
+same-length-4 : tie.Need-same-length-4
+same-length-4 c = search needs
+
+returns-4 : tie.Need-returns-4
+returns-4 c =
+    let p = c .before .before in
+    rw (p .before .before .before .v3 .given .1) (p .put-rule-missed .ensures)
+
 pub put-verdict-spec : {M : Type 1} → statement M
 put-verdict-spec =
     tie.close
@@ -63,9 +77,13 @@ put-verdict-spec =
     enum-told
     slice-aggregate-put-word
     put-word-requires
+    enum-known-v-3
+    put-rule-missed-requires
     same-length
     returns
     same-length-2
     returns-2
     same-length-3
-    returns-3)
+    returns-3
+    same-length-4
+    returns-4)

@@ -22,7 +22,7 @@ none-requires : tie.Need-none-requires Inv-loop μ-loop
 none-requires c κs = search needs
 
 loop-holds : tie.Need-loop-holds Inv-loop μ-loop
-loop-holds c = record { rows-left = search needs; few = search needs; same = λ vs. rw (c .none .ensures) }
+loop-holds c = record { rows-left = search needs; few = search needs; fewer = search needs; same = λ vs. rw (c .none .ensures) }
 
 shared-slice-read-find-row : tie.Need-shared-slice-read-find-row Inv-loop μ-loop
 shared-slice-read-find-row c = search needs
@@ -44,6 +44,7 @@ loop-again c =
     record {
       rows-left = search needs;
       few = search needs;
+      fewer = search needs;
       same = λ vs.
           ap (λ (t : Met). countAt one t (now (a .marks)) vs (l .loop .i + 1)) (c .find-row .ensures .0 (valueAt vs (l .loop .i)))
           ∙ sym (goes-on (counting one) (λ (m : ℕ). true) (λ (t : Met) (i : ℕ). t) (asFound (l .loop .f)) (now (a .marks)) vs (l .loop .i) (search needs) refl)
@@ -52,11 +53,10 @@ loop-again c =
 
 returns : tie.Need-returns Inv-loop μ-loop
 returns c = λ vs.
-    let l = c .before .before in
+    let l = c .before in
     let a = l .before .before .before .before .args in
-    ap (λ (t : Met). t .met)
-    (sym (ends-at (counting (found (now (a .ms)))) (λ (m : ℕ). true) (λ (t : Met) (i : ℕ). t) (asFound (l .loop .f)) (now (a .marks)) vs (l .loop .i) (search needs))
-    ∙ l .loop .inv .same vs)
+    sym (ends-at (counting (found (now (a .ms)))) (λ (m : ℕ). true) (λ (t : Met) (i : ℕ). t) (asFound (l .loop .f)) (now (a .marks)) vs (l .loop .i) (search needs))
+    ∙ l .loop .inv .same vs
 
 pub find-spec : {M : Type 1} → statement M
 find-spec =

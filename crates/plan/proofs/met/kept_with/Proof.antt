@@ -1,0 +1,15 @@
+use borrow.Author.Needs.{needs}
+use Rattle.plan.proofs.met.kept_with.Statement.{statement}
+use Rattle.plan.proofs.met.kept_with.Tie as tie
+
+add-result : tie.Need-add-result
+add-result c = search needs
+
+returns : tie.Need-returns
+returns c = (rw (c .if1 .taken), search needs)
+
+returns-2 : tie.Need-returns-2
+returns-2 c = (rw (c .if1 .left), search needs)
+
+pub kept-with-spec : {M : Type 1} → statement M
+kept-with-spec = tie.close (tie.spec add-result returns returns-2)
