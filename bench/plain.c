@@ -10,7 +10,8 @@
 #include <string.h>
 
 enum { ACTION = 1, EFFECT, CLAUSE, HOLDS, LACKS, ADD, DELETE, GOAL, START, ALWAYS, SOMETIME, AT_END, AT_MOST_ONCE,
-       SOMETIME_BEFORE, SOMETIME_AFTER, SECOND, WITHIN, ALWAYS_WITHIN, STEPS };
+       SOMETIME_BEFORE, SOMETIME_AFTER, SECOND, WITHIN, ALWAYS_WITHIN, STEPS, HARD_ALWAYS = 26, HARD_SECOND = 32,
+       HARD_ALWAYS_WITHIN = 34, HARD = 16 };
 
 #define MAX_ROWS ROUTE_RULES_MAX_ROWS
 #define MAX_DEADLINE ROUTE_RULES_MAX_DEADLINE
@@ -27,6 +28,7 @@ typedef struct {
     struct {
         uint32_t open, phi, second, next; /* row of the preference, of its first condition, of SECOND or next, and behind it */
         uint32_t steps, d;                /* its deadline; the first of its facts D */
+        uint8_t kind, hard;               /* the mark of its kind made soft; whether it must hold */
     } side[16];
     uint32_t number; /* of a refusal */
     uint64_t place;
@@ -65,7 +67,12 @@ static int need(Task *t, uint8_t mark, uint32_t most)
     return take(t, most);
 }
 
-static inline int opens(uint8_t mark) { return mark >= ALWAYS && mark <= ALWAYS_WITHIN && mark != SECOND; }
+static inline int opens_hard(uint8_t mark) { return mark >= HARD_ALWAYS && mark <= HARD_ALWAYS_WITHIN && mark != HARD_SECOND; }
+
+static inline int opens(uint8_t mark)
+{
+    return (mark >= ALWAYS && mark <= ALWAYS_WITHIN && mark != SECOND) || opens_hard(mark);
+}
 
 static inline int has_steps(uint8_t kind) { return kind >= WITHIN; }
 
@@ -101,8 +108,9 @@ static int read_action(Task *t)
 static int read_preference(Task *t)
 {
     uint32_t open = t->at;
-    uint8_t kind = t->marks[open];
-    if (!take(t, ROUTE_RULES_MAX_AMOUNT)) return 0;
+    int hard = opens_hard(t->marks[open]);
+    uint8_t kind = t->marks[open] - (hard ? HARD : 0);
+    if (!take(t, hard ? 0 : ROUTE_RULES_MAX_AMOUNT)) return 0;
     if (has_steps(kind) && !need(t, STEPS, MAX_DEADLINE)) return 0;
     uint32_t phi = t->at;
     if (!read_condition(t)) return 0;
@@ -114,6 +122,8 @@ static int read_preference(Task *t)
         t->side[t->preferences].second = second;
         t->side[t->preferences].next = t->at;
         t->side[t->preferences].steps = has_steps(kind) ? value_at(t, open + 1) : 0;
+        t->side[t->preferences].kind = kind;
+        t->side[t->preferences].hard = hard;
     }
     t->preferences++;
     return 1;
@@ -272,11 +282,19 @@ static int admitted(Task *t, const uint8_t *plan, size_t steps)
     return 1;
 }
 
+/* The verdict on a plan whose goal holds: the lowest hard rule that is missed is named. */
 static void solved(const Task *t, const Monitor *m, uint64_t cost, uint64_t answer[8])
 {
     uint64_t met = 0;
-    for (uint32_t k = 0; k < t->preferences; k++)
-        met |= (uint64_t)good(m[k], t->marks[t->side[k].open]) << k;
+    for (uint32_t k = 0; k < t->preferences; k++) {
+        int yes = good(m[k], t->side[k].kind);
+        if (t->side[k].hard && !yes) {
+            answer[1] = ROUTE_RULES_RULE_MISSED;
+            answer[2] = k;
+            return;
+        }
+        met |= (uint64_t)yes << k;
+    }
     answer[1] = ROUTE_RULES_SOLVED;
     answer[3] = cost;
     answer[4] = met;
@@ -300,7 +318,7 @@ static State opening(const Task *t)
 static void watch_all(const Task *t, Monitor *m, int last, State s, uint64_t *looked)
 {
     for (uint32_t k = 0; k < t->preferences; k++) {
-        uint8_t kind = t->marks[t->side[k].open];
+        uint8_t kind = t->side[k].kind;
         int phi = true_at(t, t->side[k].phi, s, looked);
         int psi = has_second(kind) ? true_at(t, t->side[k].second + 1, s, looked) : 1;
         watch(&m[k], kind, t->side[k].steps, last, phi, psi);
@@ -390,7 +408,7 @@ static void table_all(const Task *t, Tables *x)
         at = t->side[k].phi;
         x->phi[k] = table_condition(t, x, &at);
         at = t->side[k].second + 1;
-        if (has_second(t->marks[t->side[k].open])) x->psi[k] = table_condition(t, x, &at);
+        if (has_second(t->side[k].kind)) x->psi[k] = table_condition(t, x, &at);
     }
 }
 
@@ -410,7 +428,7 @@ static inline int clauses_true(const Tables *x, Clauses c, State s, uint64_t *lo
 static void watch_tables(const Task *t, const Tables *x, Monitor *m, int last, State s, uint64_t *looked)
 {
     for (uint32_t k = 0; k < t->preferences; k++) {
-        uint8_t kind = t->marks[t->side[k].open];
+        uint8_t kind = t->side[k].kind;
         int phi = clauses_true(x, x->phi[k], s, looked);
         int psi = has_second(kind) ? clauses_true(x, x->psi[k], s, looked) : 1;
         watch(&m[k], kind, t->side[k].steps, last, phi, psi);
@@ -567,7 +585,7 @@ static void put_tracker(Writer *w, uint32_t k, int last)
     const Task *t = w->source;
     uint32_t phi = t->side[k].phi, second = t->side[k].second, next = t->side[k].next;
     uint32_t s = t->facts + 3 * k, b = s + 1;
-    switch (t->marks[t->side[k].open]) {
+    switch (t->side[k].kind) {
     case ALWAYS: put_false(w, phi, second, (Guard){0, s, 0, 0}, b, 0); break;
     case AT_END:
         if (!last) break;
@@ -627,7 +645,7 @@ static uint64_t tracker_rows(const Task *t, uint32_t k, int last)
 {
     uint32_t first = t->side[k].phi, second = t->side[k].second, next = t->side[k].next;
     uint64_t phi = second - first, psi = next > second ? next - second - 1 : 0, steps = t->side[k].steps;
-    switch (t->marks[t->side[k].open]) {
+    switch (t->side[k].kind) {
     /* of a denied condition, EFFECT and ADD of each clause, and two rows for a literal */
     case ALWAYS: return 2 * phi;
     case AT_END: return last ? phi + 2 : 0;
@@ -650,8 +668,8 @@ static uint64_t count_rows(const Task *t)
     for (uint32_t k = 0; k < t->preferences; k++) {
         normal += tracker_rows(t, k, 0);
         last += tracker_rows(t, k, 1);
-        /* collect and forgo: ACTION, three or two clauses, met or missed, EFFECT, ADD */
-        closing += 2 * (3 + 2 * (k > 0 ? 3 : 2)) + (t->marks[t->side[k].open] == AT_MOST_ONCE ? 7 : 4);
+        /* collect and forgo: ACTION, three or two clauses, met or missed, EFFECT, ADD; forgo of a hard rule lacks *ended* */
+        closing += 2 * (3 + 2 * (k > 0 ? 3 : 2)) + (t->side[k].kind == AT_MOST_ONCE ? 7 : 4) + (t->side[k].hard ? 2 : 0);
     }
     return rows + t->actions * normal + 6 + last + closing;
 }
@@ -659,12 +677,12 @@ static uint64_t count_rows(const Task *t)
 static void put_closing(Writer *w, uint32_t k, int collect)
 {
     const Task *t = w->source;
-    uint32_t open = t->side[k].open, s = t->facts + 3 * k, b = s + 1;
-    put(w, ACTION, collect ? 0 : value_at(t, open));
-    put_single(w, HOLDS, t->facts + 3 * t->preferences + 1);
+    uint32_t s = t->facts + 3 * k, b = s + 1, ended = t->facts + 3 * t->preferences + 1;
+    put(w, ACTION, collect ? 0 : value_at(t, t->side[k].open));
+    put_single(w, HOLDS, ended);
     if (k > 0) put_single(w, HOLDS, s - 1);
     put_single(w, LACKS, s + 2);
-    switch (t->marks[open]) {
+    switch (t->side[k].kind) {
     case SOMETIME:
     case WITHIN:
     case AT_END: put_single(w, collect ? HOLDS : LACKS, s); break;
@@ -677,6 +695,7 @@ static void put_closing(Writer *w, uint32_t k, int collect)
         break;
     default: put_single(w, collect ? LACKS : HOLDS, b);
     }
+    if (t->side[k].hard && !collect) put_single(w, LACKS, ended);
     put(w, EFFECT, 0);
     put(w, ADD, s + 2);
 }
@@ -716,7 +735,7 @@ static uint32_t number_facts(Task *t)
     uint32_t facts = t->facts + 3 * t->preferences + 2;
     for (uint32_t k = 0; k < t->preferences; k++) {
         t->side[k].d = facts;
-        facts += t->side[k].steps + (t->marks[t->side[k].open] == WITHIN);
+        facts += t->side[k].steps + (t->side[k].kind == WITHIN);
     }
     return facts;
 }

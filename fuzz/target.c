@@ -124,7 +124,7 @@ static uint64_t deadline_facts(const uint8_t *file, uint64_t rows)
     uint64_t count = 0;
     for (uint64_t i = 0; i < rows; i++) {
         uint8_t mark = file[8 + i];
-        count += mark == 19 ? file[8 + rows + 4 * i] : mark == 17;
+        count += mark == 19 ? file[8 + rows + 4 * i] : mark == 17 || mark == 33;
     }
     return count;
 }
@@ -199,6 +199,7 @@ static uint32_t wide(uint8_t mark, uint8_t value)
 {
     switch (mark) {
     case 2: case 3: case 8: case 16: return value == 255;
+    case 26: case 27: case 28: case 29: case 30: case 31: case 33: case 34: return value == 255;
     case 4: case 5: case 6: case 7: case 9: return value;
     case 19: return value % 17;
     default: return value * 4000u; /* over a million from 251 on */
@@ -220,9 +221,9 @@ static size_t make_file(Data *d, uint8_t *file)
     uint32_t sizes[4] = {1 + next(d) % 128, 0, 0, 0}, changed = next(d), repeat = next(d);
     uint32_t times = repeat % 16 == 15 ? 1 + repeat : 1;
     while (d->left > 1) {
-        uint8_t mark = next(d) % 21, value = next(d);
+        uint8_t mark = next(d) % 36, value = next(d), soft = mark >= 26 ? mark - 16 : mark;
         sizes[1] += mark == 1;
-        sizes[2] += mark >= 10 && mark <= 18 && mark != 16;
+        sizes[2] += soft >= 10 && soft <= 18 && soft != 16;
         for (uint32_t n = mark == 4 || mark == 5 ? times : 1; n > 0 && sizes[3] < ROUTE_RULES_MAX_ROWS; n--) {
             marks[sizes[3]] = mark;
             values[sizes[3]++] = wide(mark, value);

@@ -1,5 +1,5 @@
-/* Route rules: check a task file, translate a task with soft rules into a classical task, write that as PDDL, walk a plan on a
- * task, given as bytes or as planners print it, and settle what it is worth.
+/* Route rules: check a task file, translate a task with soft and hard rules into a classical task, write that as PDDL, walk a
+ * plan on a task, given as bytes or as planners print it, and settle what it is worth.
  *
  * Link target/staticlib/libroute_rules.a, which `rt staticlib route_rules` writes. Every function is proved: it answers every
  * input as the definitions say (crates/route_rules/specs/Numbers.antt has the words of the answers), always returns, and
@@ -27,7 +27,7 @@ extern "C" {
 #define ROUTE_RULES_MAX_ACTIONS 128
 #define ROUTE_RULES_MAX_PREFERENCES 16
 #define ROUTE_RULES_MAX_ROWS 12000
-#define ROUTE_RULES_MAX_AMOUNT 1000000 /* a cost or a weight */
+#define ROUTE_RULES_MAX_AMOUNT 1000000 /* a cost, or a soft rule's weight; a hard rule's is 0 */
 #define ROUTE_RULES_MAX_STEPS 2048
 #define ROUTE_RULES_MAX_DEADLINE 15 /* the steps of within and always-within */
 #define ROUTE_RULES_MAX_COST 2048000000 /* the cost of a plan: so many steps of the largest amount */
@@ -98,11 +98,12 @@ typedef struct route_rules_translated {
 uint32_t route_rules_translate(const uint8_t *file, size_t file_length, uint8_t *out, size_t out_length,
                                route_rules_translated *answer);
 
-/* A verdict; 0 where the call was refused. */
+/* A verdict; 0 where the call was refused. Stopped comes before goal missed, and that before rule missed. */
 enum {
-    ROUTE_RULES_SOLVED = 1,     /* each step applies in turn, and the goal holds in the last state */
-    ROUTE_RULES_STOPPED = 2,    /* a step doesn't apply */
-    ROUTE_RULES_GOAL_MISSED = 3 /* each step applies in turn, and the goal doesn't hold in the last state */
+    ROUTE_RULES_SOLVED = 1,      /* each step applies in turn, the goal holds in the last state, and each hard rule is met */
+    ROUTE_RULES_STOPPED = 2,     /* a step doesn't apply */
+    ROUTE_RULES_GOAL_MISSED = 3, /* each step applies in turn, and the goal doesn't hold in the last state */
+    ROUTE_RULES_RULE_MISSED = 4  /* each step applies in turn, the goal holds in the last state, and a hard rule is missed */
 };
 
 /* A walked plan. Cost and met are 0 unless it is solved. `literals` comes with every verdict: in each state the preferences are
@@ -112,7 +113,7 @@ enum {
 typedef struct route_rules_walked {
     uint64_t place;
     uint64_t verdict;
-    uint64_t step;     /* stopped: the first step that doesn't apply, from 0; else 0 */
+    uint64_t step;     /* stopped: the first step that doesn't apply; rule missed: the lowest hard rule missed; else 0 */
     uint64_t cost;     /* the sum of the step costs */
     uint64_t met;      /* bit k is 1 where preference k is met */
     uint64_t literals; /* how many literals were looked at */

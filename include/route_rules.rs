@@ -64,6 +64,8 @@ pub enum Verdict {
     /// The first step that doesn't apply.
     Stopped(u64),
     GoalMissed,
+    /// The lowest hard rule that is missed.
+    RuleMissed(u64),
 }
 
 /// A walked plan.
@@ -210,6 +212,7 @@ fn walked(walk: Walking, file: &[u8], plan: &[u8]) -> Result<Walked, Refusal> {
         },
         2 => Verdict::Stopped(words[2]),
         3 => Verdict::GoalMissed,
+        4 => Verdict::RuleMissed(words[2]),
         verdict => unreachable!("verdict {verdict}"),
     };
     Ok(Walked {

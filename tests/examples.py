@@ -23,6 +23,8 @@ WRONG = [
     ('FACTS a b\nFACTS a', 'line 2: a fact named twice, or by a number'),
     ('FACTS a\nGOAL\nwithin 7 6', 'line 3: too many words'),
     ('FACTS a\nGOAL\nwithin 7\nSTEPS a', 'line 4: unknown name a'),
+    ('FACTS a\nGOAL\nhard-end', 'line 3: unknown mark hard-end'),
+    ('FACTS a\nGOAL\nhard-GOAL', 'line 3: unknown mark hard-GOAL'),
 ]
 
 

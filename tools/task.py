@@ -6,8 +6,8 @@ tools/task.py show FILE [TEXT]      writes a task file as text, with the names t
 tools/task.py plan TEXT STEPS       writes the plan of a text: names or numbers of the actions of TEXT
 tools/task.py source TEXT PLANNED   writes the source part of what a planner prints for the translation, a line `(aN)` for each step
 
-A text has a row on each line: the documents' name of the mark, then its value; a value that is 0 may be left out. '#' starts a
-comment. FACTS and their names, or FACTS and how many, come first; a fact is then named or numbered. Behind the cost of an
+A text has a row on each line: the documents' name of the mark, then its value; a value that is 0 may be left out. A rule that must
+hold is its kind with `hard-` before it. '#' starts a comment. FACTS and their names, or FACTS and how many, come first; a fact is then named or numbered. Behind the cost of an
 ACTION a name for it may stand. Sizes are counted. Nothing else is looked at: whether it is a task is for check to say.
 """
 import re
@@ -18,7 +18,10 @@ MARKS = ['ACTION', 'EFFECT', 'CLAUSE', 'HOLDS', 'LACKS', 'ADD', 'DELETE', 'GOAL'
          'at-most-once', 'sometime-before', 'sometime-after', 'SECOND', 'within', 'always-within', 'STEPS']
 MARK = {name: mark for mark, name in enumerate(MARKS, 1)}
 OF_FACTS = ['HOLDS', 'LACKS', 'ADD', 'DELETE', 'START']
-PREFERENCES = MARKS[9:15] + MARKS[16:18]
+SOFT = MARKS[9:15] + MARKS[16:18]
+MARK.update((f'hard-{name}', MARK[name] + 16) for name in SOFT)
+NAME = {mark: name for name, mark in MARK.items()}
+PREFERENCES = SOFT + [f'hard-{name}' for name in SOFT]
 STEP = re.compile(r'\(a(0|[1-9][0-9]*)\)')
 # How far the rows are set in; an EFFECT's condition stands deeper than a precondition.
 DEPTH = {'EFFECT': 1, 'CLAUSE': 1, 'HOLDS': 2, 'LACKS': 2, 'ADD': 2, 'DELETE': 2, 'SECOND': 1, 'STEPS': 1}
@@ -108,9 +111,9 @@ def rows_of(data):
     n = sizes[3]
     if len(data) != 8 + 5 * n:
         raise Wrong('not the length of a task file')
-    if any(not 1 <= mark <= len(MARKS) for mark in data[8:8 + n]):
+    if any(mark not in NAME for mark in data[8:8 + n]):
         raise Wrong('a mark that has no name')
-    names = [MARKS[mark - 1] for mark in data[8:8 + n]]
+    names = [NAME[mark] for mark in data[8:8 + n]]
     if sizes[1:3] != (names.count('ACTION'), sum(name in PREFERENCES for name in names)):
         raise Wrong('other sizes than the rows have')
     return sizes, list(zip(names, struct.unpack(f'<{n}I', data[8 + n:])))
@@ -126,7 +129,7 @@ def words_of(name, value, facts, actions):
         return [name, name_of(value, facts)]
     if name == 'ACTION':
         return [name, str(value)] + [given for given in actions[:1] if given]
-    return [name, str(value)] if value or name == 'STEPS' or name in PREFERENCES else [name]
+    return [name, str(value)] if value or name == 'STEPS' or name in SOFT else [name]
 
 
 def show(data, text=None):

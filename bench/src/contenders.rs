@@ -43,6 +43,7 @@ fn walked(walked: Walked) -> [u64; 8] {
         Verdict::Solved { cost, met } => [0, 1, 0, cost, met, literals, 0, 0],
         Verdict::Stopped(step) => [0, 2, step as u64, 0, 0, literals, 0, 0],
         Verdict::GoalMissed => [0, 3, 0, 0, 0, literals, 0, 0],
+        Verdict::RuleMissed(k) => [0, 4, k as u64, 0, 0, literals, 0, 0],
     }
 }
 

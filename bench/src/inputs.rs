@@ -36,6 +36,7 @@ pub fn belt() -> Input {
     };
     let rule = |kind, weight, phi| Preference {
         kind,
+        hard: false,
         weight,
         phi,
         psi: vec![],
@@ -59,6 +60,7 @@ pub fn middle() -> Input {
         facts: 60,
         actions: 40,
         kinds: Kind::all(6).to_vec(),
+        hard: 0,
         clauses: 3,
         literals: 3,
         effects: 3,
@@ -139,6 +141,7 @@ fn preferences(kinds: &[Kind], rows: usize) -> Vec<Preference> {
     };
     let preference = |&kind: &Kind| Preference {
         kind,
+        hard: false,
         weight: 7,
         phi: share(),
         psi: if kind.has_second() { share() } else { vec![] },
@@ -189,6 +192,23 @@ pub fn in_deadlines(rows: usize, steps: usize) -> Input {
     })
 }
 
+/// The same with hard rules, all met: of every kind but sometime-before, since φ is true in the opening state.
+pub fn in_hard_rules(rows: usize, steps: usize) -> Input {
+    let name = format!("{rows} rows in hard rules, {steps} steps");
+    let mut kinds = Kind::all(MAX_DEADLINE).to_vec();
+    kinds.retain(|&kind| kind != Kind::SometimeBefore);
+    let sixteen: Vec<Kind> = kinds.iter().copied().cycle().take(16).collect();
+    in_conditions(&name, rows, steps, |n| made_hard(preferences(&sixteen, n)))
+}
+
+fn made_hard(mut preferences: Vec<Preference>) -> Vec<Preference> {
+    for preference in &mut preferences {
+        preference.hard = true;
+        preference.weight = 0;
+    }
+    preferences
+}
+
 /// A task of so many rows with two actions and preferences that have as many rows as it takes; the steps take both by turns.
 fn in_conditions(
     name: &str,
@@ -226,21 +246,37 @@ pub fn many_actions(name: &str, taken: &[u8]) -> Input {
 /// A task whose translation has so many rows, most of them in the trackers of its actions.
 pub fn in_trackers(rows: usize, actions: usize) -> Input {
     let name = format!("{rows} rows written, {actions} actions");
-    in_trackers_of(&name, &six_kinds(), rows, actions)
+    in_trackers_of(&name, |n| preferences(&six_kinds(), n), rows, actions)
+}
+
+/// The same with hard rules.
+pub fn in_hard_trackers(rows: usize, actions: usize) -> Input {
+    let name = format!("{rows} rows written, hard rules, {actions} actions");
+    in_trackers_of(
+        &name,
+        |n| made_hard(preferences(&six_kinds(), n)),
+        rows,
+        actions,
+    )
 }
 
 /// The same with two of the latest deadlines.
 pub fn in_deadline_trackers(rows: usize, actions: usize) -> Input {
     let name = format!("{rows} rows written, deadlines, {actions} actions");
-    in_trackers_of(&name, &deadlines(2), rows, actions)
+    in_trackers_of(&name, |n| preferences(&deadlines(2), n), rows, actions)
 }
 
-fn in_trackers_of(name: &str, kinds: &[Kind], rows: usize, actions: usize) -> Input {
+fn in_trackers_of(
+    name: &str,
+    preferences: impl Fn(usize) -> Vec<Preference>,
+    rows: usize,
+    actions: usize,
+) -> Input {
     let of = |clauses: usize, goal: usize| Task {
         goal: vec![clause(goal)],
         ..task(
             (0..actions).map(|k| action(8, k % 2)).collect(),
-            preferences(kinds, clauses),
+            preferences(clauses),
         )
     };
     let length = |task: &Task| translated(task, 2 * MAX_ROWS).map(|t| t.rows());

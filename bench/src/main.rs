@@ -132,6 +132,7 @@ fn comparison() {
         inputs::in_action(12_000, 2_048),
         inputs::many_actions("each in turn", &Vec::from_iter(0..128)),
         inputs::in_deadlines(12_000, 2_048),
+        inputs::in_hard_rules(12_000, 2_048),
     ];
     for input in &walked {
         line("walk and settle", input, &walk_and_settle(input));
@@ -145,6 +146,7 @@ fn comparison() {
         inputs::middle(),
         inputs::in_trackers(12_000, 40),
         inputs::in_deadline_trackers(12_000, 4),
+        inputs::in_hard_trackers(12_000, 40),
         inputs::copied(12_000),
     ];
     for input in &translated {

@@ -78,6 +78,7 @@ static void walked(const char *operation, uint32_t number, const route_rules_wal
         break;
     case ROUTE_RULES_STOPPED: printf("stopped %" PRIu64, answer->step); break;
     case ROUTE_RULES_GOAL_MISSED: printf("goal missed"); break;
+    case ROUTE_RULES_RULE_MISSED: printf("rule missed %" PRIu64, answer->step); break;
     }
     printf(" literals %" PRIu64 "\n", answer->literals);
 }

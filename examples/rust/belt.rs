@@ -56,6 +56,7 @@ fn walked(walked: Walked) -> String {
         }
         Verdict::Stopped(step) => format!("stopped {step}"),
         Verdict::GoalMissed => "goal missed".to_string(),
+        Verdict::RuleMissed(k) => format!("rule missed {k}"),
     };
     format!("{verdict} literals {}", walked.literals)
 }

@@ -1,6 +1,6 @@
 #!/usr/bin/env python3
-"""The test vectors of check: the task file of document 01 and of document 02's sixth request, and its refusals 1 to 6, in an account
-of their own.
+"""The test vectors of check: the task file of document 01 and of document 02's sixth and eighth requests, and its refusals 1 to 6, in
+an account of their own.
 
 tests/check/vectors.py           writes crates/check_vectors/data/vectors and crates/check_vectors/stdout
 tests/check/vectors.py --check   writes nothing, and fails where these two files are not what it makes
@@ -12,14 +12,17 @@ import sys
 
 HERE = os.path.dirname(os.path.abspath(__file__))
 
-# The documents' names of the marks 1 to 19.
+# The documents' names of the marks 1 to 19; a hard rule's is its kind with `hard-` before it.
 NAMES = ['ACTION', 'EFFECT', 'CLAUSE', 'HOLDS', 'LACKS', 'ADD', 'DELETE', 'GOAL', 'START', 'always', 'sometime', 'at-end',
          'at-most-once', 'sometime-before', 'sometime-after', 'SECOND', 'within', 'always-within', 'STEPS']
-NAME = dict(enumerate(NAMES, 1))
+SOFT = NAMES[9:15] + NAMES[16:18]
+HARD = [f'hard-{kind}' for kind in SOFT]
+NAME = {**dict(enumerate(NAMES, 1)), **dict(zip([26, 27, 28, 29, 30, 31, 33, 34], HARD))}
 MARK = {name: mark for mark, name in NAME.items()}
-WITH_STEPS = ['within', 'always-within']
-PREFERENCES = NAMES[9:15] + WITH_STEPS
-WITH_SECOND = ['sometime-before', 'sometime-after', 'always-within']
+PREFERENCES = SOFT + HARD
+DEADLINES = ['within', 'always-within']
+WITH_STEPS = [hard + kind for hard in ('', 'hard-') for kind in DEADLINES]
+WITH_SECOND = [hard + kind for hard in ('', 'hard-') for kind in ('sometime-before', 'sometime-after', 'always-within')]
 OF_FACTS = ['HOLDS', 'LACKS', 'ADD', 'DELETE']
 
 
@@ -39,7 +42,7 @@ class Rows:
         return self.next < len(self.marks) and self.marks[self.next] in names
 
     def allows(self, name, value):
-        if name == 'ACTION' or name in PREFERENCES:
+        if name == 'ACTION' or name in SOFT:
             return value <= 1000000
         if name == 'STEPS':
             return value <= 15
@@ -150,9 +153,10 @@ def goal(n):
 
 
 def preference(kind, weight, phi='', psi='', steps=0):
-    """The rows of a preference in words. ψ and the steps are left out where the kind has none."""
+    """The rows of a preference in words. ψ and the steps are left out where the kind has none, and the weight where it is hard."""
+    opening = kind if kind in HARD else f'{kind} {weight}'
     deadline = f' STEPS {steps}' if kind in WITH_STEPS else ''
-    return f' {kind} {weight}{deadline} {phi}' + (f' SECOND {psi}' if kind in WITH_SECOND else '')
+    return f' {opening}{deadline} {phi}' + (f' SECOND {psi}' if kind in WITH_SECOND else '')
 
 
 # ---- the vectors: what each is for, how its line begins where that is written down here too, and the file
@@ -176,12 +180,17 @@ def accepted_tasks():
             ('HOLDS and LACKS of one fact', 'GOAL CLAUSE HOLDS 1 LACKS 1 CLAUSE LACKS 1 CLAUSE HOLDS 1'),
             ('a fact added twice, deleted twice, both', 'GOAL ACTION EFFECT ADD 1 ADD 1 DELETE 2 DELETE 2 EFFECT ADD 1 DELETE 1'),
             ('an action and a preference twice', 'GOAL ACTION 1 ACTION 1 always 1 always 1'),
-            ('all eight kinds, every part in its longest form', ALL_KINDS),
+            ('all eight kinds, soft and hard, every part in its longest form', ALL_KINDS),
             ('deadlines, empty conditions', 'GOAL within STEPS always-within STEPS SECOND within 1 STEPS 15'),
             ('deadlines, φ empty', 'GOAL always-within STEPS 1 SECOND CLAUSE HOLDS 1'),
             ('deadlines, ψ empty', 'GOAL always-within STEPS 2 CLAUSE HOLDS 1 SECOND'),
             ('deadlines among the other kinds', 'GOAL always within STEPS 3 at-end always-within STEPS 4 SECOND sometime-after SECOND'),
-            ('16 deadlines', 'GOAL' + 8 * ' within 1000000 STEPS 15 always-within 1000000 STEPS 15 SECOND')]:
+            ('16 deadlines', 'GOAL' + 8 * ' within 1000000 STEPS 15 always-within 1000000 STEPS 15 SECOND'),
+            ('hard rules, empty conditions', 'GOAL' + ''.join(preference(kind, 0) for kind in HARD)),
+            ('hard rules between soft ones', 'GOAL always 9 hard-always sometime 9 hard-within STEPS 3 within 9 STEPS 3 hard-at-end at-end 9'),
+            ('a soft rule and the same one hard', f'GOAL sometime-before 1 {LONG} SECOND {LONG} hard-sometime-before {LONG} SECOND {LONG}'),
+            ('a hard rule twice', 'GOAL hard-sometime CLAUSE HOLDS 1 hard-sometime CLAUSE HOLDS 1'),
+            ('16 hard rules', 'GOAL' + ' hard-at-most-once' * 16)]:
         yield what, 'accepted', file(text)
     yield 'a belt and a gate', 'accepted 2 2 2 18', file(BELT, F=2)
 
@@ -213,10 +222,14 @@ def lengths_and_sizes():
 
 
 def values():
-    for name in ['ACTION', *PREFERENCES]:
+    for name in ['ACTION', *SOFT]:
         for value in [0, 65536, 1000000, 1000001, 2 ** 24, 2 ** 32 - 1]:
             text = f'GOAL {name} {value}' if name == 'ACTION' else 'GOAL' + preference(name, value)
             yield f'{name} {value}', 'accepted' if value <= 1000000 else 'refused 5 1', file(text)
+    for name in HARD:
+        for value in [0, 1, 2, 255, 256, 65536, 1000000, 1000001, 2 ** 24, 2 ** 31, 2 ** 32 - 1]:
+            text = 'GOAL' + preference(name, 0).replace(name, f'{name} {value}')
+            yield f'{name} {value}', 'refused 5 1' if value else 'accepted', file(text)
     for name in WITH_STEPS:
         for value in [0, 1, 8, 14, 15, 16, 17, 31, 256, 2 ** 32 - 1]:
             yield f'{name}, STEPS {value}', 'accepted' if value <= 15 else 'refused 5 2', file('GOAL' + preference(name, 5, steps=value))
@@ -240,13 +253,13 @@ def values():
     yield 'START of all 128 facts, the last again', 'refused 5 128', file(every + ' START 127 GOAL', F=128)
 
 
-MARKS = [*range(21), 255]
+MARKS = [*range(37), 48, 49, 50, 128 + 10, 128 + 26, 255]
 
 
 def limit(mark):
     """The greatest value that a mark allows, F being 4."""
     name = NAME.get(mark)
-    return 1000000 if name in ['ACTION', *PREFERENCES] else 3 if name in ['START', *OF_FACTS] else 15 if name == 'STEPS' else 0
+    return 1000000 if name in ['ACTION', *SOFT] else 3 if name in ['START', *OF_FACTS] else 15 if name == 'STEPS' else 0
 
 
 def with_condition(owner):
@@ -254,8 +267,9 @@ def with_condition(owner):
 
 
 def contexts():
-    """Every context without a deadline against every mark, with a value that the mark allows and with one that it does not."""
-    without = [kind for kind in PREFERENCES if kind not in WITH_STEPS]
+    """Every context without a deadline against every mark, with a value that the mark allows and with one that it does not. After a
+    hard rule the contexts are those of its kind."""
+    without = [kind for kind in SOFT if kind not in WITH_STEPS]
     owners = ['GOAL', 'GOAL ACTION 5', 'GOAL ACTION 5 EFFECT', *(f'GOAL {kind} 5' for kind in without),
               *(f'GOAL {kind} 5 SECOND' for kind in without if kind in WITH_SECOND)]
     conditions = [before for owner in owners for before in with_condition(owner)]
@@ -265,13 +279,17 @@ def contexts():
                 yield f'{before}, then mark {mark} with {value}', '', file(f'{before} #{mark} {value}')
 
 
+def too_great(contexts):
+    for before in contexts:
+        for mark in MARKS:
+            yield f'{before}, then mark {mark}, too great', '', file(f'{before} #{mark} {limit(mark) + 1}')
+
+
 def contexts_of_deadlines():
     """Their contexts against every mark, with a value that it does not allow: 5 says that it may come. Then rows out of order."""
     owners = ['GOAL within 5 STEPS 15', 'GOAL always-within 5 STEPS 15', 'GOAL always-within 5 STEPS 15 SECOND']
     conditions = [before for owner in owners for before in with_condition(owner)]
-    for before in ['GOAL within 5', 'GOAL always-within 5', *conditions]:
-        for mark in MARKS:
-            yield f'{before}, then mark {mark}, too great', '', file(f'{before} #{mark} {limit(mark) + 1}')
+    yield from too_great(['GOAL within 5', 'GOAL always-within 5', *conditions])
     for text, row in [
             ('GOAL within CLAUSE HOLDS 0 STEPS 1', 2), ('GOAL within SECOND', 2), ('GOAL within STEPS 1 STEPS 1', 3),
             ('GOAL within STEPS 1 CLAUSE HOLDS 0 STEPS 1', 5), ('GOAL within STEPS 1 SECOND', 3),
@@ -281,6 +299,32 @@ def contexts_of_deadlines():
             ('GOAL always STEPS 1', 2), ('GOAL sometime-before STEPS 1 SECOND', 2), ('GOAL sometime-after SECOND STEPS 1', 3),
             ('GOAL at-end CLAUSE HOLDS 0 STEPS 1', 4), ('STEPS 1 GOAL', 0), ('GOAL STEPS 1', 1), ('GOAL ACTION STEPS 1', 2)]:
         yield text, f'refused 4 {row}', file(text)
+
+
+def contexts_of_hard_rules():
+    """Their contexts against every mark, with a value that it does not allow: 5 says that it may come. Then marks that look like hard
+    ones, and hard rules out of order."""
+    opened = [f'GOAL {kind}' + (' STEPS 15' if kind in WITH_STEPS else '') for kind in HARD]
+    owners = [*opened, *(f'{owner} SECOND' for owner in opened if owner.split()[1] in WITH_SECOND)]
+    unopened = [f'GOAL {kind}' for kind in HARD if kind in WITH_STEPS]
+    yield from too_great([*unopened, *(before for owner in owners for before in with_condition(owner))])
+    for mark in [20, 21, 22, 23, 24, 25, 32, 35, 36, 42, 255]:
+        for before in ['', 'START 0', 'GOAL', 'GOAL ACTION', 'GOAL always', 'GOAL hard-always', 'GOAL hard-sometime-before',
+                       'GOAL hard-always-within STEPS 1 CLAUSE HOLDS 0', 'GOAL hard-within']:
+            yield f'{before}, then mark {mark}', f'refused 4 {len(spelled(before))}', file(f'{before} #{mark} 0')
+    for text, row in [
+            ('hard-always GOAL', 0), ('START 0 hard-always GOAL', 1), ('GOAL hard-always ACTION', 2), ('GOAL hard-always EFFECT', 2),
+            ('GOAL hard-always SECOND', 2), ('GOAL hard-sometime STEPS 1', 2), ('GOAL hard-at-end CLAUSE HOLDS 0 SECOND', 4),
+            ('GOAL hard-sometime-before always', 2), ('GOAL hard-sometime-before hard-always', 2), ('GOAL sometime-after hard-always', 2),
+            ('GOAL hard-sometime-after SECOND SECOND', 3), ('GOAL hard-within CLAUSE HOLDS 0', 2), ('GOAL hard-within hard-always', 2),
+            ('GOAL hard-within STEPS 1 SECOND', 3), ('GOAL hard-within STEPS 1 STEPS 1', 3), ('GOAL hard-always-within SECOND', 2),
+            ('GOAL hard-always-within STEPS 1 hard-always', 3), ('GOAL hard-always-within STEPS 1 SECOND STEPS 1', 4),
+            ('GOAL CLAUSE hard-always', 2), ('GOAL ACTION CLAUSE hard-always', 3), ('GOAL always CLAUSE hard-always', 3)]:
+        yield text, f'refused 4 {row}', file(text)
+    for text, answer in [('GOAL hard-always 1 SECOND', 'refused 5 1'), ('GOAL hard-always 1000000', 'refused 5 1'),
+                         ('GOAL #32 1', 'refused 4 1'), ('hard-always 1 GOAL', 'refused 4 0'), ('GOAL sometime-before hard-always 1', 'refused 4 2'),
+                         ('GOAL hard-within STEPS 16', 'refused 5 2'), ('GOAL hard-always-within 1 STEPS 16', 'refused 5 1')]:
+        yield f'{text}, 4 before 5 on one row, the first faulty row decides', answer, file(text)
 
 
 def order_of_causes():
@@ -294,7 +338,9 @@ def order_of_causes():
                  'GOAL ACTION EFFECT CLAUSE', 'GOAL always CLAUSE', 'GOAL sometime-before', 'GOAL sometime-before CLAUSE',
                  'GOAL sometime-after', 'GOAL sometime-after CLAUSE HOLDS 1', 'GOAL sometime-after SECOND CLAUSE',
                  'GOAL within', 'GOAL within STEPS 15 CLAUSE', 'GOAL always-within', 'GOAL always-within STEPS 15',
-                 'GOAL always-within STEPS 15 CLAUSE HOLDS 1', 'GOAL always-within STEPS 15 SECOND CLAUSE']:
+                 'GOAL always-within STEPS 15 CLAUSE HOLDS 1', 'GOAL always-within STEPS 15 SECOND CLAUSE',
+                 'GOAL hard-always CLAUSE', 'GOAL hard-sometime-before', 'GOAL hard-sometime-after CLAUSE HOLDS 1', 'GOAL hard-within',
+                 'GOAL hard-always-within', 'GOAL hard-always-within STEPS 15', 'GOAL hard-always-within STEPS 15 SECOND CLAUSE']:
         yield f'ends inside a task: {text[-50:]}', f'refused 4 {len(spelled(text))}', file(text)
         yield f'ends inside a task, before 6: {text[-50:]}', f'refused 4 {len(spelled(text))}', file(text, A=7, P=7)
 
@@ -309,13 +355,16 @@ def counts():
             ('129 actions', 'GOAL' + ' ACTION' * 129, dict(A=128)), ('257 actions', 'GOAL' + ' ACTION' * 257, dict(A=1)),
             ('17 preferences', 'GOAL' + ' at-end' * 17, dict(P=16)), ('272 preferences', 'GOAL' + ' at-end' * 272, dict(P=16)),
             ('17 deadlines', 'GOAL' + ' within STEPS' * 17, dict(P=16)), ('one deadline', 'GOAL within STEPS', dict(P=0)),
+            ('17 hard rules', 'GOAL' + ' hard-always' * 17, dict(P=16)), ('one hard rule', 'GOAL hard-sometime', dict(P=0)),
+            ('a soft and a hard rule', 'GOAL sometime hard-sometime', dict(P=1)), ('two hard rules', 'GOAL hard-at-end hard-always', dict(P=3)),
             ('no action', 'GOAL', dict(A=128)), ('no preference', 'GOAL', dict(P=16)), ('300 rows', goal(300), dict(A=1))]:
         yield f'{what}, and {header}', f'refused 6 {len(spelled(text))}', file(text, **header)
 
 
 def vectors():
     """What each vector is for, the file, and the line that the program has to write."""
-    for family in [accepted_tasks, lengths_and_sizes, values, contexts, contexts_of_deadlines, order_of_causes, counts]:
+    families = [accepted_tasks, lengths_and_sizes, values, contexts, contexts_of_deadlines, contexts_of_hard_rules, order_of_causes, counts]
+    for family in families:
         for what, answer, data in family():
             line = check(data)
             assert answer in ('', line, line.split()[0]), f'{what}: {line}, and not {answer}'

@@ -26,6 +26,9 @@ assert len(LONGEST) == 606
 CASES = [
     ('the belt', dict(task=belt, plan=b'\0'), four_lines),
     ('the empty plan', dict(task=belt, plan=b''), 'goal missed\n'),
+    ('a hard rule met', dict(task=file('GOAL ACTION 2 hard-always CLAUSE LACKS 0'), plan=b'\0'),
+     'solved steps 1 cost 2\n0 hard-always 0 met\nmetric 2 utility -2\n'),
+    ('a hard rule missed', dict(task=file('GOAL always 5 hard-sometime CLAUSE HOLDS 0'), plan=b''), 'rule missed 1\n'),
     ('no files', {}, 'no file\n'),
     ('no plan', dict(task=belt), 'no file\n'),
     ('no task', dict(plan=b'\0'), 'no file\n'),

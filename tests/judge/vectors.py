@@ -26,7 +26,8 @@ import sys
 HERE = os.path.dirname(os.path.abspath(__file__))
 ACCOUNT = runpy.run_path(os.path.join(HERE, '../check/vectors.py'))
 check, file, preference, record, store = (ACCOUNT[name] for name in ['check', 'file', 'preference', 'record', 'store'])
-NAME, PREFERENCES, WITH_STEPS, BELT = (ACCOUNT[name] for name in ['NAME', 'PREFERENCES', 'WITH_STEPS', 'BELT'])
+NAME, SOFT, HARD, PREFERENCES, DEADLINES, BELT = (
+    ACCOUNT[name] for name in ['NAME', 'SOFT', 'HARD', 'PREFERENCES', 'DEADLINES', 'BELT'])
 
 
 # ---- the texts
@@ -59,7 +60,8 @@ def task_facts(data, t=''):
         if row in opened:
             condition = opened[row]
             yield f'condition({t}{condition}).'
-        says = {'START': f'start({t}{value}).', 'ACTION': f'action({t}{a},{value}).', 'preference': f'preference({t}{k},"{name}",{value}).',
+        rule = f'preference({t}{k},"{name.removeprefix("hard-")}",{value}).' + (f' hard({t}{k}).' if name in HARD else '')
+        says = {'START': f'start({t}{value}).', 'ACTION': f'action({t}{a},{value}).', 'preference': rule,
                 'ADD': f'gives({t}{a},{e},holds,{value}).', 'DELETE': f'gives({t}{a},{e},lacks,{value}).', 'CLAUSE': f'clause({t}{condition},{c}).',
                 'HOLDS': f'literal({t}{condition},{c},holds,{value}).', 'LACKS': f'literal({t}{condition},{c},lacks,{value}).',
                 'STEPS': f'deadline({t}{k},{value}).'}
@@ -90,7 +92,9 @@ def verdict(atoms, data, plan):
         return 'stopped %d\n' % tuple(atoms['stopped'])
     if atoms.keys() == {'goal_missed'}:
         return 'goal missed\n'
-    assert not atoms.keys() & {'stopped', 'goal_missed'}
+    if atoms.keys() == {'rule_missed'}:
+        return 'rule missed %d\n' % tuple(atoms['rule_missed'])
+    assert not atoms.keys() & {'stopped', 'goal_missed', 'rule_missed'}
     (cost,), (metric,), (utility,) = atoms['cost'], atoms['metric'], atoms['utility']
     lines = [f'solved steps {len(plan)} cost {cost}']
     for k, (kind, weight) in enumerate(row for row in rows(data) if row[0] in PREFERENCES):
@@ -121,17 +125,36 @@ def belt():
         yield f'the belt, plan {plan}', file(BELT, F=2), plan, answer
 
 
+# Traces picked by hand, document 01's (a) to (j) among them: a kind, its steps, where it is met, and where it is missed.
+OF_KINDS = [
+    ('always', 0, 'f ff fff fffffff', '- -- --- -ff f-f ff- f-- --f fffff-'),
+    ('sometime', 0, 'f f-- -f- --f ff- fff -----f', '- -- ---'),
+    ('at-end', 0, 'f -f ff --f fff f-f', '- f- ff- f-- -f- ---'),
+    ('at-most-once', 0, '- f -- f- -f ff ff- -ff -f- fff --f f-- -fff- ---ff', 'f-f f--f ff-f f-ff -f-f f-f- f-f-f ff--ff -f-f-f'),
+    ('sometime-before', 0, '- p -p --- pf p-f pb -pf -pb p-b pff pfpf pp--f', 'f b f- b- -f -b fp bf ff -fp -bf fpf bpf fpb -f-p'),
+    ('sometime-after', 0, '- p b -- -b b- fp bp fb pb --p b-- f-p ffp bbp fpb fb- fpfp fp-- pbb-', 'f f- -f ff pf bf fpf fbf f-- pf- ppf fpfpf b-f-')]
+OF_DEADLINES = [
+    ('within', 0, 'f f- ff', '- -f --f'), ('within', 1, 'f f-- -f -f- ff', '- -- --f --ff'),
+    ('within', 2, '--f -f- f--f', '- -- --- ---f ---ff'), ('within', 3, 'f ---f', '---- ----f'),
+    ('within', 15, f'f --f {"-" * 15}f {"-" * 15}f-', f'- --- {"-" * 16} {"-" * 16}f {"-" * 20}f'),
+    ('always-within', 0, '- p b bb pb -b- bpb', 'f f- fp fb bf pf fpf bfb'),
+    ('always-within', 1, 'fp fb -fp bfp fp-- fpfp fpfb', 'f ff pf f-p ffp fpf -f- f--p fp-f bf-p'),
+    ('always-within', 2, 'fp f-p ffp fpf-p f-pf-b', 'f f- fff ff-p f--p f-pf pf--p f--pppp'),
+    ('always-within', 3, 'f--p fffp fffpffb', 'f-- f---p ffffp fffpff f----'),
+    ('always-within', 15, f'f{"-" * 14}p {"f" * 15}p {"f" * 15}b', f'f pf pf--- f{"-" * 15}p {"f" * 16}p')]
+
+
+def by_hand(table):
+    """Each kind, its steps and each trace picked for it, and whether it is met."""
+    for kind, steps, *traces in table:
+        for met, trace in [(met, trace) for met, some in zip([True, False], traces) for trace in some.split()]:
+            yield kind, steps, trace, met
+
+
 def kinds():
-    """The kinds without a deadline on traces picked by hand, document 01's (a) to (j) among them, and then on all short traces."""
-    for kind, met, missed in [
-            ('always', 'f ff fff fffffff', '- -- --- -ff f-f ff- f-- --f fffff-'),
-            ('sometime', 'f f-- -f- --f ff- fff -----f', '- -- ---'),
-            ('at-end', 'f -f ff --f fff f-f', '- f- ff- f-- -f- ---'),
-            ('at-most-once', '- f -- f- -f ff ff- -ff -f- fff --f f-- -fff- ---ff', 'f-f f--f ff-f f-ff -f-f f-f- f-f-f ff--ff -f-f-f'),
-            ('sometime-before', '- p -p --- pf p-f pb -pf -pb p-b pff pfpf pp--f', 'f b f- b- -f -b fp bf ff -fp -bf fpf bpf fpb -f-p'),
-            ('sometime-after', '- p b -- -b b- fp bp fb pb --p b-- f-p ffp bbp fpb fb- fpfp fp-- pbb-', 'f f- -f ff pf bf fpf fbf f-- pf- ppf fpfpf b-f-')]:
-        for trace in met.split() + missed.split():
-            yield f'{kind} {trace}', *traced(trace, preference(kind, 5, PHI, PSI)), 'met' if trace in met.split() else 'missed'
+    """The kinds without a deadline on traces picked by hand, and then on all short traces."""
+    for kind, _, trace, met in by_hand(OF_KINDS):
+        yield f'{kind} {trace}', *traced(trace, preference(kind, 5, PHI, PSI)), 'met' if met else 'missed'
     four = f'always 1 {PHI} sometime 2 {PHI} at-end 4 {PHI} at-most-once 8 {PHI}'
     two = f'sometime-before 1 {PHI_PSI} sometime-after 2 {PHI_PSI}'
     for what, letters, most, preferences in [('four kinds', '-f', 5, four), ('two kinds', '-fpb', 4, two)]:
@@ -141,19 +164,9 @@ def kinds():
 
 def deadlines():
     """The kinds with a deadline on traces picked by hand, and then on all short traces."""
-    for kind, steps, met, missed in [
-            ('within', 0, 'f f- ff', '- -f --f'), ('within', 1, 'f f-- -f -f- ff', '- -- --f --ff'),
-            ('within', 2, '--f -f- f--f', '- -- --- ---f ---ff'), ('within', 3, 'f ---f', '---- ----f'),
-            ('within', 15, f'f --f {"-" * 15}f {"-" * 15}f-', f'- --- {"-" * 16} {"-" * 16}f {"-" * 20}f'),
-            ('always-within', 0, '- p b bb pb -b- bpb', 'f f- fp fb bf pf fpf bfb'),
-            ('always-within', 1, 'fp fb -fp bfp fp-- fpfp fpfb', 'f ff pf f-p ffp fpf -f- f--p fp-f bf-p'),
-            ('always-within', 2, 'fp f-p ffp fpf-p f-pf-b', 'f f- fff ff-p f--p f-pf pf--p f--pppp'),
-            ('always-within', 3, 'f--p fffp fffpffb', 'f-- f---p ffffp fffpff f----'),
-            ('always-within', 15, f'f{"-" * 14}p {"f" * 15}p {"f" * 15}b', f'f pf pf--- f{"-" * 15}p {"f" * 16}p')]:
-        for trace in met.split() + missed.split():
-            answer = 'met' if trace in met.split() else 'missed'
-            yield f'{kind} {steps} {trace}', *traced(trace, preference(kind, 5, PHI, PSI, steps)), answer
-    ten = ''.join(preference(kind, 1 << steps, PHI, PSI, steps) for steps in [0, 1, 2, 3, 15] for kind in WITH_STEPS)
+    for kind, steps, trace, met in by_hand(OF_DEADLINES):
+        yield f'{kind} {steps} {trace}', *traced(trace, preference(kind, 5, PHI, PSI, steps)), 'met' if met else 'missed'
+    ten = ''.join(preference(kind, 1 << steps, PHI, PSI, steps) for steps in [0, 1, 2, 3, 15] for kind in DEADLINES)
     for letters, lengths in [('-fpb', [1, 2, 3]), ('-fp', [4]), ('-f', [5])]:
         for trace in itertools.chain(*(itertools.product(letters, repeat=states) for states in lengths)):
             yield 'deadlines on all traces, ' + ''.join(trace), *traced(trace, ten), ''
@@ -161,7 +174,7 @@ def deadlines():
 
 def long_deadlines():
     """The answers are those of within 14, always-within 14, within 15 and always-within 15."""
-    four = ''.join(preference(kind, 5, PHI, PSI, steps) for steps in [14, 15] for kind in WITH_STEPS)
+    four = ''.join(preference(kind, 5, PHI, PSI, steps) for steps in [14, 15] for kind in DEADLINES)
     for what, trace, answer in [
             ('2,049 states, φ in the last alone', '-' * 2048 + 'f', 'missed missed missed missed'),
             ('2,049 states, φ in 15 alone', '-' * 15 + 'f' + '-' * 2033, 'missed missed met missed'),
@@ -269,7 +282,7 @@ def amounts():
     yield 'A 0 and P 0', file('GOAL'), [], 'solved steps 0 cost 0|metric 0 utility 0'
     for what, weights in [('0', [0] * 16), ('1,000,000', [MOST] * 16), ('1 to 16', range(1, 17)), ('repeated', [3, 1, 4, 5] * 4)]:
         for outcome, words in [('all met', ['LACKS']), ('all missed', ['HOLDS']), ('every third met', ['LACKS', 'HOLDS', 'HOLDS'])]:
-            sixteen = ''.join(f' {PREFERENCES[k % 3]} {weight} CLAUSE {words[k % len(words)]} 0' for k, weight in enumerate(weights))
+            sixteen = ''.join(f' {SOFT[k % 3]} {weight} CLAUSE {words[k % len(words)]} 0' for k, weight in enumerate(weights))
             yield f'P 16, weights {what}, {outcome}', file(f'GOAL ACTION 5 {sixteen}'), [0], 'solved steps 1 cost 5'
     for cost, weight, utility in [(0, 0, 0), (0, MOST, MOST), (MOST, 0, -MOST), (MOST, MOST, 0), (3, 7, 4), (7, 3, -4)]:
         for outcome, phi, sums in [('met', '', f'{cost} utility {utility}'), ('missed', PHI, f'{cost + weight} utility {-cost}')]:
@@ -327,8 +340,8 @@ def refused():
             yield f'{what}, plan of {len(plan)}', data, plan, f'refused {answer}'
 
 
-def random_tasks(count=200, seed=2009):
-    """Small tasks of all kinds. The conditions of goals and actions are mostly easy, so that most plans solve."""
+def random_tasks(count=200, seed=2009, kinds=SOFT):
+    """Small tasks of all kinds. The conditions of goals and actions are mostly easy, so that most plans come to the goal."""
     r = random.Random(seed)
 
     def one_of(choices):  # by random() alone, which gives the same numbers in every version of Python
@@ -351,7 +364,7 @@ def random_tasks(count=200, seed=2009):
 
     def rule():
         phi, psi = (condition([0, 1, 1, 1, 1, 2], [1, 1, 2]) for _ in range(2))
-        return preference(one_of(PREFERENCES), one_of([0, 1, 4, 7, 30, MOST]), phi, psi, one_of([0, 1, 1, 2, 2, 3, 5, 15]))
+        return preference(one_of(kinds), one_of([0, 1, 4, 7, 30, MOST]), phi, psi, one_of([0, 1, 1, 2, 2, 3, 5, 15]))
 
     for number in range(count):
         used = one_of([[0, 1], [0, 1, 2], [0, 1, 2, 3], [0, 63, 64, 127]])
@@ -361,10 +374,55 @@ def random_tasks(count=200, seed=2009):
         yield f'random {number}', data, [one_of(range(data[2])) for _ in range(one_of([0, 1, 2, 4, 6, 8, 10, 12]))], ''
 
 
+def hard_kinds():
+    """Each kind made hard, on the traces picked for it."""
+    for kind, steps, trace, met in by_hand(OF_KINDS + OF_DEADLINES):
+        cost = sum(1 + '-fpb'.index(letter) for letter in trace[1:])
+        solved = f'solved steps {len(trace) - 1} cost {cost}|0 hard-{kind} 0 met|metric {cost} utility {-cost}'
+        data, plan = traced(trace, preference(f'hard-{kind}', 0, PHI, PSI, steps))
+        yield f'hard-{kind} {steps} {trace}', data, plan, solved if met else 'rule missed 0'
+
+
+def several_rules():
+    """Hard rules beside each other and beside soft ones. In the one state of an empty plan φ is false: m is met, x is missed; M and X
+    are the same made hard."""
+    words = {'m': f'sometime-before 5 {PHI} SECOND', 'x': f'sometime 7 {PHI}', 'M': f'hard-at-most-once {PHI}', 'X': f'hard-always {PHI}'}
+    for letters, answer in [
+            ('M', 'met'), ('X', 'rule missed 0'), ('MM', 'met met'), ('MX', 'rule missed 1'), ('XM', 'rule missed 0'), ('XX', 'rule missed 0'),
+            ('xX', 'rule missed 1'), ('mX', 'rule missed 1'), ('Xx', 'rule missed 0'), ('xM', 'missed met'), ('Mx', 'met missed'),
+            ('mxMxm', 'met missed met missed met'), ('xxxX', 'rule missed 3'), ('xMmXxX', 'rule missed 3'), ('M' * 16, 'met ' * 15 + 'met'),
+            ('X' * 16, 'rule missed 0'), ('MmxM', 'solved steps 0 cost 0|0 hard-at-most-once 0 met|1 sometime-before 5 met|2 sometime 7 missed|'
+                                          '3 hard-at-most-once 0 met|metric 7 utility 5')]:
+        yield f'rules {letters}', file('GOAL' + ''.join(' ' + words[letter] for letter in letters)), [], answer
+    for k in range(16):
+        yield f'rule {k} of 16 missed', file('GOAL ' + ' '.join(words['X' if k == i else 'M'] for i in range(16))), [], f'rule missed {k}'
+        yield f'rule {k} and the last of 16 missed', file('GOAL ' + ' '.join(words['X' if i in (k, 15) else 'x'] for i in range(16))), [], (
+            f'rule missed {k}')
+    for what, task, plan, answer in [
+            ('stopped before the rule', f'GOAL {PHI} ACTION {PHI} hard-always {PHI}', [0], 'stopped 0'),
+            ('stopped later, the rule missed in state 0', f'GOAL ACTION 1 EFFECT ADD 1 ACTION {PHI} hard-always {PHI}', [0, 0, 1], 'stopped 2'),
+            ('goal missed before the rule', f'GOAL {PHI} hard-always {PHI}', [], 'goal missed'),
+            ('goal missed and the rule met', f'GOAL {PHI} hard-at-end CLAUSE LACKS 0', [], 'goal missed'),
+            ('the rule missed where the goal holds', f'GOAL CLAUSE LACKS 0 hard-at-end {PHI}', [], 'rule missed 0'),
+            ('missed by a detour', f'START 0 GOAL ACTION EFFECT DELETE 0 ACTION EFFECT ADD 0 hard-always {PHI}', [0, 1], 'rule missed 0'),
+            ('met without the detour', f'START 0 GOAL ACTION EFFECT DELETE 0 ACTION EFFECT ADD 0 hard-always {PHI}', [1], 'met'),
+            ('an unknown step', f'GOAL ACTION hard-always {PHI}', [0, 1], 'refused 11 1'),
+            ('2,049 steps', f'GOAL ACTION hard-always {PHI}', [0] * 2049, 'refused 10 0'),
+            ('2,048 steps, missed in the last state', 'GOAL ACTION ACTION EFFECT ADD 0 hard-always CLAUSE LACKS 0', [0] * 2047 + [1], 'rule missed 0'),
+            ('2,048 steps, met', 'GOAL ACTION 1000000 hard-always CLAUSE LACKS 0', [0] * 2048,
+             'solved steps 2048 cost 2048000000|0 hard-always 0 met|metric 2048000000 utility -2048000000'),
+            ('a hard weight', f'GOAL hard-always 1 {PHI}', [], 'refused 5 1'), ('mark 32', 'GOAL #32', [], 'refused 4 1'),
+            ('hard-within, no STEPS', 'GOAL hard-within', [], 'refused 4 2'), ('an empty hard rule', 'GOAL hard-at-end', [], 'met')]:
+        yield what, file(task), plan, answer
+    yield 'a hard rule that is not counted', file('GOAL hard-at-end', P=0), [], 'refused 6 2'
+    for number, vector in enumerate(random_tasks(150, 1997, SOFT + HARD)):
+        yield f'random with hard rules {number}', *vector[1:]
+
+
 def vectors():
     """What each vector is for, the task file, the plan, and the text."""
     families = [belt, kinds, stopped_and_missed, facts_of_both_words, empty_conditions, conditions, effects, amounts, long_plans, refused,
-                random_tasks, deadlines, long_deadlines]
+                random_tasks, deadlines, long_deadlines, hard_kinds, several_rules]
     made = [(what, data, bytes(plan), answer) for family in families for what, data, plan, answer in family()]
     texts = {t: refusal(data, plan) for t, (_, data, plan, _) in enumerate(made)}
     atoms = {t: {} for t in texts if not texts[t]}

@@ -38,6 +38,9 @@ REFUSED = [
     ('preferences', dict(compiled=belt), 'refused 13 0\n'),
     ('preferences, and old texts', dict(compiled=belt, **old), 'refused 13 0\n'),
     ('a preference with a deadline', dict(compiled=file('GOAL within STEPS 1'), **old), 'refused 13 0\n'),
+    ('a hard rule', dict(compiled=file('GOAL hard-always'), **old), 'refused 13 0\n'),
+    ('a hard rule with a deadline', dict(compiled=file('GOAL hard-within STEPS 1')), 'refused 13 0\n'),
+    ('a hard weight', dict(compiled=file('GOAL hard-always 1'), **old), 'refused 5 1\n'),
     ('preferences, and folders for texts', {'compiled': belt, 'domain.pddl': FOLDER, 'problem.pddl': FOLDER}, 'refused 13 0\n'),
 ]
 

@@ -23,7 +23,8 @@ import sys
 
 HERE = os.path.dirname(os.path.abspath(__file__))
 ACCOUNT = runpy.run_path(os.path.join(HERE, '../check/vectors.py'))
-file, record, vectors, PREFERENCES = (ACCOUNT[name] for name in ['file', 'record', 'vectors', 'PREFERENCES'])
+file, record, vectors, SOFT, HARD, PREFERENCES = (
+    ACCOUNT[name] for name in ['file', 'record', 'vectors', 'SOFT', 'HARD', 'PREFERENCES'])
 rows = runpy.run_path(os.path.join(HERE, '../judge/vectors.py'))['rows']
 run = runpy.run_path(os.path.join(HERE, '../programs.py'))['run']
 FILES = runpy.run_path(os.path.join(HERE, '../translate/planner.py'))
@@ -186,7 +187,10 @@ def main(pddl, translate, judge, text_vectors, count='110', seed='4'):
         print(f'{way}: {plans} tasks with a plan, {none} without')
     for kind in PREFERENCES:
         print(f'  {kind}: {kinds[kind, "met"]} met, {kinds[kind, "missed"]} missed')
-    if each['with preferences'][0] < 50 or not all(kinds[kind, outcome] for kind in PREFERENCES for outcome in ('met', 'missed')):
+    if any(kinds[kind, 'missed'] for kind in HARD):
+        sys.exit('a plan that misses a hard rule')
+    outcomes = [(kind, 'met') for kind in PREFERENCES] + [(kind, 'missed') for kind in SOFT]
+    if each['with preferences'][0] < 50 or not all(kinds[outcome] for outcome in outcomes):
         sys.exit('fewer than 50 plans with preferences, or an outcome never came up')
     if not all(itertools.chain(*each.values())):
         sys.exit('a way without a plan, or where every task has one')

@@ -25,7 +25,7 @@ import sys
 HERE = os.path.dirname(os.path.abspath(__file__))
 ACCOUNT = runpy.run_path(os.path.join(HERE, '../check/vectors.py'))
 check, file, goal, record, store = (ACCOUNT[name] for name in ['check', 'file', 'goal', 'record', 'store'])
-PREFERENCES, WITH_STEPS, BELT = (ACCOUNT[name] for name in ['PREFERENCES', 'WITH_STEPS', 'BELT'])
+SOFT, HARD, PREFERENCES, DEADLINES, BELT = (ACCOUNT[name] for name in ['SOFT', 'HARD', 'PREFERENCES', 'DEADLINES', 'BELT'])
 JUDGE = runpy.run_path(os.path.join(HERE, '../judge/vectors.py'))
 rows, derived = JUDGE['rows'], JUDGE['derived']
 
@@ -82,7 +82,7 @@ def preference(kind, weight, condition=LONG):
     return ACCOUNT['preference'](kind, weight, condition, condition, 15)  # its steps are no weight
 
 
-def task(each, condition=LONG, kinds=PREFERENCES):
+def task(each, condition=LONG, kinds=SOFT):
     """A task with a preference of each of these weights, the kinds by turns."""
     preferences = (preference(kinds[k % len(kinds)], weight, condition) for k, weight in enumerate(each))
     return file(f'START 2 GOAL {condition} {ACTIONS}' + ''.join(preferences))
@@ -100,13 +100,13 @@ def belt():
 
 def kinds():
     """Each kind alone, with short conditions and long ones; then six kinds, and deadlines, every set of them met."""
-    for kind in PREFERENCES:
+    for kind in SOFT:
         for what, condition in [('empty', ''), ('short', 'CLAUSE HOLDS 0'), ('long', LONG)]:
             data = file(f'GOAL {ACTIONS}' + preference(kind, 5, condition))
             yield f'{kind}, {what}, met', data, 7, 1, 'metric 7 utility -2'
             yield f'{kind}, {what}, missed', data, 7, 0, 'metric 12 utility -7'
             yield f'{kind}, {what}, and another bit', data, 7, 2, 'refused 15 0'
-    six, deadlines = task([1, 10, 100, 1000, 10000, 100000]), task([1, 10, 100, 1000], kinds=WITH_STEPS)
+    six, deadlines = task([1, 10, 100, 1000, 10000, 100000]), task([1, 10, 100, 1000], kinds=DEADLINES)
     for met in range(64):
         gained = int(f'{met:b}')  # the weights are the places of a decimal number
         yield f'six kinds, met {met:06b}', six, 0, met, f'metric {111111 - gained} utility {gained}'
@@ -169,6 +169,31 @@ def amounts():
             ([WEIGHT, 0] * 8, 0, 0xAAAA, 'metric 8000000 utility 0'), ([65536] * 16, 65535, 1, f'metric {15 * 65536 + 65535} utility 1'),
             (range(1, 17), 100, 0x8001, 'metric 219 utility -83')]:
         yield f'weights {list(each)}, cost {cost}, met {met:b}', task(each), cost, met, answer
+
+
+def hard_rules():
+    """They have weight 0 and count in P: met or missed, they change nothing, and a bit of theirs is known."""
+    for kind in HARD:
+        for what, condition in [('empty', ''), ('long', LONG)]:
+            data = file(f'GOAL {ACTIONS}' + preference(kind, 0, condition))
+            for met in [0, 1]:
+                yield f'{kind}, {what}, met {met}', data, 7, met, 'metric 7 utility -7'
+            yield f'{kind}, {what}, and another bit', data, 7, 2, 'refused 15 0'
+            mixed = file('GOAL' + ''.join(preference(*rule, condition) for rule in [('at-end', 1), (kind, 0), ('within', 10), (kind, 0)]))
+            for met in range(16):
+                gained = met % 2 + met // 4 % 2 * 10
+                yield f'{kind} between soft ones, {what}, met {met:04b}', mixed, 5, met, f'metric {16 - gained} utility {gained - 5}'
+            yield f'{kind} between soft ones, {what}, bit 4', mixed, 5, 16, 'refused 15 0'
+    for p in [1, 15, 16]:
+        data, every = task([0] * p, '', HARD), 2 ** p - 1
+        for met in [0, 1, every]:
+            yield f'{p} hard rules, met {met:b}', data, MOST, met, f'metric {MOST} utility -{MOST}'
+        yield f'{p} hard rules, bit P', data, 0, every + 1, 'refused 15 0'
+        yield f'{p} hard rules, a cost too great', data, MOST + 1, every, 'refused 15 0'
+    for what, data, answer in [('a hard weight', file('GOAL hard-always 5'), '5 1'), ('mark 32', file('GOAL #32'), '4 1'),
+                               ('a hard rule too few', file('GOAL hard-always', P=2), '6 2')]:
+        for cost, met in [(0, 0), (MOST + 1, 0), (0, 2 ** 63)]:
+            yield f'{what}, cost {cost}, met {met:b}', data, cost, met, f'refused {answer}'
 
 
 def no_plan():
@@ -241,7 +266,7 @@ def judged():
 
 def vectors():
     """What each vector is for, the task file, the cost, the met preferences, and the line."""
-    families = [belt, kinds, numbers, bits, costs, amounts, no_plan, refused, random_amounts, judged]
+    families = [belt, kinds, numbers, bits, costs, amounts, no_plan, refused, random_amounts, hard_rules, judged]
     made = [vector for family in families for vector in family()]
     engine = dict(outside(made))
     for t, (what, data, cost, met, answer) in enumerate(made):

@@ -75,6 +75,8 @@ many = file('GOAL' + ''.join(f' ACTION {a + 1}' for a in range(128)))  # action 
 one = file('GOAL ACTION 1')
 ladder = file('START 0 GOAL CLAUSE HOLDS 2 ACTION 1 CLAUSE HOLDS 0 EFFECT ADD 1 DELETE 0 ACTION 2 CLAUSE HOLDS 1 EFFECT ADD 2 DELETE 1 '
               'ACTION 4 EFFECT DELETE 2 sometime 8 CLAUSE HOLDS 1 at-end 16 CLAUSE HOLDS 0', F=3)
+ruled = file('START 0 GOAL ACTION 1 EFFECT DELETE 0 ACTION 2 at-end 4 CLAUSE LACKS 0 hard-at-most-once CLAUSE LACKS 0 hard-always CLAUSE HOLDS 0',
+             F=1)
 timed = file('START 0 GOAL ACTION 1 EFFECT DELETE 0 ACTION 2 within 8 STEPS 1 CLAUSE LACKS 0 '
              'always-within 16 STEPS 2 CLAUSE HOLDS 0 SECOND CLAUSE LACKS 0', F=1)
 
@@ -224,7 +226,8 @@ def refused_tasks():
             ('no byte', b'', '1 0'), ('7 bytes', belt[:7], '1 0'), ('F 0', file('GOAL', F=0), '2 0'),
             ('one byte more', belt + b'\0', '3 0'),
             ('an unknown mark', file('GOAL #20'), '4 1'), ('ends in a clause', file('GOAL ACTION CLAUSE'), '4 3'),
-            ('a fact too high', file('GOAL CLAUSE HOLDS 4'), '5 2'), ('an action too many', file('GOAL ACTION', A=0), '6 2')]:
+            ('a fact too high', file('GOAL CLAUSE HOLDS 4'), '5 2'), ('a hard weight', file('GOAL hard-always 1'), '5 1'),
+            ('an action too many', file('GOAL ACTION', A=0), '6 2')]:
         for form, text, first in [
                 ('no byte', b'', 'read 0'), ('a step', b'(a0)\n', 'read 1'), ('an unknown step', b'(a300)\n', 'read 1'),
                 ('a faulty line', b';\n(a0)\n(a)\n', 'refused 12 2'), ('no newline', b'(a0)', 'refused 12 0')]:
@@ -262,7 +265,12 @@ def verdicts():
             ('deadlines met, comments are no steps', timed, b';\n;\n;\n(a0)\n', 'read 1|(a0)|solved cost 1 metric 1 utility 23'),
             ('one deadline met', timed, b'(a1)\n;\n(a0)\n', 'read 2|(a1)|(a0)|solved cost 3 metric 11 utility 13'),
             ('no deadline met', timed, b'(a1)\n(a1)\n(a0)\n', 'read 3|(a1)|(a1)|(a0)|solved cost 5 metric 29 utility -5'),
-            ('no step, deadlines missed', timed, b'', 'read 0|solved cost 0 metric 24 utility 0')]:
+            ('no step, deadlines missed', timed, b'', 'read 0|solved cost 0 metric 24 utility 0'),
+            ('hard rules met', ruled, b'; plan\n(a1)\n', 'read 1|(a1)|solved cost 2 metric 6 utility -2'),
+            ('no step, hard rules met', ruled, b';\n', 'read 0|solved cost 0 metric 4 utility 0'),
+            ('a hard rule missed', ruled, b';\n(a0)\n', 'read 1|(a0)|rule missed 2'),
+            ('a hard rule missed among comments', ruled, b';\n(a1)\n;\n;\n(a0)\n;\n(a1)\n', 'read 3|(a1)|(a0)|(a1)|rule missed 2'),
+            ('a hard rule missed, and an unknown step', ruled, b'(a0)\n(a2)\n', 'read 2|(a0)|(a2)|refused 11 1')]:
         yield what, data, text, answer
 
 

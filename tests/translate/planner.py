@@ -10,6 +10,7 @@ translate wrote, with 1 + P steps more: end, and one to close each preference. T
 - the list on the translation is source steps, then end, then collect or forgo of each preference in order;
 - its source steps solve the task, its cost is their metric, and it forgoes the preferences that they miss.
 The dearest list shows what the cheapest hides: a forgo that is open beside its collect, a preference missed only by detours.
+Some tasks have hard rules, and some of these no solution for that alone: with the same rules soft they have one.
 """
 import collections
 import json
@@ -23,7 +24,8 @@ import sys
 
 HERE = os.path.dirname(os.path.abspath(__file__))
 ACCOUNT = runpy.run_path(os.path.join(HERE, '../check/vectors.py'))
-check, file, preference, BELT, PREFERENCES = (ACCOUNT[name] for name in ['check', 'file', 'preference', 'BELT', 'PREFERENCES'])
+check, file, preference, BELT, MARK = (ACCOUNT[name] for name in ['check', 'file', 'preference', 'BELT', 'MARK'])
+SOFT, HARD, PREFERENCES = (ACCOUNT[name] for name in ['SOFT', 'HARD', 'PREFERENCES'])
 JUDGE = runpy.run_path(os.path.join(HERE, '../judge/vectors.py'))
 rows, task_facts = JUDGE['rows'], JUDGE['task_facts']
 run = runpy.run_path(os.path.join(HERE, '../programs.py'))['run']
@@ -68,11 +70,23 @@ def random_task(r):
 
     def rule():
         phi, psi = (condition(0, 1, 1, 1, 1, 2) for _ in range(2))
-        return preference(r.choice(PREFERENCES), r.randint(0, 9), phi, psi, r.choice([0, 1, 1, 2, 2, 3, 4, 15]))
+        return preference(r.choice(SOFT + SOFT + HARD), r.randint(0, 9), phi, psi, r.choice([0, 1, 1, 2, 2, 3, 4, 15]))
 
     starts = ''.join(f' START {fact}' for fact in opening)
     goal = ' GOAL' + some([0, 1, 1, 2], lambda: ask(r.randrange(a), True) if r.random() < 0.8 else condition(1))
     return file(starts + goal + ''.join(map(action, range(a))) + some([0, 1, 2, 3, 3], rule), F=f)
+
+
+def softened(data):
+    """A task with its hard rules made soft."""
+    return file([(MARK[name.removeprefix('hard-')], value) for name, value in rows(data)], F=data[0])
+
+
+# Tasks with a hard rule, and the cheapest list on each one's translation: none, and one that goes round to keep the rule.
+NONE = file('GOAL CLAUSE HOLDS 0 ACTION 1 EFFECT ADD 0 hard-always CLAUSE LACKS 0', F=1)
+ROUND = file('GOAL CLAUSE HOLDS 0 ACTION 1 EFFECT ADD 0 ACTION 2 EFFECT ADD 1 always 5 CLAUSE LACKS 1 '
+             'hard-sometime-before CLAUSE HOLDS 0 SECOND CLAUSE HOLDS 1', F=2)
+HAND = [('the belt', file(BELT, F=2), (8, [0, 2, 4, 5], [])), ('no list keeps the rule', NONE, None), ('a way round', ROUND, (8, [1, 0, 2, 4, 5], []))]
 
 
 def words(data):
@@ -116,7 +130,7 @@ def plan(program, data, horizon, sign, steps=None):
 def added_facts(data):
     """How many facts the translation of a task has more: three a preference, two, and those of deadlines."""
     kinds = [name for name, _ in rows(data) if name in PREFERENCES]
-    return 3 * len(kinds) + 2 + kinds.count('within') + sum(value for name, value in rows(data) if name == 'STEPS')
+    return 3 * len(kinds) + 2 + sum(kind in ('within', 'hard-within') for kind in kinds) + sum(value for name, value in rows(data) if name == 'STEPS')
 
 
 def difference(program, data):
@@ -150,9 +164,10 @@ def difference(program, data):
 def main(program, count='120', seed='1'):
     print(f'{count} tasks, seed {seed}, at most {HORIZON} source steps')
     r = random.Random(int(seed))
-    wrong, found = difference(program, file(BELT, F=2))
-    if wrong or found['cheapest'] != Solution(8, [0, 2, 4, 5], []):
-        sys.exit(f'the belt: {wrong or found}')
+    for what, data, cheapest in HAND:
+        wrong, found = difference(program, data)
+        if wrong or found['cheapest'] != (cheapest and Solution(*cheapest)):
+            sys.exit(f'{what}: {wrong or found}')
     solutions, lengths, outcomes = collections.Counter(), collections.Counter(), collections.Counter()
     for number in range(int(count)):
         data = random_task(r)
@@ -161,18 +176,24 @@ def main(program, count='120', seed='1'):
             sys.exit(f'task {number}: {wrong}. The task is {words(data)}')
         a, kinds = data[2], [name for name, _ in rows(data) if name in PREFERENCES]
         solutions['a solution' if found['cheapest'] else 'no solution'] += 1
+        if not found['cheapest'] and plan('source.lp', softened(data), HORIZON, 1):
+            solutions['none for a hard rule'] += 1
         for name, solution in found.items():
             if solution:
                 lengths[name, len(solution.steps) - 1 - len(kinds)] += 1
                 outcomes.update((kind, name, 'met' if a + 1 + 2 * k in solution.steps else 'missed') for k, kind in enumerate(kinds))
-    print(f'{solutions["a solution"]} tasks with a solution, {solutions["no solution"]} without')
+    print(f'{solutions["a solution"]} tasks with a solution, {solutions["no solution"]} without, '
+          f'{solutions["none for a hard rule"]} of these for a hard rule')
     for name in SIGNS:
         counts = ' '.join(str(lengths[name, n]) for n in range(HORIZON + 1))
         print(f'{name} lists with 0 to {HORIZON} source steps: {counts}')
         for kind in PREFERENCES:
             print(f'  {kind}: {outcomes[kind, name, "met"]} met, {outcomes[kind, name, "missed"]} missed')
-    both = [sum(outcomes[kind, name, outcome] for name in SIGNS) for kind in PREFERENCES for outcome in ('met', 'missed')]
-    if not all([solutions['a solution'], solutions['no solution'], *both]):
+    both = {(kind, outcome): sum(outcomes[kind, name, outcome] for name in SIGNS) for kind in PREFERENCES for outcome in ('met', 'missed')}
+    for kind in HARD:
+        if both.pop((kind, 'missed')):
+            sys.exit(f'a list that misses a {kind} rule')
+    if not all([solutions['a solution'], solutions['no solution'], solutions['none for a hard rule'], *both.values()]):
         sys.exit('an outcome never came up')
 
 

@@ -31,7 +31,11 @@ REFUSED = [
     ('a million bytes', dict(task=longest + bytes(1000000)), 'refused 3 0\n'),
     ('129 facts', dict(task=file('GOAL', F=127), compiled=old), 'refused 7 0\n'),
     ('129 facts, 16 of them of a deadline', dict(task=file('GOAL within STEPS 15', F=108), compiled=old), 'refused 7 0\n'),
+    ('129 facts, 16 of them of a hard deadline', dict(task=file('GOAL hard-within STEPS 15', F=108), compiled=old), 'refused 7 0\n'),
+    ('a hard weight', dict(task=file('GOAL hard-always 1'), compiled=old), 'refused 5 1\n'),
+    ('mark 32', dict(task=file('GOAL #32'), compiled=old), 'refused 4 1\n'),
     ('the longest task', dict(task=longest, compiled=old), 'refused 8 0\n'),
+    ('12,001 rows, two of them of a hard rule', dict(task=file(goal(11968) + ' hard-sometime'), compiled=old), 'refused 8 0\n'),
 ]
 
 # A file that can't be read to its end, or not be written: what goes wrong, and what is left in `compiled`. A compiled that could
@@ -66,12 +70,13 @@ DEADLINES = [
 ]
 
 
-def with_deadline(trackers, met, missed, facts):
-    """The translation of a task with an action of cost 4 and one preference."""
+def with_deadline(trackers, met, missed, facts, weight=9, last=''):
+    """The translation of a task with an action of cost 4 and one preference. Forgo costs its weight, and has a last clause if it is
+    hard."""
     return file(f'START 5 GOAL CLAUSE HOLDS 6 CLAUSE HOLDS 4 ACTION 4 CLAUSE HOLDS 5 {trackers} '
                 f'ACTION 0 CLAUSE HOLDS 5 EFFECT ADD 6 DELETE 5 {trackers} '
                 f'ACTION 0 CLAUSE HOLDS 6 CLAUSE LACKS 4 CLAUSE {met} EFFECT ADD 4 '
-                f'ACTION 9 CLAUSE HOLDS 6 CLAUSE LACKS 4 CLAUSE {missed} EFFECT ADD 4', F=facts)
+                f'ACTION {weight} CLAUSE HOLDS 6 CLAUSE LACKS 4 CLAUSE {missed} {last} EFFECT ADD 4', F=facts)
 
 
 def main(program):
@@ -103,17 +108,22 @@ def main(program):
         if run(program, dict(task=belt), env=faults(name, piece=pieces)) != ('', '', made):
             sys.exit(f'{name} in pieces')
     for preference, trackers, closings, facts in DEADLINES:
-        task = file(f'GOAL ACTION 4 {preference}', F=2)
-        got = run(program, dict(task=task))
-        if got != ('', '', dict(task=task, compiled=with_deadline(trackers, *closings, facts))):
-            sys.exit(f'{preference}: {got}')
+        hard = 'hard-' + preference.replace('within 9', 'within')
+        for rule, more in [(preference, {}), (hard, dict(weight=0, last='CLAUSE LACKS 6'))]:
+            task = file(f'GOAL ACTION 4 {rule}', F=2)
+            got = run(program, dict(task=task))
+            if got != ('', '', dict(task=task, compiled=with_deadline(trackers, *closings, facts, **more))):
+                sys.exit(f'{rule}: {got}')
     widest = run(program, dict(task=file('GOAL within STEPS 15 always-within STEPS 15 SECOND', F=89)))
     if widest[:2] != ('', '') or widest[2]['compiled'][0] != 128:
         sys.exit('128 facts, 31 of them of deadlines')
     most = run(program, dict(task=file(goal(11991))))
     if most[:2] != ('', '') or len(most[2]['compiled']) != 60008:
         sys.exit('the longest translation')
-    print(f'program translate: {len(REFUSED) + len(FAULTS) + len(DEADLINES) + 10} cases as they should be')
+    with_rule = run(program, dict(task=file(goal(11967) + ' hard-sometime')))
+    if with_rule[:2] != ('', '') or len(with_rule[2]['compiled']) != 60008:
+        sys.exit('the longest translation with a hard rule')
+    print(f'program translate: {len(REFUSED) + len(FAULTS) + 2 * len(DEADLINES) + 11} cases as they should be')
 
 
 if __name__ == '__main__':

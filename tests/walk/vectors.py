@@ -7,7 +7,8 @@ tests/walk/vectors.py --list    says what each vector is for, and its line
 
 The vectors stand in data/vectors one after the other, each as two records (tests/judge/vectors.py): the task file, then the plan. The
 lines stand in stdout in the same order. A line has a verdict and the number of literals looked at: `solved cost C met M literals L`,
-the met preferences as bits in a decimal number; `stopped I literals L`; `goal missed literals L`; or `refused`, number and place.
+the met preferences as bits in a decimal number; `stopped I literals L`; `goal missed literals L`; `rule missed K literals L`; or
+`refused`, number and place.
 
 Where a line comes from:
 - refused 1 to 6: the account in tests/check/vectors.py. Refused 10 and 11: that in tests/judge/vectors.py.
@@ -24,7 +25,8 @@ import sys
 HERE = os.path.dirname(os.path.abspath(__file__))
 ACCOUNT = runpy.run_path(os.path.join(HERE, '../check/vectors.py'))
 file, goal, preference, record, store = (ACCOUNT[name] for name in ['file', 'goal', 'preference', 'record', 'store'])
-PREFERENCES, WITH_SECOND, WITH_STEPS, BELT = (ACCOUNT[name] for name in ['PREFERENCES', 'WITH_SECOND', 'WITH_STEPS', 'BELT'])
+SOFT, HARD, PREFERENCES, WITH_SECOND, WITH_STEPS, BELT = (
+    ACCOUNT[name] for name in ['SOFT', 'HARD', 'PREFERENCES', 'WITH_SECOND', 'WITH_STEPS', 'BELT'])
 JUDGE = runpy.run_path(os.path.join(HERE, '../judge/vectors.py'))
 rows, refusal, facts, derived, traced = (JUDGE[name] for name in ['rows', 'refusal', 'facts', 'derived', 'traced'])
 
@@ -100,7 +102,7 @@ def line(atoms, data, plan):
     for i, fact in atoms.get('held', []):
         states[i].add(fact)
     looked = looked_at(data, plan, [*map(frozenset, states)])
-    verdicts = [name for name in ['stopped', 'goal_missed', 'cost'] if name in atoms]
+    verdicts = [name for name in ['stopped', 'goal_missed', 'rule_missed', 'cost'] if name in atoms]
     assert len(verdicts) == 1, verdicts
     if verdicts == ['stopped']:
         (step,), = atoms['stopped']
@@ -109,6 +111,8 @@ def line(atoms, data, plan):
     assert len(plan) + 1 == len(states)
     if verdicts == ['goal_missed']:
         return f'goal missed literals {looked}'
+    if verdicts == ['rule_missed']:
+        return 'rule missed %d literals %d' % (*atoms['rule_missed'][0], looked)
     (cost,), = atoms['cost']
     return f'solved cost {cost} met {sum(1 << k for k, in atoms.get("met", []))} literals {looked}'
 
@@ -140,7 +144,7 @@ def conditions():
         yield f'precondition {condition}', file(f'GOAL ACTION {condition}'), [0], f'{looked}'
         yield f'effect condition {condition}', file(f'GOAL ACTION EFFECT {condition} ADD 3'), [0], f'{looked}'
         yield f'two effect conditions {condition}', file('GOAL ACTION' + f' EFFECT {condition} DELETE 3' * 2), [0] * 2, f'{4 * looked}'
-        for kind in PREFERENCES:
+        for kind in SOFT:
             task = file('GOAL ACTION' + preference(kind, 5, condition, condition, 1))
             in_each = looked * (2 if kind in WITH_SECOND else 1)
             for steps in [0, 1, 4]:
@@ -195,6 +199,24 @@ def steps():
         yield f'all effect conditions are read in the state before, plan {plan}', order, plan, answer
 
 
+def hard_rules():
+    """They are read as soft ones of their kind are, in every state, whatever is missed already."""
+    two = 'CLAUSE HOLDS 0 HOLDS 1'
+    for what, task, plan, answer in [
+            ('missed in state 0', f'GOAL CLAUSE LACKS 0 ACTION CLAUSE LACKS 1 hard-always {two}', [0] * 3, 'rule missed 0 literals 12'),
+            ('two missed', f'GOAL ACTION hard-sometime {two} hard-always {two}', [0], 'rule missed 0 literals 8'),
+            ('the second missed', f'GOAL ACTION always 5 {two} hard-always {two} sometime 5 {two}', [0], 'rule missed 1 literals 12'),
+            ('goal missed too', f'GOAL {two} ACTION hard-always {two}', [0], 'goal missed literals 6'),
+            ('stopped too', f'GOAL {two} ACTION {two} hard-always {two}', [0], 'stopped 0 literals 4'),
+            ('met', f'GOAL {two} LACKS 1 ACTION 2 {two} LACKS 0 hard-always {two} LACKS 1', [0] * 2, 'solved cost 4 met 1 literals 18'),
+            ('met beside a soft one', f'GOAL ACTION 1 sometime 5 {two} hard-at-end CLAUSE LACKS 0', [0], 'solved cost 1 met 2 literals 6')]:
+        yield f'hard rules, {what}', file(task), plan, answer
+    for what, data, plan, _ in JUDGE['several_rules']():
+        yield what, data, plan, ''
+    for what, *vector in random_tasks(120, 1974, SOFT + HARD):
+        yield f'{what}, hard rules', *vector
+
+
 def most():
     """As many as there can be, and their neighbours: every literal row in every state."""
     for steps in [1, 2048]:
@@ -223,7 +245,7 @@ def of_judge():
             yield what, data, plan, ''
 
 
-def random_tasks(count=300, seed=1973):
+def random_tasks(count=300, seed=1973, kinds=SOFT):
     """Small tasks with long conditions over few facts, so that clauses are left at any literal and conditions at any clause."""
     r = random.Random(seed)
 
@@ -246,7 +268,7 @@ def random_tasks(count=300, seed=1973):
         return f' ACTION {one_of([0, 1, 7])}' + condition([0, 1, 2], (3, 4, 5)) + some([0, 1, 2, 3], effect)
 
     def rule():
-        return preference(one_of(PREFERENCES), one_of([0, 1, 9]), condition([0, 1, 2, 3]), condition([0, 1, 2, 3]), one_of([0, 1, 2, 15]))
+        return preference(one_of(kinds), one_of([0, 1, 9]), condition([0, 1, 2, 3]), condition([0, 1, 2, 3]), one_of([0, 1, 2, 15]))
 
     for number in range(count):
         used = one_of([[0], [0, 1], [0, 1, 2], [0, 1, 63, 64], [5, 64, 127]])
@@ -257,7 +279,7 @@ def random_tasks(count=300, seed=1973):
 
 def vectors():
     """What each vector is for, the task file, the plan, and the line."""
-    families = [belt, conditions, preferences_in_every_state, steps, most, of_judge, random_tasks]
+    families = [belt, conditions, preferences_in_every_state, steps, most, of_judge, random_tasks, hard_rules]
     made = [(what, data, bytes(plan), answer) for family in families for what, data, plan, answer in family()]
     lines = {t: refusal(data, plan).strip() for t, (_, data, plan, _) in enumerate(made)}
     atoms = outside({t: made[t][1:3] for t in lines if not lines[t]})

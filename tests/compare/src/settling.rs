@@ -72,11 +72,18 @@ pub fn compare(first: u64, count: u64) -> Result<(), String> {
 
 // ---- the edges
 
-/// A task with so many preferences, all of one weight or, where that is none, each of another.
-fn task(preferences: usize, weight: Option<u32>) -> Task {
+/// A task with so many preferences. By turns one is hard where `hard` is 2, all are where it is 1. The soft ones are all of one
+/// weight or, where that is none, each of another.
+fn task(preferences: usize, weight: Option<u32>, hard: usize) -> Task {
+    let is_hard = |k: usize| hard > 0 && k % hard == 0;
     let preference = |k| Preference {
         kind: Kind::all(k)[k % 8],
-        weight: weight.unwrap_or(1u32 << k),
+        hard: is_hard(k),
+        weight: if is_hard(k) {
+            0
+        } else {
+            weight.unwrap_or(1u32 << k)
+        },
         phi: vec![],
         psi: vec![],
     };
@@ -123,8 +130,10 @@ fn edge(file: &[u8], preferences: u32) -> Result<(), String> {
 pub fn edges() -> Result<(), String> {
     for preferences in 0..=16 {
         for weight in [Some(0), Some(MAX_AMOUNT), None] {
-            let file = peer::encode(&task(preferences, weight));
-            edge(&file, preferences as u32).map_err(|why| format!("P {preferences}: {why}"))?;
+            for hard in 0..=2 {
+                let file = peer::encode(&task(preferences, weight, hard));
+                edge(&file, preferences as u32).map_err(|why| format!("P {preferences}: {why}"))?;
+            }
         }
     }
     println!("edges of settle: as they should be");

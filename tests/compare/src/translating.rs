@@ -44,8 +44,8 @@ fn metric(file: &[u8], plan: &[u8]) -> Option<u128> {
 }
 
 /// A plan that solves, completed by end and one closing action for each preference, solves the task in the bytes that the
-/// library wrote, and its cost there is the metric.
-fn completed(file: &[u8], plan: &[u8]) -> Result<(), String> {
+/// library wrote, and its cost there is the metric. One that misses a hard rule doesn't, and has no metric.
+fn completed(file: &[u8], plan: &[u8], solves: bool) -> Result<(), String> {
     let source = peer::decode(file).expect("an accepted task");
     let (out, answer) = library::translate(file, peer::random::MAX_FILE);
     let Ok(n) = answer else { return Ok(()) };
@@ -53,7 +53,7 @@ fn completed(file: &[u8], plan: &[u8]) -> Result<(), String> {
         peer::decode(&out[..n]).map_err(|refusal| format!("compiled is refused: {refusal:?}"))?;
     let cost = peer::run(&compiled, &peer::complete(&source, plan));
     let metric = metric(file, plan);
-    if cost.is_some() && cost == metric {
+    if cost.is_some() == solves && cost == metric {
         Ok(())
     } else {
         Err(format!(
@@ -64,17 +64,22 @@ fn completed(file: &[u8], plan: &[u8]) -> Result<(), String> {
 
 pub fn compare(first: u64, count: u64) -> Result<(), String> {
     let mut tally = Tally::new(&ANSWERS);
-    let mut solved = 0;
+    let (mut solved, mut missed) = (0, 0);
     for seed in first..first + count {
         let case = peer::random::case(seed);
-        tally.count(same(&case.file, case.room).map_err(|why| format!("seed {seed}: {why}"))?);
+        let at = |why| format!("seed {seed}: {why}");
+        tally.count(same(&case.file, case.room).map_err(at)?);
         let walked = peer::walk(&case.file, &case.plan).map(|walked| walked.verdict);
         if let Ok(peer::Verdict::Solved { .. }) = walked {
-            completed(&case.file, &case.plan).map_err(|why| format!("seed {seed}: {why}"))?;
+            completed(&case.file, &case.plan, true).map_err(at)?;
             solved += 1;
         }
+        if let Ok(peer::Verdict::RuleMissed(_)) = walked {
+            completed(&case.file, &case.plan, false).map_err(at)?;
+            missed += 1;
+        }
     }
-    println!("completed lists: {solved}");
+    println!("completed lists: {solved}, and {missed} that miss a hard rule");
     tally.finish()
 }
 
@@ -102,6 +107,7 @@ fn preference(kind: Kind, clauses: usize) -> Preference {
     };
     Preference {
         kind,
+        hard: false,
         weight: 7,
         phi: condition(clauses),
         psi,
@@ -152,12 +158,20 @@ fn of_kinds(facts: usize, kinds: &[Kind]) -> Task {
     }
 }
 
-/// A task with a preference of several clauses on each side, whose translation has `rows` rows: the goal is one clause, as
-/// long as that takes.
-fn followed(kind: Kind, rows: usize) -> Task {
+/// The same preference made hard.
+fn hard(preference: Preference) -> Preference {
+    Preference {
+        hard: true,
+        weight: 0,
+        ..preference
+    }
+}
+
+/// A task with these preferences, whose translation has `rows` rows: the goal is one clause, as long as that takes.
+fn of_rows(preferences: &[Preference], rows: usize) -> Task {
     let task = |literals| Task {
         goal: vec![vec![literal(0); literals]],
-        ..ruled(2, vec![preference(kind, 12)])
+        ..ruled(2, preferences.to_vec())
     };
     let least = peer::translate(&peer::encode(&task(1)), peer::random::MAX_FILE)
         .expect("a translation")
@@ -204,18 +218,9 @@ pub fn edges() -> Result<(), String> {
         Kind::Within(15),
         Kind::AlwaysWithin(15),
     ] {
-        let name = kind.name();
-        edge(
-            &format!("12,000 rows with {name}"),
-            &followed(kind, 12_000),
-            0,
-        )?;
-        edge(
-            &format!("12,001 rows with {name}"),
-            &followed(kind, 12_001),
-            refused::TRANSLATION_ROWS,
-        )?;
+        most_rows(kind.name(), &[preference(kind, 12)])?;
     }
+    hard_rules()?;
     edge("A 0", &task(3, 0, 2), 0)?;
     edge("P 0", &task(3, 2, 0), 0)?;
     edge("A 0 and P 0", &task(3, 0, 0), 0)?;
@@ -242,6 +247,67 @@ pub fn edges() -> Result<(), String> {
     }
     println!("edges: as they should be");
     Ok(())
+}
+
+/// Translations of 12,000 rows, and of one more.
+fn most_rows(name: &str, preferences: &[Preference]) -> Result<(), String> {
+    let fits = of_rows(preferences, 12_000);
+    edge(&format!("12,000 rows with {name}"), &fits, 0)?;
+    let over = of_rows(preferences, 12_001);
+    let refusal = refused::TRANSLATION_ROWS;
+    edge(&format!("12,001 rows with {name}"), &over, refusal)
+}
+
+/// Each kind made hard, by itself, beside the same soft one, and 16 times.
+fn hard_rules() -> Result<(), String> {
+    for kind in kinds_and_deadlines() {
+        for clauses in [0, 1, 2, 5] {
+            let (soft, hard) = (preference(kind, clauses), hard(preference(kind, clauses)));
+            for rules in [
+                vec![hard.clone()],
+                vec![hard.clone(), soft.clone()],
+                vec![soft, hard.clone(), hard.clone()],
+            ] {
+                edge("a hard kind", &ruled(2, rules), 0)?;
+            }
+        }
+        let name = format!("hard-{}", kind.name());
+        most_rows(&name, &[hard(preference(kind, 6))])?;
+        most_rows(
+            &format!("two of {name}"),
+            &[hard(preference(kind, 1)), hard(preference(kind, 2))],
+        )?;
+    }
+    let sixteen = |facts, kind: Kind| Task {
+        preferences: vec![hard(preference(kind, 1)); 16],
+        ..task(facts, 2, 0)
+    };
+    edge("F 78 with 16 hard rules", &sixteen(78, Kind::AtEnd), 0)?;
+    edge(
+        "F 79 with 16 hard rules",
+        &sixteen(79, Kind::AtEnd),
+        refused::TOO_MANY,
+    )?;
+    edge(
+        "F 14 with 16 hard deadlines",
+        &sixteen(14, Kind::Within(3)),
+        0,
+    )?;
+    edge(
+        "F 15 with 16 hard deadlines",
+        &sixteen(15, Kind::Within(3)),
+        refused::TOO_MANY,
+    )?;
+    edge(
+        "F 14 with 16 hard deadlines",
+        &sixteen(14, Kind::AlwaysWithin(4)),
+        0,
+    )?;
+    edge(
+        "F 15 with 16 hard deadlines",
+        &sixteen(15, Kind::AlwaysWithin(4)),
+        refused::TOO_MANY,
+    )
 }
 
 /// The most facts beside deadlines, and one more.

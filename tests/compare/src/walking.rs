@@ -4,7 +4,7 @@ use crate::library::{self, refusal, Refusal, Sizes, Verdict, Walked};
 use crate::tally::Tally;
 
 /// Every answer of a report: a refusal, or the beginning of the text.
-const ANSWERS: [&str; 12] = [
+const ANSWERS: [&str; 13] = [
     "refused 1 ",
     "refused 2 ",
     "refused 3 ",
@@ -17,6 +17,7 @@ const ANSWERS: [&str; 12] = [
     "solved ",
     "stopped ",
     "goal missed",
+    "rule missed ",
 ];
 
 fn sizes(sizes: peer::Sizes) -> Sizes {
@@ -33,6 +34,7 @@ pub fn walked(walked: peer::Walked) -> Walked {
         peer::Verdict::Solved { cost, met } => Verdict::Solved { cost, met },
         peer::Verdict::Stopped(step) => Verdict::Stopped(step as u64),
         peer::Verdict::GoalMissed => Verdict::GoalMissed,
+        peer::Verdict::RuleMissed(k) => Verdict::RuleMissed(k as u64),
     };
     Walked {
         verdict,

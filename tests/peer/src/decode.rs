@@ -129,8 +129,8 @@ impl Rows<'_> {
             actions.push(self.action()?);
         }
         let mut preferences = Vec::new();
-        while let Some(kind) = self.mark().and_then(Kind::of_mark) {
-            preferences.push(self.preference(kind)?);
+        while let Some((kind, hard)) = self.mark().and_then(Kind::of_mark) {
+            preferences.push(self.preference(kind, hard)?);
         }
         if self.mark().is_some() {
             return self.refuse(4);
@@ -180,8 +180,8 @@ impl Rows<'_> {
 
     /// The opening row, for the kinds with a deadline STEPS, φ, and for those with
     /// two conditions SECOND and ψ.
-    fn preference(&mut self, kind: Kind) -> Result<Preference, Refusal> {
-        let weight = self.take_amount()?;
+    fn preference(&mut self, kind: Kind, hard: bool) -> Result<Preference, Refusal> {
+        let weight = self.take(0, if hard { 0 } else { MAX_AMOUNT })?;
         let kind = match kind {
             Kind::Within(_) => Kind::Within(self.deadline()?),
             Kind::AlwaysWithin(_) => Kind::AlwaysWithin(self.deadline()?),
@@ -198,6 +198,7 @@ impl Rows<'_> {
         }
         Ok(Preference {
             kind,
+            hard,
             weight,
             phi,
             psi,

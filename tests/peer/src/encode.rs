@@ -58,7 +58,7 @@ pub fn rows(task: &Task) -> Vec<Row> {
         }
     }
     for preference in &task.preferences {
-        out.amount(preference.kind.mark(), preference.weight);
+        out.amount(preference.kind.mark(preference.hard), preference.weight);
         if let Some(t) = preference.kind.deadline() {
             out.amount(mark::STEPS, t as u32);
         }

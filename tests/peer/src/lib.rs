@@ -1,4 +1,4 @@
-//! Task files with soft rules: check a file, walk a plan on it, settle what that
+//! Task files with soft and hard rules: check a file, walk a plan on it, settle what that
 //! is worth, translate it into a classical task, write that as PDDL. Written
 //! plainly from the specification, to compare another implementation with.
 

@@ -119,6 +119,7 @@ fn tally(first: u64, count: u64) -> String {
                 Ok(Verdict::Solved { .. }) => "walk solved".to_string(),
                 Ok(Verdict::Stopped(_)) => "walk stopped".to_string(),
                 Ok(Verdict::GoalMissed) => "walk goal missed".to_string(),
+                Ok(Verdict::RuleMissed(_)) => "walk rule missed".to_string(),
                 Err(refusal) => format!("walk refused {:2}", refusal.number),
             },
         );
@@ -137,7 +138,7 @@ fn tally(first: u64, count: u64) -> String {
             let task = decode(&case.file).expect("walked, so accepted");
             for (k, preference) in task.preferences.iter().enumerate() {
                 let outcome = if is_met(met, k) { "met" } else { "missed" };
-                add(format!("preference {} {outcome}", preference.kind.name()));
+                add(format!("preference {} {outcome}", preference.name()));
             }
         }
     }

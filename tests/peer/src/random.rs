@@ -124,6 +124,8 @@ pub struct Shape {
     pub actions: usize,
     /// The kinds of the preferences.
     pub kinds: Vec<Kind>,
+    /// How many of a hundred preferences are hard.
+    pub hard: usize,
     /// The most clauses of a condition.
     pub clauses: usize,
     /// The most literals of a clause.
@@ -135,14 +137,17 @@ pub struct Shape {
 }
 
 impl Shape {
+    /// In most tasks all rules are soft, so that most plans solve.
     pub fn any(r: &mut Random) -> Shape {
-        match r.below(100) {
+        let hard = r.pick(&[0, 0, 0, 15, 50, 100]);
+        let shape = match r.below(100) {
             0..=63 => Shape::small(r),
             64..=78 => Shape::middle(r),
             79..=88 => Shape::wide(r),
             89..=95 => Shape::at_limits(r),
             _ => Shape::long(r),
-        }
+        };
+        Shape { hard, ..shape }
     }
 
     pub fn small(r: &mut Random) -> Shape {
@@ -150,6 +155,7 @@ impl Shape {
             facts: r.between(1, 6),
             actions: r.between(0, 4),
             kinds: up_to(r, 4),
+            hard: 0,
             clauses: 2,
             literals: 3,
             effects: 3,
@@ -162,6 +168,7 @@ impl Shape {
             facts: r.between(1, 30),
             actions: r.between(1, 12),
             kinds: up_to(r, 10),
+            hard: 0,
             clauses: 4,
             literals: 4,
             effects: 4,
@@ -176,6 +183,7 @@ impl Shape {
             facts: r.pick(&[63, 64, 65, 66, 113, 126, 127, 128, many, many]),
             actions: r.between(1, 6),
             kinds: up_to(r, 4),
+            hard: 0,
             clauses: 3,
             literals: 3,
             effects: 3,
@@ -202,6 +210,7 @@ impl Shape {
             facts,
             actions,
             kinds,
+            hard: 0,
             clauses: 1,
             literals: 2,
             effects: 1,
@@ -216,6 +225,7 @@ impl Shape {
             facts: r.pick(&[5, 64, 80, 100, many]),
             actions: r.between(0, 10),
             kinds: up_to(r, 8),
+            hard: 0,
             clauses: r.between(1, 30),
             literals: r.between(1, 20),
             effects: r.between(0, 6),
@@ -417,7 +427,8 @@ impl Parts<'_> {
     }
 
     fn preference(&mut self, kind: Kind) -> Preference {
-        let weight = self.amount();
+        let hard = self.r.chance(self.shape.hard);
+        let weight = if hard { 0 } else { self.amount() };
         let phi = self.rule();
         let psi = match kind.has_second() {
             true => self.rule(),
@@ -425,6 +436,7 @@ impl Parts<'_> {
         };
         Preference {
             kind,
+            hard,
             weight,
             phi,
             psi,
@@ -525,11 +537,16 @@ fn damaged(r: &mut Random, task: &Task) -> Vec<u8> {
 fn noise(r: &mut Random) -> Vec<Row> {
     let count = r.between(0, 12);
     let row = |_| Row {
-        mark: r.below(21) as u8,
+        mark: r.below(36) as u8,
         value: r.below(3) as u32,
     };
     (0..count).map(row).collect()
 }
+
+/// Marks at the ends of their ranges, and just past them.
+const NEAR: [u8; 24] = [
+    0, 1, 2, 3, 8, 9, 10, 14, 16, 17, 18, 19, 20, 25, 26, 30, 31, 32, 33, 34, 35, 42, 128, 255,
+];
 
 /// One fault among the rows or the counts; the length of the file stays right.
 fn damage_rows(r: &mut Random, sizes: &mut [u16; 3], rows: &mut Vec<Row>) {
@@ -539,9 +556,9 @@ fn damage_rows(r: &mut Random, sizes: &mut [u16; 3], rows: &mut Vec<Row>) {
     let count = rows.len();
     let (at, other) = (r.below(count), r.below(count));
     let facts = u32::from(sizes[0]);
-    match r.below(13) {
-        0 => rows[at].mark = r.below(21) as u8,
-        1 => rows[at].mark = r.pick(&[0, 1, 2, 3, 8, 9, 10, 14, 16, 17, 18, 19, 20, 32, 128, 255]),
+    match r.below(14) {
+        0 => rows[at].mark = r.below(36) as u8,
+        1 => rows[at].mark = r.pick(&NEAR),
         2 | 3 => rows[at].value = past_limit(r, rows[at], facts),
         4 => rows.swap(at, other),
         5 => rows.swap(at, (at + 1) % count),
@@ -551,7 +568,7 @@ fn damage_rows(r: &mut Random, sizes: &mut [u16; 3], rows: &mut Vec<Row>) {
         7 => rows.insert(other, rows[at]),
         8 => {
             let row = Row {
-                mark: r.between(1, 19) as u8,
+                mark: r.between(1, 35) as u8,
                 value: r.below(2) as u32,
             };
             rows.insert(at, row);
@@ -568,6 +585,8 @@ fn damage_rows(r: &mut Random, sizes: &mut [u16; 3], rows: &mut Vec<Row>) {
             };
             sizes[which] = changed.min(most) as u16;
         }
+        // A rule made hard with its weight, or a mark that is none.
+        12 => rows[at].mark = rows[at].mark.wrapping_add(16),
         _ => sizes[0] = r.between(1, sizes[0] as usize) as u16,
     }
 }
@@ -579,7 +598,7 @@ fn past_limit(r: &mut Random, row: Row, facts: u32) -> u32 {
         .wrapping_add(r.pick(&[1 << 8, 1 << 16, 1 << 24, 1 << 31]));
     match row.mark {
         1 | 10..=15 | 17 | 18 => r.pick(&[MAX_AMOUNT, MAX_AMOUNT + 1, u32::MAX, high]),
-        2 | 3 | 8 | 16 => r.pick(&[1, 2, u32::MAX, high]),
+        2 | 3 | 8 | 16 | 26..=31 | 33 | 34 => r.pick(&[1, 2, u32::MAX, high]),
         19 => r.pick(&[15, 16, 17, 31, u32::MAX, high]),
         _ => r.pick(&[facts - 1, facts, facts + 1, 128, u32::MAX, high]),
     }

@@ -20,6 +20,7 @@ pub fn lines(file: &[u8], plan: &[u8]) -> Result<String, Refusal> {
         Verdict::Solved { cost, met } => solved_text(&task, plan.len(), cost, met),
         Verdict::Stopped(step) => format!("stopped {step}\n"),
         Verdict::GoalMissed => "goal missed\n".to_string(),
+        Verdict::RuleMissed(k) => format!("rule missed {k}\n"),
     })
 }
 
@@ -37,7 +38,7 @@ fn solved_text(task: &Task, steps: usize, cost: u64, met: u64) -> String {
     let mut text = format!("solved steps {steps} cost {cost}\n");
     for (k, preference) in task.preferences.iter().enumerate() {
         let outcome = if is_met(met, k) { "met" } else { "missed" };
-        let (kind, weight) = (preference.kind.name(), preference.weight);
+        let (kind, weight) = (preference.name(), preference.weight);
         writeln!(text, "{k} {kind} {weight} {outcome}").expect("text grows");
     }
     let worth = worth(task, cost, met);

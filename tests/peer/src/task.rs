@@ -12,7 +12,8 @@ pub const MAX_STEPS: usize = 2_048;
 /// The largest cost that settle takes.
 pub const MAX_COST: u64 = 2_048_000_000;
 
-/// The marks of the rows. Marks 10 to 15, 17 and 18 are those of `Kind`.
+/// The marks of the rows. Marks 10 to 15, 17 and 18 open soft rules, 26 to 31, 33
+/// and 34 the same kinds of hard ones (`Kind`).
 pub mod mark {
     pub const ACTION: u8 = 1;
     pub const EFFECT: u8 = 2;
@@ -71,6 +72,8 @@ pub enum Kind {
 #[derive(Clone, PartialEq, Eq, Debug)]
 pub struct Preference {
     pub kind: Kind,
+    /// Whether a plan that misses it doesn't solve. The weight is then 0.
+    pub hard: bool,
     pub weight: u32,
     pub phi: Condition,
     /// Read only for the kinds with two conditions; empty for the others.
@@ -103,32 +106,37 @@ impl Kind {
         ]
     }
 
-    /// The kind that a mark opens, if it opens a preference. Its deadline stands in
-    /// the row behind, and is 0 here.
-    pub fn of_mark(mark: u8) -> Option<Kind> {
-        match mark {
-            10 => Some(Kind::Always),
-            11 => Some(Kind::Sometime),
-            12 => Some(Kind::AtEnd),
-            13 => Some(Kind::AtMostOnce),
-            14 => Some(Kind::SometimeBefore),
-            15 => Some(Kind::SometimeAfter),
-            17 => Some(Kind::Within(0)),
-            18 => Some(Kind::AlwaysWithin(0)),
-            _ => None,
-        }
+    /// The kind that a mark opens and whether it is hard, if it opens a preference.
+    /// Its deadline stands in the row behind, and is 0 here.
+    pub fn of_mark(mark: u8) -> Option<(Kind, bool)> {
+        let kind = match mark {
+            10 | 26 => Kind::Always,
+            11 | 27 => Kind::Sometime,
+            12 | 28 => Kind::AtEnd,
+            13 | 29 => Kind::AtMostOnce,
+            14 | 30 => Kind::SometimeBefore,
+            15 | 31 => Kind::SometimeAfter,
+            17 | 33 => Kind::Within(0),
+            18 | 34 => Kind::AlwaysWithin(0),
+            _ => return None,
+        };
+        Some((kind, mark > 20))
     }
 
-    pub fn mark(self) -> u8 {
-        match self {
-            Kind::Always => 10,
-            Kind::Sometime => 11,
-            Kind::AtEnd => 12,
-            Kind::AtMostOnce => 13,
-            Kind::SometimeBefore => 14,
-            Kind::SometimeAfter => 15,
-            Kind::Within(_) => 17,
-            Kind::AlwaysWithin(_) => 18,
+    pub fn mark(self, hard: bool) -> u8 {
+        let (soft_mark, hard_mark) = match self {
+            Kind::Always => (10, 26),
+            Kind::Sometime => (11, 27),
+            Kind::AtEnd => (12, 28),
+            Kind::AtMostOnce => (13, 29),
+            Kind::SometimeBefore => (14, 30),
+            Kind::SometimeAfter => (15, 31),
+            Kind::Within(_) => (17, 33),
+            Kind::AlwaysWithin(_) => (18, 34),
+        };
+        match hard {
+            true => hard_mark,
+            false => soft_mark,
         }
     }
 
@@ -182,6 +190,12 @@ impl Action {
 }
 
 impl Preference {
+    /// The kind as it is spelled in a report.
+    pub fn name(&self) -> String {
+        let hard = if self.hard { "hard-" } else { "" };
+        format!("{hard}{}", self.kind.name())
+    }
+
     pub fn rows(&self) -> usize {
         let steps = usize::from(self.kind.deadline().is_some());
         let second = if self.kind.has_second() {

@@ -180,6 +180,10 @@ fn closing_action(source: &Task, k: usize, collect: bool) -> Action {
     } else {
         precondition.extend(denied(&met_clause));
     }
+    // A hard rule is never forgone: *ended* holds where a closing action may come.
+    if preference.hard && !collect {
+        precondition.push(vec![lacks(layout.ended())]);
+    }
     Action {
         cost: if collect { 0 } else { preference.weight },
         precondition,

@@ -3,6 +3,7 @@
 
 use crate::decode::decode;
 use crate::meaning::{changed, literal_true, met_by, opening, State};
+use crate::settle::is_met;
 use crate::task::*;
 use crate::{refuse, Refusal};
 
@@ -16,6 +17,8 @@ pub enum Verdict {
     /// The first step that doesn't apply.
     Stopped(usize),
     GoalMissed,
+    /// The lowest hard rule that is missed.
+    RuleMissed(usize),
 }
 
 #[derive(Clone, Copy, PartialEq, Eq, Debug)]
@@ -95,9 +98,11 @@ impl Walk<'_> {
         if !self.is_true(&task.goal) {
             return Verdict::GoalMissed;
         }
-        Verdict::Solved {
-            cost,
-            met: self.met(),
+        let met = self.met();
+        let missed = |k: &usize| task.preferences[*k].hard && !is_met(met, *k);
+        match (0..task.preferences.len()).find(missed) {
+            Some(k) => Verdict::RuleMissed(k),
+            None => Verdict::Solved { cost, met },
         }
     }
 

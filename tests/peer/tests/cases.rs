@@ -60,6 +60,7 @@ fn of_walk(case: &Case) -> String {
         Ok(Verdict::Solved { .. }) => "solved".to_string(),
         Ok(Verdict::Stopped(_)) => "stopped".to_string(),
         Ok(Verdict::GoalMissed) => "goal missed".to_string(),
+        Ok(Verdict::RuleMissed(_)) => "rule missed".to_string(),
         Err(why) => refusal(why),
     }
 }
@@ -101,6 +102,7 @@ fn every_answer_comes_up() {
         "solved with most steps",
         "stopped",
         "goal missed",
+        "rule missed",
         "settled",
         "translated",
         "longest",
@@ -113,27 +115,39 @@ fn every_answer_comes_up() {
     }
 }
 
+/// Of a hard rule, where a plan solves and where it is the lowest one missed.
 #[test]
 fn every_kind_is_met_and_missed() {
-    let mut outcomes: BTreeSet<(&str, Option<usize>, bool)> = BTreeSet::new();
-    for seed in 0..6_000 {
+    let mut outcomes: BTreeSet<(String, Option<usize>, bool)> = BTreeSet::new();
+    for seed in 0..20_000 {
         let case = case(seed);
-        let Ok(Verdict::Solved { met, .. }) =
-            walk(&case.file, &case.plan).map(|walked| walked.verdict)
-        else {
+        let Ok(walked) = walk(&case.file, &case.plan) else {
             continue;
         };
         let task = decode(&case.file).unwrap();
-        for (k, preference) in task.preferences.iter().enumerate() {
-            let kind = preference.kind;
-            outcomes.insert((kind.name(), kind.deadline(), is_met(met, k)));
+        let mut saw = |k: usize, met: bool| {
+            let preference = &task.preferences[k];
+            outcomes.insert((preference.name(), preference.kind.deadline(), met));
+        };
+        match walked.verdict {
+            Verdict::Solved { met, .. } => {
+                (0..task.preferences.len()).for_each(|k| saw(k, is_met(met, k)))
+            }
+            Verdict::RuleMissed(k) => saw(k, false),
+            _ => {}
         }
     }
     for deadline in 0..=15 {
         for kind in Kind::all(deadline) {
-            for met in [true, false] {
-                let outcome = (kind.name(), kind.deadline(), met);
-                assert!(outcomes.contains(&outcome), "{outcome:?}");
+            for hard in ["", "hard-"] {
+                // The deadlines between are rarer than these.
+                if hard.is_empty() || deadline < 5 || deadline == 15 {
+                    for met in [true, false] {
+                        let name = format!("{hard}{}", kind.name());
+                        let outcome = (name, kind.deadline(), met);
+                        assert!(outcomes.contains(&outcome), "{outcome:?}");
+                    }
+                }
             }
         }
     }

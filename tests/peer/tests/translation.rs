@@ -78,13 +78,15 @@ fn completed_lists_of_random_cases() {
 /// A plan that doesn't solve has no solution either, whatever its closing actions.
 #[test]
 fn plans_that_do_not_solve() {
-    let mut tried = 0;
+    // Without a missed rule, and with one.
+    let mut tried = [0, 0];
     for seed in 0..12_000 {
         let case = case(seed);
         let verdict = walk(&case.file, &case.plan).map(|walked| walked.verdict);
-        if !matches!(verdict, Ok(Verdict::Stopped(_) | Verdict::GoalMissed)) {
+        if matches!(verdict, Err(_) | Ok(Verdict::Solved { .. })) {
             continue;
         }
+        let rule = matches!(verdict, Ok(Verdict::RuleMissed(_)));
         let Ok(bytes) = translate(&case.file, ROOM) else {
             continue;
         };
@@ -101,9 +103,9 @@ fn plans_that_do_not_solve() {
             list.extend((0..preferences).map(|k| end + 1 + 2 * k + (choice >> k & 1)));
             assert_eq!(run(&task, &list), None, "seed {seed}");
         }
-        tried += 1;
+        tried[usize::from(rule)] += 1;
     }
-    assert!(tried > 400, "{tried}");
+    assert!(tried[0] > 400 && tried[1] > 400, "{tried:?}");
 }
 
 /// Each kind, those with a deadline having several.
@@ -136,6 +138,17 @@ fn all_courses() {
                 assert_eq!(run(&task, &forgo), (met == 0).then_some(1));
                 let cost = run(&task, &complete(&source, &plan));
                 assert_eq!(cost, metric(&source, &plan));
+                // The same made hard: collect as before, and forgo never.
+                let mut source = source;
+                source.preferences[0].hard = true;
+                source.preferences[0].weight = 0;
+                let task = translated(&source, 12_000).unwrap();
+                match met {
+                    1 => assert!(matches!(verdict(&source, &plan), Verdict::Solved { .. })),
+                    _ => assert_eq!(verdict(&source, &plan), Verdict::RuleMissed(0)),
+                }
+                assert_eq!(run(&task, &collect), (met == 1).then_some(0));
+                assert_eq!(run(&task, &forgo), None);
             }
         }
     }
@@ -146,6 +159,7 @@ fn tiny(r: &mut Random) -> Shape {
         facts: r.between(1, 3),
         actions: r.between(0, 2),
         kinds: up_to(r, 2),
+        hard: r.pick(&[0, 0, 30, 60]),
         clauses: 2,
         literals: 2,
         effects: 2,

@@ -41,6 +41,16 @@ fn mark(word: &str) -> u8 {
         "within" => 17,
         "always-within" => 18,
         "STEPS" => 19,
+        "hard-always" => 26,
+        "hard-sometime" => 27,
+        "hard-at-end" => 28,
+        "hard-at-most-once" => 29,
+        "hard-sometime-before" => 30,
+        "hard-sometime-after" => 31,
+        "M32" => 32,
+        "hard-within" => 33,
+        "hard-always-within" => 34,
+        "M35" => 35,
         "M0" => 0,
         "M20" => 20,
         "M255" => 255,
@@ -102,6 +112,7 @@ pub fn course(kind: Kind, phi: &[bool], psi: &[bool]) -> (Task, Vec<u8>) {
         actions: (0..steps).map(action).collect(),
         preferences: vec![Preference {
             kind,
+            hard: false,
             weight: 1,
             phi: holds(0),
             psi: if kind.has_second() { holds(1) } else { vec![] },
@@ -114,6 +125,7 @@ pub fn course(kind: Kind, phi: &[bool], psi: &[bool]) -> (Task, Vec<u8>) {
 pub fn easy_preferences(n: usize) -> Vec<Preference> {
     let easy = Preference {
         kind: Kind::Always,
+        hard: false,
         weight: 0,
         phi: vec![],
         psi: vec![],
