@@ -56,14 +56,14 @@ static inline int next_is(const Task *t, uint8_t mark)
 /* The next row, which has a mark that may come: its value is at most `most`. */
 static inline int take(Task *t, uint32_t most)
 {
-    if (value_at(t, t->at) > most) return refuse(t, ROUTE_RULES_VALUE, t->at);
+    if (value_at(t, t->at) > most) return refuse(t, ROUTE_RULES_REFUSED_VALUE, t->at);
     t->at++;
     return 1;
 }
 
 static int need(Task *t, uint8_t mark, uint32_t most)
 {
-    if (!next_is(t, mark)) return refuse(t, ROUTE_RULES_MARK, t->at);
+    if (!next_is(t, mark)) return refuse(t, ROUTE_RULES_REFUSED_MARK, t->at);
     return take(t, most);
 }
 
@@ -85,7 +85,7 @@ static int read_condition(Task *t)
         uint32_t first = t->at;
         while (next_is(t, HOLDS) || next_is(t, LACKS))
             if (!take(t, t->facts - 1)) return 0;
-        if (t->at == first) return refuse(t, ROUTE_RULES_MARK, t->at);
+        if (t->at == first) return refuse(t, ROUTE_RULES_REFUSED_MARK, t->at);
     }
     return 1;
 }
@@ -132,7 +132,7 @@ static int read_preference(Task *t)
 static int read_rows(Task *t)
 {
     for (uint32_t floor = 0; next_is(t, START); floor = value_at(t, t->at - 1) + 1) {
-        if (value_at(t, t->at) < floor) return refuse(t, ROUTE_RULES_VALUE, t->at);
+        if (value_at(t, t->at) < floor) return refuse(t, ROUTE_RULES_REFUSED_VALUE, t->at);
         if (!take(t, t->facts - 1)) return 0;
     }
     t->goal = t->at;
@@ -144,26 +144,26 @@ static int read_rows(Task *t)
     if (t->actions <= 128) t->action[t->actions] = t->at;
     while (t->at < t->rows && opens(t->marks[t->at]))
         if (!read_preference(t)) return 0;
-    return t->at == t->rows || refuse(t, ROUTE_RULES_MARK, t->at);
+    return t->at == t->rows || refuse(t, ROUTE_RULES_REFUSED_MARK, t->at);
 }
 
 static int check(Task *t, const uint8_t *file, size_t length)
 {
     t->number = 0;
     t->place = 0;
-    if (length < 8) return refuse(t, ROUTE_RULES_SHORT_FILE, 0);
+    if (length < 8) return refuse(t, ROUTE_RULES_REFUSED_SHORT_FILE, 0);
     uint32_t facts = file[0] | file[1] << 8, actions = file[2] | file[3] << 8, preferences = file[4] | file[5] << 8;
     t->rows = file[6] | file[7] << 8;
     if (facts < 1 || facts > 128 || actions > 128 || preferences > 16 || t->rows > MAX_ROWS)
-        return refuse(t, ROUTE_RULES_SIZE, 0);
-    if (length != 8 + 5 * (size_t)t->rows) return refuse(t, ROUTE_RULES_LENGTH, 0);
+        return refuse(t, ROUTE_RULES_REFUSED_SIZE, 0);
+    if (length != 8 + 5 * (size_t)t->rows) return refuse(t, ROUTE_RULES_REFUSED_LENGTH, 0);
     t->marks = file + 8;
     t->values = file + 8 + t->rows;
     t->at = 0;
     t->facts = facts;
     t->actions = t->preferences = 0;
     if (!read_rows(t)) return 0;
-    if (t->actions != actions || t->preferences != preferences) return refuse(t, ROUTE_RULES_COUNTS, t->rows);
+    if (t->actions != actions || t->preferences != preferences) return refuse(t, ROUTE_RULES_REFUSED_COUNTS, t->rows);
     return 1;
 }
 
@@ -276,9 +276,9 @@ static inline int good(Monitor m, uint8_t kind)
 
 static int admitted(Task *t, const uint8_t *plan, size_t steps)
 {
-    if (steps > ROUTE_RULES_MAX_STEPS) return refuse(t, ROUTE_RULES_LONG_PLAN, 0);
+    if (steps > ROUTE_RULES_MAX_STEPS) return refuse(t, ROUTE_RULES_REFUSED_LONG_PLAN, 0);
     for (size_t i = 0; i < steps; i++)
-        if (plan[i] >= t->actions) return refuse(t, ROUTE_RULES_STEP, i);
+        if (plan[i] >= t->actions) return refuse(t, ROUTE_RULES_REFUSED_STEP, i);
     return 1;
 }
 
@@ -489,7 +489,7 @@ uint32_t plain_settle(const uint8_t *file, size_t length, uint64_t cost, uint64_
         answer[0] = t.place;
         return t.number;
     }
-    if (cost > ROUTE_RULES_MAX_COST || met >> t.preferences != 0) return ROUTE_RULES_ARGUMENT;
+    if (cost > ROUTE_RULES_MAX_COST || met >> t.preferences != 0) return ROUTE_RULES_REFUSED_ARGUMENT;
     for (uint32_t k = 0; k < t.preferences; k++) {
         uint64_t weight = value_at(&t, t.side[k].open);
         if (met >> k & 1)
@@ -749,10 +749,10 @@ static uint32_t translate(const uint8_t *file, size_t length, uint8_t *out, size
         return t.number;
     }
     uint32_t normal = t.facts + 3 * t.preferences, facts = number_facts(&t);
-    if (facts > 128 || t.actions + 2 * t.preferences + 1 > 128) return ROUTE_RULES_TOO_MANY;
+    if (facts > 128 || t.actions + 2 * t.preferences + 1 > 128) return ROUTE_RULES_REFUSED_TOO_MANY;
     uint64_t rows = count_rows(&t);
-    if (rows > MAX_ROWS) return ROUTE_RULES_TRANSLATION_ROWS;
-    if (room < 8 + 5 * rows) return ROUTE_RULES_SHORT_OUTPUT;
+    if (rows > MAX_ROWS) return ROUTE_RULES_REFUSED_TRANSLATION_ROWS;
+    if (room < 8 + 5 * rows) return ROUTE_RULES_REFUSED_SHORT_OUTPUT;
     put_size(out, facts);
     put_size(out + 2, t.actions + 2 * t.preferences + 1);
     put_size(out + 4, 0);

@@ -90,7 +90,7 @@ static void try_check(Area file, int at_end)
     Area answer = lend(answer_pages, 64, at_end);
     uint32_t number = route_rules_check(file.at, file.length, (route_rules_checked *)answer.at);
     same_answer(number, answer, plain_check(file.at, file.length, words), words);
-    if (number > ROUTE_RULES_COUNTS) fail("a refusal that is not check's");
+    if (number > ROUTE_RULES_REFUSED_COUNTS) fail("a refusal that is not check's");
 }
 
 static uint32_t try_settle(Area file, uint64_t cost, uint64_t met, int at_end)
@@ -99,7 +99,7 @@ static uint32_t try_settle(Area file, uint64_t cost, uint64_t met, int at_end)
     Area answer = lend(answer_pages, 64, at_end);
     uint32_t number = route_rules_settle(file.at, file.length, cost, met, (route_rules_settled *)answer.at);
     same_answer(number, answer, plain_settle(file.at, file.length, cost, met, words), words);
-    if (number > ROUTE_RULES_COUNTS && number != ROUTE_RULES_ARGUMENT) fail("a refusal that is not settle's");
+    if (number > ROUTE_RULES_REFUSED_COUNTS && number != ROUTE_RULES_REFUSED_ARGUMENT) fail("a refusal that is not settle's");
     return number;
 }
 
@@ -112,7 +112,7 @@ static void try_walk(Area file, Area plan, int at_end)
     same_answer(number, answer, plain_walk(file.at, file.length, plan.at, plan.length, words), words);
     if (number != tuned_walk(file.at, file.length, plan.at, plan.length, tuned) || memcmp(words, tuned, 64) != 0)
         fail("the two walks in C differ");
-    if (number > ROUTE_RULES_COUNTS && number != ROUTE_RULES_LONG_PLAN && number != ROUTE_RULES_STEP)
+    if (number > ROUTE_RULES_REFUSED_COUNTS && number != ROUTE_RULES_REFUSED_LONG_PLAN && number != ROUTE_RULES_REFUSED_STEP)
         fail("a refusal that is not walk's");
     if (words[5] > (plan.length + 1) * (file.length / 5)) fail("more literals than rows in all states");
     if (words[1] == ROUTE_RULES_SOLVED && try_settle(file, words[3], words[4], at_end) != 0) fail("a solution that is not settled");
@@ -152,7 +152,7 @@ static void try_translate(Area file, size_t room, int at_end)
     same_answer(number, answer, plain_translate(file.at, file.length, expected, room, words), words);
     guarded(out);
     if (memcmp(out.at, expected, room) != 0) fail("another output");
-    if (number > ROUTE_RULES_SHORT_OUTPUT) fail("a refusal that is not translate's");
+    if (number > ROUTE_RULES_REFUSED_SHORT_OUTPUT) fail("a refusal that is not translate's");
     if (number != tuned_translate(file.at, file.length, other, room, tuned) || memcmp(words, tuned, 64) != 0 ||
         memcmp(expected, other, room) != 0)
         fail("the two translations in C differ");
@@ -177,7 +177,7 @@ static void try_report(Area file, Area plan, size_t room, int at_end)
     words[1] = length;
     same_answer(number, answer, refused != 0 ? refused : number, words);
     guarded(text);
-    if (refused == 0 && number != 0 && (number != ROUTE_RULES_SHORT_OUTPUT || room >= TEXT)) fail("a refusal that is not report's");
+    if (refused == 0 && number != 0 && (number != ROUTE_RULES_REFUSED_SHORT_OUTPUT || room >= TEXT)) fail("a refusal that is not report's");
     if (length > room) fail("a report longer than its area");
     untouched(text.at + length, room - length);
     if (number == 0 && (length < 10 || text.at[length - 1] != '\n')) fail("a report without a line");

@@ -2,13 +2,13 @@
  * plan on a task, given as bytes or as planners print it, and settle what it is worth.
  *
  * Link target/staticlib/libroute_rules.a, which `rt staticlib route_rules` writes. Every function is proved: it answers every
- * input as the definitions say (crates/route_rules/specs/Numbers.antt has the words of the answers), always returns, and
+ * input as the definitions say (crates/words/specs/Numbers.antt has the words of the answers), always returns, and
  * touches no memory but the areas lent to it. Nothing is kept between calls, so several threads may call at once.
  *
  * An area is a pointer and its length in bytes. The pointer is never NULL, also where the length is 0. The areas of one
  * call do not overlap, unless both are only read.
  *
- * Every function returns 0, or the number of a refusal, and that is never 0 (crates/route_rules/proofs/Done.antt). It writes
+ * Every function returns 0, or the number of a refusal, and that is never 0 (crates/words/proofs/Done.antt). It writes
  * every word of the answer: where a call is refused `place` says where and all else is 0, where it is not `place` is 0. A
  * refusal leaves every other area as it was.
  * `spare` is 0. A later release may give a spare word a meaning, and adds functions and refusals, but moves nothing. */
@@ -51,22 +51,22 @@ extern "C" {
  * Of a plan's text 12 comes after 6, and before 10 and 11; reading alone is refused by 12, then 10, then 9. 13 and 14 are
  * pddl's, in that order, after 1 to 6; 15 is settle's, after 1 to 6. A report is refused as walk is, and then by 9. */
 enum {
-    ROUTE_RULES_SHORT_FILE = 1,       /* under 8 bytes; 0 */
-    ROUTE_RULES_SIZE = 2,             /* a size out of range; 0 */
-    ROUTE_RULES_LENGTH = 3,           /* length not 8 + 5 * N; 0 */
-    ROUTE_RULES_MARK = 4,             /* mark not possible after the rows before it: its row; or rows end inside a task: N */
-    ROUTE_RULES_VALUE = 5,            /* value not allowed for its mark, START not rising; its row */
-    ROUTE_RULES_COUNTS = 6,           /* ACTION rows not A, or preferences not P; N */
-    ROUTE_RULES_TOO_MANY = 7,         /* F + 3 * P + 2 and the facts of deadlines (t + 1 for within t, t for always-within t)
-                                       * over 128 together, or A + 2 * P + 1 over 128; 0 */
-    ROUTE_RULES_TRANSLATION_ROWS = 8, /* translation over 12,000 rows; 0 */
-    ROUTE_RULES_SHORT_OUTPUT = 9,     /* output area under the output's length; 0 */
-    ROUTE_RULES_LONG_PLAN = 10,       /* plan over 2,048 steps; 0 */
-    ROUTE_RULES_STEP = 11,            /* step not below A; the first such step */
-    ROUTE_RULES_TEXT = 12,            /* text over 65,536 bytes: 0; or a line of another form or without a newline: that line */
-    ROUTE_RULES_PREFERENCES = 13,     /* the task has preferences; 0 */
-    ROUTE_RULES_SHORT_AREA = 14,      /* a domain or a problem longer than its area; 0 */
-    ROUTE_RULES_ARGUMENT = 15         /* cost over 2,048,000,000, or a met preference not below P; 0 */
+    ROUTE_RULES_REFUSED_SHORT_FILE = 1,       /* under 8 bytes; 0 */
+    ROUTE_RULES_REFUSED_SIZE = 2,             /* a size out of range; 0 */
+    ROUTE_RULES_REFUSED_LENGTH = 3,           /* length not 8 + 5 * N; 0 */
+    ROUTE_RULES_REFUSED_MARK = 4,             /* mark not possible after the rows before it: its row; or rows end inside a task: N */
+    ROUTE_RULES_REFUSED_VALUE = 5,            /* value not allowed for its mark, START not rising; its row */
+    ROUTE_RULES_REFUSED_COUNTS = 6,           /* ACTION rows not A, or preferences not P; N */
+    ROUTE_RULES_REFUSED_TOO_MANY = 7,         /* F + 3 * P + 2 and the facts of deadlines (t + 1 for within t, t for always-within t)
+                                               * over 128 together, or A + 2 * P + 1 over 128; 0 */
+    ROUTE_RULES_REFUSED_TRANSLATION_ROWS = 8, /* translation over 12,000 rows; 0 */
+    ROUTE_RULES_REFUSED_SHORT_OUTPUT = 9,     /* output area under the output's length; 0 */
+    ROUTE_RULES_REFUSED_LONG_PLAN = 10,       /* plan over 2,048 steps; 0 */
+    ROUTE_RULES_REFUSED_STEP = 11,            /* step not below A; the first such step */
+    ROUTE_RULES_REFUSED_TEXT = 12,            /* text over 65,536 bytes: 0; or a line of another form or without a newline: that line */
+    ROUTE_RULES_REFUSED_PREFERENCES = 13,     /* the task has preferences; 0 */
+    ROUTE_RULES_REFUSED_SHORT_AREA = 14,      /* a domain or a problem longer than its area; 0 */
+    ROUTE_RULES_REFUSED_ARGUMENT = 15         /* cost over 2,048,000,000, or a met preference not below P; 0 */
 };
 
 /* The four sizes of an accepted file: F, A, P and N. */
@@ -137,23 +137,23 @@ typedef struct route_rules_settled {
 uint32_t route_rules_settle(const uint8_t *file, size_t file_length, uint64_t cost, uint64_t met, route_rules_settled *answer);
 
 /* The length in bytes of the plan read, or of the text written. */
-typedef struct route_rules_listed {
+typedef struct route_rules_length {
     uint64_t place;
     uint64_t length;
     uint64_t spare[6];
-} route_rules_listed;
+} route_rules_length;
 
 /* Reads a plan as planners print it: a line `(aN)` for each step, N decimal without leading zeros, and comment lines, which
  * begin with a semicolon; a newline ends each line. It fills the first `length` bytes of the output, one for each step, and no
  * others; a number too large for a byte is read as 255. Or it is refused by 12, 10 or 9, and the output is as it was. Lines are
  * counted from 0, comments too. */
 uint32_t route_rules_read_plan(const uint8_t *text, size_t text_length, uint8_t *out, size_t out_length,
-                               route_rules_listed *answer);
+                               route_rules_length *answer);
 
 /* Writes a plan as such a text, without comments, into the first `length` bytes of the output and no others; or it is refused
  * by 10 or 9, and the output is as it was. */
 uint32_t route_rules_write_plan(const uint8_t *plan, size_t plan_length, uint8_t *out, size_t out_length,
-                                route_rules_listed *answer);
+                                route_rules_length *answer);
 
 /* Walks the plan in a text on the task in a file: a verdict, or refused by 1 to 6, 12, 10 or 11. */
 uint32_t route_rules_walk_text(const uint8_t *file, size_t file_length, const uint8_t *text, size_t text_length,
@@ -189,7 +189,7 @@ uint32_t route_rules_report(const uint8_t *file, size_t file_length, const uint8
 /* Every answer has eight words; the functions write them all. */
 typedef char route_rules_answers_have_eight_words[sizeof(route_rules_checked) == 64 && sizeof(route_rules_translated) == 64 &&
                                                           sizeof(route_rules_walked) == 64 && sizeof(route_rules_settled) == 64 &&
-                                                          sizeof(route_rules_listed) == 64 && sizeof(route_rules_texts) == 64 &&
+                                                          sizeof(route_rules_length) == 64 && sizeof(route_rules_texts) == 64 &&
                                                           sizeof(route_rules_reported) == 64
                                                       ? 1
                                                       : -1];

@@ -105,7 +105,7 @@ static void walk(const uint8_t *file, size_t length, const uint8_t *plan, size_t
 static void write_plan(const uint8_t *plan, size_t steps)
 {
     static uint8_t text[ROUTE_RULES_MAX_TEXT];
-    route_rules_listed answer;
+    route_rules_length answer;
     uint32_t number = route_rules_write_plan(plan, steps, text, sizeof text, &answer);
     if (number != 0) {
         refused("write_plan", number, answer.place);

@@ -7,13 +7,13 @@ use Prim.Native.Nat.{ℕ, zero, suc, _+_, _<_}
 use native.Mathlib.Nat.{add-zero, le-of-suc-le-suc, not-suc-le-zero}
 use native.Mathlib.Omega.{arith}
 use lib.ListN.{length, getD}
-use Rattle.task.specs.Lists.{any, concatMap, concatFrom, elem}
-use Rattle.task.specs.Task.{Condition, Effect}
-use Rattle.task.specs.Meaning.{State, isTrue, literalTrue}
+use Rattle.lists.specs.Lists.{any, concatMap, concatFrom, elem}
+use Rattle.meaning.specs.Task.{Condition, Effect}
+use Rattle.meaning.specs.Meaning.{State, isTrue, literalTrue}
 use Rattle.classical.specs.Translation.{deny, alone, eachFalse, effect}
-use Rattle.task.proofs.Tests.{is-true, is-false}
-use Rattle.task.proofs.Conditions.{both-parts}
-use Rattle.task.proofs.Effects.{added, deleted, added-none, added-append, deleted-none, deleted-append}
+use Rattle.lists.proofs.Tests.{is-true, is-false}
+use Rattle.meaning.proofs.Conditions.{both-parts}
+use Rattle.meaning.proofs.Effects.{added, deleted, added-none, added-append, deleted-none, deleted-append}
 use Rattle.classical.proofs.Conditions.{denied}
 
 -- one effect more

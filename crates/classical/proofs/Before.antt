@@ -3,11 +3,11 @@ use mathlib.Core.Path.{_≡_, refl, sym, _∙_, ap, ap₂}
 use mathlib.Core.Bool.{Bool, true, false, not, cond, _&&_, _||_, Bool·beq}
 use mathlib.Core.List.{List, [], _∷_, map}
 use lib.Dec.{T}
-use Rattle.task.specs.Lists.{all, any, keep, concatMap, elem, isEmpty}
-use Rattle.task.specs.Task.{Literal, Clause, Condition, Effect, Action}
-use Rattle.task.specs.Meaning.{State, literalTrue, isTrue, fired, after}
+use Rattle.lists.specs.Lists.{all, any, filter, concatMap, elem, isEmpty}
+use Rattle.meaning.specs.Task.{Literal, Clause, Condition, Effect, Action}
+use Rattle.meaning.specs.Meaning.{State, literalTrue, isTrue, fired, after}
 use Rattle.classical.specs.Translation.{deny}
-use Rattle.task.proofs.Tests.{noneOf, all-implies, keep-all, any-keep}
+use Rattle.lists.proofs.Tests.{noneOf, all-implies, filter-all, any-filter}
 
 -- effects add or delete the fact of a literal
 abbrev pub adds : Literal → List Effect → Bool
@@ -22,7 +22,7 @@ makes a l = cond (l .holds) (adds l (a .effects)) (deletes l (a .effects) && not
 
 -- clauses that it makes true go, and so do literals that it makes false
 abbrev pub before : Action → Condition → Condition
-before a c = map (keep (λ (l : Literal). not (makes a (deny l)))) (keep (noneOf (makes a)) c)
+before a c = map (filter (λ (l : Literal). not (makes a (deny l)))) (filter (noneOf (makes a)) c)
 
 -- The law
 
@@ -56,7 +56,7 @@ either false false l r = refl
 module _ (s : State) (a : Action) (h : T (all unconditional (a .effects))) where
   all-fire : fired s a ≡ a .effects
   all-fire =
-      keep-all (λ (e : Effect). isTrue s (e .condition)) (a .effects)
+      filter-all (λ (e : Effect). isTrue s (e .condition)) (a .effects)
       (all-implies unconditional (λ (e : Effect). isTrue s (e .condition)) (λ e. fires (e .condition)) (a .effects) h)
     where
       fires : (c : Condition) → T (isEmpty c) → T (isTrue s c)
@@ -71,8 +71,8 @@ module _ (s : State) (a : Action) (h : T (all unconditional (a .effects))) where
   abbrev stays : Literal → Bool
   stays l = not (makes a (deny l))
 
-  clause-before : (c : Clause) → any (literalTrue (after s a)) c ≡ (any (makes a) c || any (literalTrue s) (keep stays c))
-  clause-before c = split c ∙ ap (λ (b : Bool). any (makes a) c || b) (sym (any-keep stays (literalTrue s) c))
+  clause-before : (c : Clause) → any (literalTrue (after s a)) c ≡ (any (makes a) c || any (literalTrue s) (filter stays c))
+  clause-before c = split c ∙ ap (λ (b : Bool). any (makes a) c || b) (sym (any-filter stays (literalTrue s) c))
     where
       split : (c : Clause) → any (literalTrue (after s a)) c ≡ (any (makes a) c || any (λ (l : Literal). stays l && literalTrue s l) c)
       split [] = refl
@@ -93,7 +93,7 @@ module _ (s : State) (a : Action) (h : T (all unconditional (a .effects))) where
   said-before (c ∷ φ) = ap₂ _&&_ (clause-before c) (said-before φ) ∙ go (any (makes a) c) (none-any c)
     where
       go : (b : Bool) → noneOf (makes a) c ≡ not b
-          → ((b || any (literalTrue s) (keep stays c)) && isTrue s (before a φ))
-          ≡ isTrue s (map (keep stays) (cond (noneOf (makes a) c) (c ∷ keep (noneOf (makes a)) φ) (keep (noneOf (makes a)) φ)))
+          → ((b || any (literalTrue s) (filter stays c)) && isTrue s (before a φ))
+          ≡ isTrue s (map (filter stays) (cond (noneOf (makes a) c) (c ∷ filter (noneOf (makes a)) φ) (filter (noneOf (makes a)) φ)))
       go true e = rw e
       go false e = rw e

@@ -8,28 +8,28 @@ use native.Mathlib.Numerals.{add-one}
 use native.Mathlib.Omega.{arith}
 use lib.Dec.{leb, eqb}
 use borrow.Author.Tests.{ne-eqb, eq-eqb, eqb-true, eqb-false, le-leb, lt-leb, leb-true, leb-false}
-use Rattle.task.specs.Lists.{one, any, elem, numbers, concatMap}
-use Rattle.task.specs.Task.{within, always-within, Condition, Effect}
-use Rattle.task.specs.Meaning.{State, isTrue}
-use Rattle.task.specs.Monitor.{older, nextS, nextB, nextAge}
+use Rattle.lists.specs.Lists.{singleton, any, elem, range, concatMap}
+use Rattle.meaning.specs.Task.{within, always-within, Condition, Effect}
+use Rattle.meaning.specs.Meaning.{State, isTrue}
+use Rattle.meaning.specs.Monitor.{older, nextS, nextB, nextAge}
 use Rattle.classical.specs.Translation.{holdsFact, lacksFact, alone, effect, eachFalse, factD, trackersOf}
-use Rattle.task.proofs.Tests.{other-false}
-use Rattle.task.proofs.Effects.{added, deleted, changed, added-none, added-append, deleted-none, deleted-append, changed-none}
+use Rattle.lists.proofs.Tests.{other-false}
+use Rattle.meaning.proofs.Effects.{added, deleted, changed, added-none, added-append, deleted-none, deleted-append, changed-none}
 use Rattle.classical.proofs.Conditions.{holds-alone}
 use Rattle.classical.proofs.Adding.{added-more, deleted-more, eachFalse-adds, eachFalse-deletes, adding, deleting, plain, grouped}
 
 -- A test of one number after the other
 
 module _ (f : ℕ → Bool) where
-  none-of : (k m : ℕ) → ((j : ℕ) → k ≤ j → j < k + m → f j ≡ false) → any f (numbers k m) ≡ false
+  none-of : (k m : ℕ) → ((j : ℕ) → k ≤ j → j < k + m → f j ≡ false) → any f (range k m) ≡ false
   none-of k zero h = refl
   none-of k (suc m) h = ap₂ _||_ (h k (omega arith) (omega arith)) (none-of (k + 1) m (λ j lo hi. h j (omega arith) (omega arith)))
 
-  only-one : (i k m : ℕ) → k ≤ i → i < k + m → ((j : ℕ) → k ≤ j → j < k + m → j ≢ i → f j ≡ false) → any f (numbers k m) ≡ f i
+  only-one : (i k m : ℕ) → k ≤ i → i < k + m → ((j : ℕ) → k ≤ j → j < k + m → j ≢ i → f j ≡ false) → any f (range k m) ≡ f i
   only-one i k zero lo hi h = absurd (omega arith)
   only-one i k (suc m) lo hi h = go (eqb k i) refl (λ more. only-one i (k + 1) m more (omega arith) (λ j l r. h j (omega arith) (omega arith)))
     where
-      go : (b : Bool) → eqb k i ≡ b → (k + 1 ≤ i → any f (numbers (k + 1) m) ≡ f i) → (f k || any f (numbers (k + 1) m)) ≡ f i
+      go : (b : Bool) → eqb k i ≡ b → (k + 1 ≤ i → any f (range (k + 1) m) ≡ f i) → (f k || any f (range (k + 1) m)) ≡ f i
       go true e rest =
           let same : k ≡ i = eqb-true k i e in
           ap₂ _||_ (ap f same) (none-of (k + 1) m (λ j l r. h j (omega arith) (omega arith) (omega arith))) ∙ or-false (f i)
@@ -92,40 +92,40 @@ module _ (s : State) (S B E t : ℕ) (low-S : S ≤ E) (low-B : B ≤ E) (φ ψ 
   -- within
 
   abbrev onwards : ℕ → Effect
-  onwards j = effect (alone (one (holdsFact (E + j)))) (one (E + (j + 1))) []
+  onwards j = effect (alone (singleton (holdsFact (E + j)))) (singleton (E + (j + 1))) []
 
   abbrev reaches : Effect
-  reaches = effect (alone (one (lacksFact (E + (t + 1)))) ++ φ) (one S) []
+  reaches = effect (alone (singleton (lacksFact (E + (t + 1)))) ++ φ) (singleton S) []
 
   module _ (n : ℕ) where
-    onwards-add : (k m : ℕ) → added s (map onwards (numbers k m)) n ≡ any (λ (j : ℕ). s (E + j) && eqb n (E + (j + 1))) (numbers k m)
+    onwards-add : (k m : ℕ) → added s (map onwards (range k m)) n ≡ any (λ (j : ℕ). s (E + j) && eqb n (E + (j + 1))) (range k m)
     onwards-add k zero = added-none s n
     onwards-add k (suc m) =
-        added-more s (alone (one (holdsFact (E + k)))) (one (E + (k + 1))) [] (map onwards (numbers (k + 1) m)) n
+        added-more s (alone (singleton (holdsFact (E + k)))) (singleton (E + (k + 1))) [] (map onwards (range (k + 1) m)) n
         ∙ ap₂ _||_ (ap₂ _&&_ (holds-alone s (E + k)) (or-false (eqb n (E + (k + 1))))) (onwards-add (k + 1) m)
 
-    onwards-delete : (k m : ℕ) → deleted s (map onwards (numbers k m)) n ≡ false
+    onwards-delete : (k m : ℕ) → deleted s (map onwards (range k m)) n ≡ false
     onwards-delete k zero = deleted-none s n
     onwards-delete k (suc m) =
-        deleted-more s (alone (one (holdsFact (E + k)))) (one (E + (k + 1))) [] (map onwards (numbers (k + 1) m)) n
-        ∙ ap₂ _||_ (and-false (isTrue s (alone (one (holdsFact (E + k)))))) (onwards-delete (k + 1) m)
+        deleted-more s (alone (singleton (holdsFact (E + k)))) (singleton (E + (k + 1))) [] (map onwards (range (k + 1) m)) n
+        ∙ ap₂ _||_ (and-false (isTrue s (alone (singleton (holdsFact (E + k)))))) (onwards-delete (k + 1) m)
 
     within-adds : added s (trackersOf (within t) last S B E φ ψ) n
-        ≡ (eqb n (E + 1) || (any (λ (j : ℕ). s (E + j) && eqb n (E + (j + 1))) (numbers 1 t) || not (s (E + (t + 1))) && isTrue s φ && eqb n S))
+        ≡ (eqb n (E + 1) || (any (λ (j : ℕ). s (E + j) && eqb n (E + (j + 1))) (range 1 t) || not (s (E + (t + 1))) && isTrue s φ && eqb n S))
     within-adds =
-        let reaches-adds : added s (one reaches) n ≡ (not (s (E + (t + 1))) && isTrue s φ && eqb n S) = simp (adding, plain) in
-        added-more s [] (one (E + 1)) [] (map onwards (numbers 1 t) ++ one reaches) n
+        let reaches-adds : added s (singleton reaches) n ≡ (not (s (E + (t + 1))) && isTrue s φ && eqb n S) = simp (adding, plain) in
+        added-more s [] (singleton (E + 1)) [] (map onwards (range 1 t) ++ singleton reaches) n
         ∙ ap₂ _||_ (or-false (eqb n (E + 1)))
-        (added-append s (map onwards (numbers 1 t)) (one reaches) n ∙ ap₂ _||_ (onwards-add 1 t) reaches-adds)
+        (added-append s (map onwards (range 1 t)) (singleton reaches) n ∙ ap₂ _||_ (onwards-add 1 t) reaches-adds)
 
     pub within-deletes : deleted s (trackersOf (within t) last S B E φ ψ) n ≡ false
     within-deletes =
-        let reaches-deletes : deleted s (one reaches) n ≡ false = simp (deleting, plain) in
-        deleted-more s [] (one (E + 1)) [] (map onwards (numbers 1 t) ++ one reaches) n
-        ∙ deleted-append s (map onwards (numbers 1 t)) (one reaches) n
+        let reaches-deletes : deleted s (singleton reaches) n ≡ false = simp (deleting, plain) in
+        deleted-more s [] (singleton (E + 1)) [] (map onwards (range 1 t) ++ singleton reaches) n
+        ∙ deleted-append s (map onwards (range 1 t)) (singleton reaches) n
         ∙ ap₂ _||_ (onwards-delete 1 t) reaches-deletes
 
-    no-onwards : ((i : ℕ) → 1 ≤ i → i ≤ t + 1 → n ≢ E + i) → any (λ (j : ℕ). s (E + j) && eqb n (E + (j + 1))) (numbers 1 t) ≡ false
+    no-onwards : ((i : ℕ) → 1 ≤ i → i ≤ t + 1 → n ≢ E + i) → any (λ (j : ℕ). s (E + j) && eqb n (E + (j + 1))) (range 1 t) ≡ false
     no-onwards out =
         none-of (λ (j : ℕ). s (E + j) && eqb n (E + (j + 1))) 1 t
         (λ j lo hi. ap (λ (b : Bool). s (E + j) && b) (other-false (out (j + 1) (omega arith) (omega arith))) ∙ and-false (s (E + j)))
@@ -155,7 +155,7 @@ module _ (s : State) (S B E t : ℕ) (low-S : S ≤ E) (low-B : B ≤ E) (φ ψ 
     pub within-D : (i : ℕ) → i < t + 1 → changed s (trackersOf (within t) last S B E φ ψ) (E + (i + 1)) ≡ leb (i + 1) (nextAge (within t) (s S) n (isTrue s φ) (isTrue s ψ))
     within-D i h =
         within-changed (E + (i + 1))
-        ∙ ap₂ _||_ (within-adds (E + (i + 1)) ∙ ap (λ (b : Bool). eqb (E + (i + 1)) (E + 1) || (any (λ (j : ℕ). s (E + j) && eqb (E + (i + 1)) (E + (j + 1))) (numbers 1 t) || b)) no-S ∙ by-number i h)
+        ∙ ap₂ _||_ (within-adds (E + (i + 1)) ∙ ap (λ (b : Bool). eqb (E + (i + 1)) (E + 1) || (any (λ (j : ℕ). s (E + j) && eqb (E + (i + 1)) (E + (j + 1))) (range 1 t) || b)) no-S ∙ by-number i h)
         (ages (i + 1) (omega arith) (omega arith))
         ∙ older-is i n t (omega arith)
       where
@@ -163,25 +163,25 @@ module _ (s : State) (S B E t : ℕ) (low-S : S ≤ E) (low-B : B ≤ E) (φ ψ 
         no-S = let other : E + (i + 1) ≢ S = omega arith in rw (other-false other) (and-false (not (s (E + (t + 1))) && isTrue s φ))
 
         by-number : (i : ℕ) → i < t + 1
-            → (eqb (E + (i + 1)) (E + 1) || (any (λ (j : ℕ). s (E + j) && eqb (E + (i + 1)) (E + (j + 1))) (numbers 1 t) || false)) ≡ leb i n
+            → (eqb (E + (i + 1)) (E + 1) || (any (λ (j : ℕ). s (E + j) && eqb (E + (i + 1)) (E + (j + 1))) (range 1 t) || false)) ≡ leb i n
         by-number zero h = ap₂ _||_ (eq-eqb (E + (0 + 1)) (E + 1) (omega arith)) refl ∙ sym (le-leb 0 n (omega arith))
         by-number (suc i) h =
             let other : E + (suc i + 1) ≢ E + 1 = omega arith in
-            let one-of : any (λ (j : ℕ). s (E + j) && eqb (E + (suc i + 1)) (E + (j + 1))) (numbers 1 t) ≡ (s (E + suc i) && eqb (E + (suc i + 1)) (E + (suc i + 1))) =
+            let one-of : any (λ (j : ℕ). s (E + j) && eqb (E + (suc i + 1)) (E + (j + 1))) (range 1 t) ≡ (s (E + suc i) && eqb (E + (suc i + 1)) (E + (suc i + 1))) =
             only-one (λ (j : ℕ). s (E + j) && eqb (E + (suc i + 1)) (E + (j + 1))) (suc i) 1 t (omega arith) (omega arith)
             (λ j lo hi o. ap (λ (b : Bool). s (E + j) && b) (ne-eqb (E + (suc i + 1)) (E + (j + 1)) (omega arith)) ∙ and-false (s (E + j))) in
             ap₂ _||_ (other-false other)
-            (or-false (any (λ (j : ℕ). s (E + j) && eqb (E + (suc i + 1)) (E + (j + 1))) (numbers 1 t)) ∙ one-of
+            (or-false (any (λ (j : ℕ). s (E + j) && eqb (E + (suc i + 1)) (E + (j + 1))) (range 1 t)) ∙ one-of
             ∙ ap₂ _&&_ (ages (suc i) (omega arith) (omega arith)) (eq-eqb (E + (suc i + 1)) (E + (suc i + 1)) refl)
             ∙ and-true (leb (suc i) n))
 
   -- always-within
 
   abbrev waits : ℕ → List Effect
-  waits j = eachFalse (alone (one (holdsFact (E + j)))) ψ (one (factD t S E (j + 1)))
+  waits j = eachFalse (alone (singleton (holdsFact (E + j)))) ψ (singleton (factD t S E (j + 1)))
 
   abbrev resets : Effect
-  resets = effect (alone (one (lacksFact S)) ++ ψ) [] (B ∷ numbers (E + 1) t)
+  resets = effect (alone (singleton (lacksFact S)) ++ ψ) [] (B ∷ range (E + 1) t)
 
   -- some D that holds leads to n, where ψ is false
   abbrev waited : ℕ → ℕ → Bool
@@ -190,42 +190,42 @@ module _ (s : State) (S B E t : ℕ) (low-S : S ≤ E) (low-B : B ≤ E) (φ ψ 
   module _ (n : ℕ) where
     waits-add : (j : ℕ) → added s (waits j) n ≡ waited n j
     waits-add j =
-        eachFalse-adds s (alone (one (holdsFact (E + j)))) (one (factD t S E (j + 1))) n ψ
+        eachFalse-adds s (alone (singleton (holdsFact (E + j)))) (singleton (factD t S E (j + 1))) n ψ
         ∙ ap₂ (λ (x y : Bool). x && not (isTrue s ψ) && y) (holds-alone s (E + j)) (or-false (eqb n (factD t S E (j + 1))))
 
     always-adds : added s (trackersOf (always-within t) last S B E φ ψ) n
-        ≡ (isTrue s φ && not (isTrue s ψ) && (eqb n B || eqb n (factD t S E 1)) || any (waited n) (numbers 1 t))
+        ≡ (isTrue s φ && not (isTrue s ψ) && (eqb n B || eqb n (factD t S E 1)) || any (waited n) (range 1 t))
     always-adds =
-        let later : List Effect = concatMap waits (numbers 1 t) in
-        let resets-adds : added s (one resets) n ≡ false = simp (adding, plain) in
-        added-append s (eachFalse φ ψ (B ∷ factD t S E 1 ∷ [])) (later ++ one resets) n
+        let later : List Effect = concatMap waits (range 1 t) in
+        let resets-adds : added s (singleton resets) n ≡ false = simp (adding, plain) in
+        added-append s (eachFalse φ ψ (B ∷ factD t S E 1 ∷ [])) (later ++ singleton resets) n
         ∙ ap₂ _||_
         (eachFalse-adds s φ (B ∷ factD t S E 1 ∷ []) n ψ
         ∙ ap (λ (b : Bool). isTrue s φ && not (isTrue s ψ) && (eqb n B || b)) (or-false (eqb n (factD t S E 1))))
-        (added-append s later (one resets) n
-        ∙ ap₂ _||_ (grouped (λ (es : List Effect). added s es n) (added-none s n) (λ es fs. added-append s es fs n) waits (numbers 1 t) ∙ each (numbers 1 t)) resets-adds
-        ∙ or-false (any (waited n) (numbers 1 t)))
+        (added-append s later (singleton resets) n
+        ∙ ap₂ _||_ (grouped (λ (es : List Effect). added s es n) (added-none s n) (λ es fs. added-append s es fs n) waits (range 1 t) ∙ each (range 1 t)) resets-adds
+        ∙ or-false (any (waited n) (range 1 t)))
       where
         each : (js : List ℕ) → any (λ (j : ℕ). added s (waits j) n) js ≡ any (waited n) js
         each [] = refl
         each (j ∷ js) = ap₂ _||_ (waits-add j) (each js)
 
-    always-deletes : deleted s (trackersOf (always-within t) last S B E φ ψ) n ≡ (not (s S) && isTrue s ψ && (eqb n B || elem n (numbers (E + 1) t)))
+    always-deletes : deleted s (trackersOf (always-within t) last S B E φ ψ) n ≡ (not (s S) && isTrue s ψ && (eqb n B || elem n (range (E + 1) t)))
     always-deletes =
-        let later : List Effect = concatMap waits (numbers 1 t) in
-        let resets-deletes : deleted s (one resets) n ≡ (not (s S) && isTrue s ψ && (eqb n B || elem n (numbers (E + 1) t))) = simp (deleting, plain) in
-        deleted-append s (eachFalse φ ψ (B ∷ factD t S E 1 ∷ [])) (later ++ one resets) n
+        let later : List Effect = concatMap waits (range 1 t) in
+        let resets-deletes : deleted s (singleton resets) n ≡ (not (s S) && isTrue s ψ && (eqb n B || elem n (range (E + 1) t))) = simp (deleting, plain) in
+        deleted-append s (eachFalse φ ψ (B ∷ factD t S E 1 ∷ [])) (later ++ singleton resets) n
         ∙ ap₂ _||_ (eachFalse-deletes s φ (B ∷ factD t S E 1 ∷ []) n ψ)
-        (deleted-append s later (one resets) n
-        ∙ ap₂ _||_ (grouped (λ (es : List Effect). deleted s es n) (deleted-none s n) (λ es fs. deleted-append s es fs n) waits (numbers 1 t)
-        ∙ each (numbers 1 t)) resets-deletes)
+        (deleted-append s later (singleton resets) n
+        ∙ ap₂ _||_ (grouped (λ (es : List Effect). deleted s es n) (deleted-none s n) (λ es fs. deleted-append s es fs n) waits (range 1 t)
+        ∙ each (range 1 t)) resets-deletes)
       where
         each : (js : List ℕ) → any (λ (j : ℕ). deleted s (waits j) n) js ≡ false
         each [] = refl
-        each (j ∷ js) = ap₂ _||_ (eachFalse-deletes s (alone (one (holdsFact (E + j)))) (one (factD t S E (j + 1))) n ψ) (each js)
+        each (j ∷ js) = ap₂ _||_ (eachFalse-deletes s (alone (singleton (holdsFact (E + j)))) (singleton (factD t S E (j + 1))) n ψ) (each js)
 
     -- where no D leads
-    nothing-waited : ((i : ℕ) → 2 ≤ i → i ≤ t + 1 → n ≢ factD t S E i) → any (waited n) (numbers 1 t) ≡ false
+    nothing-waited : ((i : ℕ) → 2 ≤ i → i ≤ t + 1 → n ≢ factD t S E i) → any (waited n) (range 1 t) ≡ false
     nothing-waited out =
         none-of (waited n) 1 t
         (λ j lo hi. ap (λ (b : Bool). s (E + j) && not (isTrue s ψ) && b) (other-false (out (j + 1) (omega arith) (omega arith)))
@@ -233,7 +233,7 @@ module _ (s : State) (S B E t : ℕ) (low-S : S ≤ E) (low-B : B ≤ E) (φ ψ 
 
     -- where D of i leads alone
     waited-at : (i : ℕ) → 1 ≤ i → i ≤ t → n ≡ factD t S E (i + 1) → ((j : ℕ) → j ≢ i → j ≤ t → n ≢ factD t S E (j + 1))
-        → any (waited n) (numbers 1 t) ≡ (s (E + i) && not (isTrue s ψ))
+        → any (waited n) (range 1 t) ≡ (s (E + i) && not (isTrue s ψ))
     waited-at i lo hi here out =
         only-one (waited n) i 1 t lo (omega arith)
         (λ j l r o. ap (λ (b : Bool). s (E + j) && not (isTrue s ψ) && b) (other-false (out j o (omega arith))) ∙ and-false (s (E + j) && not (isTrue s ψ)))
@@ -254,10 +254,10 @@ module _ (s : State) (S B E t : ℕ) (low-S : S ≤ E) (low-B : B ≤ E) (φ ψ 
       go true p = let h : j ≤ t = leb-true j t p in out h (e ∙ D-in j h)
       go false p = not-S (e ∙ D-out j (leb-false j t p))
 
-  no-elem : (n k m : ℕ) → (n < k) → elem n (numbers k m) ≡ false
+  no-elem : (n k m : ℕ) → (n < k) → elem n (range k m) ≡ false
   no-elem n k m h = none-of (eqb n) k m (λ j lo hi. ne-eqb n j (omega arith))
 
-  has-elem : (n k m : ℕ) → k ≤ n → n < k + m → elem n (numbers k m) ≡ true
+  has-elem : (n k m : ℕ) → k ≤ n → n < k + m → elem n (range k m) ≡ true
   has-elem n k m lo hi = only-one (eqb n) n k m lo hi (λ j l r o. other-false (λ p. o (sym p))) ∙ eq-eqb n n refl
 
   module _ (n : ℕ) (not-S : n ≢ S) (not-B : n ≢ B) (out : (i : ℕ) → 1 ≤ i → i ≤ t → n ≢ E + i) where
@@ -292,10 +292,10 @@ module _ (s : State) (S B E t : ℕ) (low-S : S ≤ E) (low-B : B ≤ E) (φ ψ 
         ∙ ap (λ (b : Bool). cond (eqb t 0) (isTrue s φ) (leb t n) && not (isTrue s ψ) || b) (and-true (s S))
       where
         by-steps : (r : ℕ) → r ≡ t
-            → (isTrue s φ && not (isTrue s ψ) && (eqb S B || eqb S (factD t S E 1)) || any (waited S) (numbers 1 t))
+            → (isTrue s φ && not (isTrue s ψ) && (eqb S B || eqb S (factD t S E 1)) || any (waited S) (range 1 t))
             ≡ (cond (eqb t 0) (isTrue s φ) (leb t n) && not (isTrue s ψ))
         by-steps zero e =
-            ap₂ (λ (x y : Bool). isTrue s φ && not (isTrue s ψ) && (x || y) || any (waited S) (numbers 1 t)) (other-false apart)
+            ap₂ (λ (x y : Bool). isTrue s φ && not (isTrue s ψ) && (x || y) || any (waited S) (range 1 t)) (other-false apart)
             (eq-eqb S (factD t S E 1) (sym (D-out 1 (omega arith))))
             ∙ ap₂ (λ (x y : Bool). x || y) (and-true (isTrue s φ && not (isTrue s ψ))) (none-of (waited S) 1 t (λ j lo hi. absurd (omega arith)))
             ∙ or-false (isTrue s φ && not (isTrue s ψ))
@@ -303,7 +303,7 @@ module _ (s : State) (S B E t : ℕ) (low-S : S ≤ E) (low-B : B ≤ E) (φ ψ 
         by-steps (suc r) e =
             let far : S ≢ factD t S E 1 = λ p. (let q : S ≡ E + 1 = p ∙ D-in 1 (omega arith) in omega arith) in
             let zero-no : t ≢ 0 = omega arith in
-            ap₂ (λ (x y : Bool). isTrue s φ && not (isTrue s ψ) && (x || y) || any (waited S) (numbers 1 t)) (other-false apart) (other-false far)
+            ap₂ (λ (x y : Bool). isTrue s φ && not (isTrue s ψ) && (x || y) || any (waited S) (range 1 t)) (other-false apart) (other-false far)
             ∙ ap₂ (λ (x y : Bool). x || y) (and-false (isTrue s φ && not (isTrue s ψ)))
             (waited-at S t (omega arith) (omega arith) (sym (D-out (t + 1) (omega arith)))
             (λ j o h p. (let q : S ≡ E + (j + 1) = p ∙ D-in (j + 1) (omega arith) in omega arith)))
@@ -319,7 +319,7 @@ module _ (s : State) (S B E t : ℕ) (low-S : S ≤ E) (low-B : B ≤ E) (φ ψ 
         (nothing-waited B (λ i lo hi. not-D B i (λ p. apart (sym p)) (λ h. omega arith)))
         ∙ or-false (isTrue s φ && not (isTrue s ψ) && true)
         ∙ and-true (isTrue s φ && not (isTrue s ψ)))
-        (always-deletes B ∙ ap (λ (b : Bool). not (s S) && isTrue s ψ && (b || elem B (numbers (E + 1) t))) (eq-eqb B B refl) ∙ and-true (not (s S) && isTrue s ψ))
+        (always-deletes B ∙ ap (λ (b : Bool). not (s S) && isTrue s ψ && (b || elem B (range (E + 1) t))) (eq-eqb B B refl) ∙ and-true (not (s S) && isTrue s ψ))
 
   pub always-D : (n : ℕ) → Ages s E t n → (i : ℕ) → i < t
       → changed s (trackersOf (always-within t) last S B E φ ψ) (E + (i + 1)) ≡ leb (i + 1) (nextAge (always-within t) (s S) n (isTrue s φ) (isTrue s ψ))
@@ -335,7 +335,7 @@ module _ (s : State) (S B E t : ℕ) (low-S : S ≤ E) (low-B : B ≤ E) (φ ψ 
       ∙ as-aged i h (isTrue s φ) (isTrue s ψ) (s S)
     where
       by-number : (i : ℕ) → i < t
-          → (isTrue s φ && not (isTrue s ψ) && (eqb (E + (i + 1)) B || eqb (E + (i + 1)) (factD t S E 1)) || any (waited (E + (i + 1))) (numbers 1 t))
+          → (isTrue s φ && not (isTrue s ψ) && (eqb (E + (i + 1)) B || eqb (E + (i + 1)) (factD t S E 1)) || any (waited (E + (i + 1))) (range 1 t))
           ≡ (cond (eqb i 0) (isTrue s φ) (leb i n) && not (isTrue s ψ))
       by-number zero h =
           ap₂ (λ (x y : Bool). isTrue s φ && not (isTrue s ψ) && x || y)

@@ -6,7 +6,7 @@ pub mod Trackers
 pub mod AllTrackers
 -- The translated task beside its source
 pub mod Actions
-pub mod Mirrors
+pub mod Simulation
 pub mod Applies
 pub mod Runs
 pub mod Plans

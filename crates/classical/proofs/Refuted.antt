@@ -1,18 +1,18 @@
--- Document 01's attacks and request 8's, refuted: for each wrong translator a source task on which demand 3 fails.
+-- Document 01's attacks and request 8's, refuted: for each wrong translator a source task on which faithfulness (demand 3) fails.
 use mathlib.Core.Path.{_≡_, refl, subst, subst⁻¹}
 use mathlib.Core.Bool.{Bool, true, false, not, _&&_, _||_}
 use mathlib.Core.List.{List, [], _∷_}
 use Prim.Native.Nat.{ℕ, zero, suc, _<_}
 use lib.Dec.{T, eqb, eqb-refl, ltb, ltb→lt}
 use lib.ListN.{length}
-use Rattle.task.specs.Lists.{one, all}
-use Rattle.task.specs.Task.{Kind, always, sometime, at-most-once, sometime-before, within, always-within, Condition, Action, Preference, Task, wellFormed}
+use Rattle.lists.specs.Lists.{singleton, all}
+use Rattle.meaning.specs.Task.{Kind, always, sometime, at-most-once, sometime-before, within, always-within, Condition, Action, Preference, Task, wellFormed}
 use Rattle.task.specs.File.{fileOf}
-use Rattle.task.specs.Check.{Answer, accepted, refused, check, walk}
-use Rattle.task.specs.Meaning.{State, isTrue, opening, after, noAction, actionAt, applies, keepsRules, solves, cost, metric}
+use Rattle.task.specs.Check.{Answer, accepted, refused, check, checkRows}
+use Rattle.meaning.specs.Meaning.{State, isTrue, opening, after, noAction, actionAt, applies, keepsRules, solves, cost, metric}
 use Rattle.classical.specs.Translation.{holdsFact, alone, effect, translated}
 use Rattle.classical.specs.Claim.{Faithful, sourcePart}
-use Rattle.task.proofs.Tests.{and-left, and-right, all-at}
+use Rattle.lists.proofs.Tests.{and-left, and-right, all-at}
 use Rattle.classical.proofs.Runs.{wins, solves-win}
 use Rattle.classical.proofs.Faithful.{faithful}
 use Rattle.classical.proofs.Wrong.{Translator, translatedBy, opens, inSource, inEnd, ends, forgone, right}
@@ -63,9 +63,9 @@ abbrev lit : List Preference → Task
 lit ps =
     record {
       facts = 2;
-      start = one 1;
+      start = singleton 1;
       goal = [];
-      actions = one (record { cost = 0; precondition = []; effects = one (effect [] (one 0) []) });
+      actions = singleton (record { cost = 0; precondition = []; effects = singleton (effect [] (singleton 0) []) });
       preferences = ps;
     }
 
@@ -77,27 +77,27 @@ abbrev hard-rule : Kind → Condition → Condition → Preference
 hard-rule k φ ψ = record { kind = k; hard = true; weight = 0; first = φ; second = ψ }
 
 abbrev fact0 : Condition
-fact0 = alone (one (holdsFact 0))
+fact0 = alone (singleton (holdsFact 0))
 
 -- In the translation of lit, 1 is end, 2 and 3 are collect and forgo of preference 0, 4 and 5 those of preference 1
 abbrev pub attacks : List Attack
 attacks =
     attack fixed still (unsolved [])
     ∷ attack never-ends still (unsolved [])
-    ∷ attack opening-only (lit (one (rule sometime fact0 []))) (mispriced (0 ∷ 1 ∷ 3 ∷ []))
+    ∷ attack opening-only (lit (singleton (rule sometime fact0 []))) (mispriced (0 ∷ 1 ∷ 3 ∷ []))
     ∷ attack follows-first (lit (rule sometime fact0 [] ∷ rule always fact0 [] ∷ [])) (mispriced (0 ∷ 1 ∷ 2 ∷ 4 ∷ []))
-    ∷ attack last-only (lit (one (rule always fact0 []))) (mispriced (0 ∷ 1 ∷ 2 ∷ []))
-    ∷ attack all-but-last (lit (one (rule sometime fact0 []))) (mispriced (0 ∷ 1 ∷ 3 ∷ []))
-    ∷ attack reads-reached (lit (one (rule always fact0 []))) (mispriced (0 ∷ 1 ∷ 2 ∷ []))
-    ∷ attack counts-states (lit (one (rule at-most-once fact0 []))) (mispriced (0 ∷ 0 ∷ 1 ∷ 3 ∷ []))
-    ∷ attack forgo-met (lit (one (rule sometime fact0 []))) (mispriced (0 ∷ 1 ∷ 3 ∷ []))
-    ∷ attack own-state (lit (one (rule sometime-before fact0 fact0))) (mispriced (0 ∷ 1 ∷ 2 ∷ []))
-    ∷ attack denied-at-once (lit (one (rule always (alone (holdsFact 0 ∷ holdsFact 1 ∷ [])) []))) (mispriced (1 ∷ 2 ∷ []))
-    ∷ attack one-step-less (lit (one (rule (within 1) fact0 []))) (mispriced (0 ∷ 1 ∷ 3 ∷ []))
-    ∷ attack one-step-more (lit (one (rule (always-within 0) [] fact0))) (mispriced (0 ∷ 1 ∷ 2 ∷ []))
-    ∷ attack late-forgiven (lit (one (rule (always-within 0) [] fact0))) (mispriced (0 ∷ 1 ∷ 2 ∷ []))
-    ∷ attack forgo-hard (lit (one (hard-rule always fact0 []))) (unearned (0 ∷ 1 ∷ 3 ∷ []))
-    ∷ attack softened (lit (one (hard-rule sometime fact0 []))) (unearned (1 ∷ 3 ∷ []))
+    ∷ attack last-only (lit (singleton (rule always fact0 []))) (mispriced (0 ∷ 1 ∷ 2 ∷ []))
+    ∷ attack all-but-last (lit (singleton (rule sometime fact0 []))) (mispriced (0 ∷ 1 ∷ 3 ∷ []))
+    ∷ attack reads-reached (lit (singleton (rule always fact0 []))) (mispriced (0 ∷ 1 ∷ 2 ∷ []))
+    ∷ attack counts-states (lit (singleton (rule at-most-once fact0 []))) (mispriced (0 ∷ 0 ∷ 1 ∷ 3 ∷ []))
+    ∷ attack forgo-met (lit (singleton (rule sometime fact0 []))) (mispriced (0 ∷ 1 ∷ 3 ∷ []))
+    ∷ attack own-state (lit (singleton (rule sometime-before fact0 fact0))) (mispriced (0 ∷ 1 ∷ 2 ∷ []))
+    ∷ attack denied-at-once (lit (singleton (rule always (alone (holdsFact 0 ∷ holdsFact 1 ∷ [])) []))) (mispriced (1 ∷ 2 ∷ []))
+    ∷ attack one-step-less (lit (singleton (rule (within 1) fact0 []))) (mispriced (0 ∷ 1 ∷ 3 ∷ []))
+    ∷ attack one-step-more (lit (singleton (rule (always-within 0) [] fact0))) (mispriced (0 ∷ 1 ∷ 2 ∷ []))
+    ∷ attack late-forgiven (lit (singleton (rule (always-within 0) [] fact0))) (mispriced (0 ∷ 1 ∷ 2 ∷ []))
+    ∷ attack forgo-hard (lit (singleton (hard-rule always fact0 []))) (unearned (0 ∷ 1 ∷ 3 ∷ []))
+    ∷ attack softened (lit (singleton (hard-rule sometime fact0 []))) (unearned (1 ∷ 3 ∷ []))
     ∷ []
 
 -- What the evidence means
@@ -128,13 +128,13 @@ unfaithful : (s c : Task) (e : Evidence) → T (shows s c e) → Faithful s c �
 unfaithful s c (mispriced x) h f =
     let solved : T (solves c x) = and-left (solves c x) _ h in
     not-true (eqb (cost c x) (metric s (sourcePart s x))) (and-right (solves c x) _ h)
-    (subst (λ (m : ℕ). T (eqb (cost c x) m)) (f .priced x solved) (eqb-refl (cost c x)))
+    (subst (λ (m : ℕ). T (eqb (cost c x) m)) (f .costPreserved x solved) (eqb-refl (cost c x)))
 unfaithful s c (unsolved p) h f =
-    let x : (x : List ℕ) × T (solves c x) × (sourcePart s x ≡ p) = f .reaches p .1 (and-left (solves s p) _ h) in
+    let x : (x : List ℕ) × T (solves c x) × (sourcePart s x ≡ p) = f .onto p .1 (and-left (solves s p) _ h) in
     let won : T (wins c (opening c) (x .0)) = and-left (wins c (opening c) (x .0)) (keepsRules c (x .0)) (subst T (solves-win c (x .0)) (x .1)) in
     never-wins c 2 (opening c) (and-right (solves s p) _ h) (x .0) won
 unfaithful s c (unearned x) h f =
-    not-true (solves s (sourcePart s x)) (and-right (solves c x) _ h) (f .reaches (sourcePart s x) .0 (x, and-left (solves c x) _ h, refl))
+    not-true (solves s (sourcePart s x)) (and-right (solves c x) _ h) (f .onto (sourcePart s x) .0 (x, and-left (solves c x) _ h, refl))
 
 -- The claim
 
@@ -159,7 +159,7 @@ by-evidence (a ∷ rest) h =
     ((and-left taken _ here, no), by-evidence rest (and-right (shown a) _ h))
 
 pub refuted : Each Refuted attacks
-unfolding check walk translated
+unfolding check checkRows translated
 refuted = by-evidence attacks tt
 
 -- With the right parts the same builder is faithful

@@ -5,14 +5,15 @@ use mathlib.Core.List.{List, [], _∷_}
 use Prim.Native.Nat.{ℕ, _+_, _*_, _≤_}
 use lib.Dec.{T, leb→le}
 use Rattle.task.specs.Marks.{ACTION, EFFECT, CLAUSE, HOLDS, LACKS, ADD, DELETE, GOAL, START, ALWAYS, SOMETIME, HARD}
-use Rattle.task.specs.Task.{Task, wellFormed, row}
+use Rattle.meaning.specs.Task.{Task, wellFormed}
+use Rattle.task.specs.TaskRows.{row}
 use Rattle.task.specs.File.{Sizes, fileOfRows, taskOf}
-use Rattle.task.specs.Check.{check, walk, accepted}
-use Rattle.task.specs.Meaning.{isTrue, opening, runs, final, keepsRules, solves}
-use Rattle.task.specs.Verdict.{verdict, rule-missed}
+use Rattle.task.specs.Check.{check, checkRows, accepted}
+use Rattle.meaning.specs.Meaning.{isTrue, opening, runs, final, keepsRules, solves}
+use Rattle.meaning.specs.Verdict.{verdict, rule-missed}
 use Rattle.classical.specs.Translation.{further, translated, compiled, compiledRows}
 use Rattle.classical.specs.Claim.{None}
-use Rattle.task.proofs.Tests.{never, and-left, and-right}
+use Rattle.lists.proofs.Tests.{never, and-left, and-right}
 use Rattle.classical.proofs.Faithful.{faithful}
 use Rattle.classical.proofs.Written.{written}
 
@@ -51,7 +52,7 @@ abbrev strictSizes : Sizes
 strictSizes = record { facts = 2; actions = 2; preferences = 2; rows = 18 }
 
 belt-accepted : check strictBelt ≡ accepted strictSizes
-unfolding check walk
+unfolding check checkRows
 belt-accepted = refl
 
 -- document 01's plan still reaches the goal

@@ -6,11 +6,12 @@ use mathlib.Core.List.{List, [], _∷_, _++_, map}
 use Prim.Native.Nat.{ℕ, _+_, _-_, _*_}
 use lib.Dec.{eqb}
 use lib.ListN.{length}
-use Rattle.task.specs.Lists.{one, concatMap, concatFrom, sum}
+use Rattle.lists.specs.Lists.{singleton, concatMap, concatFrom, sum}
 use Rattle.task.specs.Marks.{ALWAYS, AT-MOST-ONCE, SOMETIME-BEFORE, WITHIN, ALWAYS-WITHIN}
-use Rattle.task.specs.Task.{Kind, within, always-within, Clause, Condition, Effect, Action, Preference, Task, kindMark, stepsRows}
+use Rattle.meaning.specs.Task.{Kind, within, always-within, Clause, Condition, Effect, Action, Preference, Task}
+use Rattle.task.specs.TaskRows.{kindMark, stepsRows}
 use Rattle.task.specs.File.{values}
-use Rattle.task.specs.Meaning.{isTrue, opening, preferenceAt}
+use Rattle.meaning.specs.Meaning.{isTrue, opening, preferenceAt}
 use Rattle.classical.specs.Translation.{holdsFact, lacksFact, deny, alone, effect, factS, factB, normal, ended, further, beforeD}
 use Rattle.classical.specs.Translation.{eachFalse, trackersOf, metClause, allTrackers, closing, collect, allClosed, translated}
 use Rattle.classical.proofs.Before.{before}
@@ -22,7 +23,7 @@ Translator = Task → Task
 
 -- the facts held at the opening
 abbrev pub opens : Task → List ℕ
-opens t = t .start ++ one (normal (t .facts) (length (t .preferences)))
+opens t = t .start ++ singleton (normal (t .facts) (length (t .preferences)))
 
 -- the trackers of a source action
 abbrev pub inSource : Task → Action → List Effect
@@ -34,14 +35,14 @@ inEnd t = allTrackers true (t .facts) (t .preferences)
 
 -- what end adds
 abbrev pub ends : Task → List ℕ
-ends t = one (ended (t .facts) (length (t .preferences)))
+ends t = singleton (ended (t .facts) (length (t .preferences)))
 
 -- what forgo k asks for, beside its turn: that the preference is missed, and of a hard one what can't be
 abbrev pub missed : Task → ℕ → Preference → Condition
 missed t k p = alone (map deny (metClause (factS (t .facts) k) (factB (t .facts) k) (p .kind)))
 
 abbrev pub barred : Task → Preference → Condition
-barred t p = cond (p .hard) (alone (one (lacksFact (ended (t .facts) (length (t .preferences)))))) []
+barred t p = cond (p .hard) (alone (singleton (lacksFact (ended (t .facts) (length (t .preferences)))))) []
 
 abbrev pub forgone : Task → ℕ → Preference → Condition
 forgone t k p = missed t k p ++ barred t p
@@ -53,18 +54,18 @@ abbrev pub translatedBy : (Task → List ℕ) → (Task → Action → List Effe
 translatedBy opened sourceTrackers endTrackers endAdds forgo t =
     let F : ℕ = t .facts in
     let P : ℕ = length (t .preferences) in
-    let running : Condition = alone (one (holdsFact (normal F P))) in
+    let running : Condition = alone (singleton (holdsFact (normal F P))) in
     let source : Action → Action =
     λ (a : Action). record { cost = a .cost; precondition = a .precondition ++ running; effects = a .effects ++ sourceTrackers t a } in
     let end : Action =
-    record { cost = 0; precondition = running; effects = effect [] (endAdds t) (one (normal F P)) ∷ endTrackers t } in
+    record { cost = 0; precondition = running; effects = effect [] (endAdds t) (singleton (normal F P)) ∷ endTrackers t } in
     let close : ℕ → Preference → List Action =
     λ (k : ℕ) (p : Preference). collect F P k p ∷ closing F P k (p .weight) (forgo t k p) ∷ [] in
     record {
       facts = F + 3 * P + 2 + further (t .preferences);
       start = opened t;
-      goal = t .goal ++ alone (one (holdsFact (ended F P))) ++ allClosed F 0 (t .preferences);
-      actions = map source (t .actions) ++ one end ++ concatFrom close 0 (t .preferences);
+      goal = t .goal ++ alone (singleton (holdsFact (ended F P))) ++ allClosed F 0 (t .preferences);
+      actions = map source (t .actions) ++ singleton end ++ concatFrom close 0 (t .preferences);
       preferences = [];
     }
 
@@ -106,7 +107,7 @@ translatedAs f t =
 
 -- one fixed task that nothing solves: its goal is a fact that no action adds
 abbrev pub fixed : Translator
-fixed t = record { facts = 1; start = []; goal = alone (one (holdsFact 0)); actions = []; preferences = [] }
+fixed t = record { facts = 1; start = []; goal = alone (singleton (holdsFact 0)); actions = []; preferences = [] }
 
 -- end does not add ended
 abbrev pub never-ends : Translator
@@ -148,8 +149,8 @@ counts-states =
     byTrackers
     (instead AT-MOST-ONCE
     (λ k last S B E φ ψ.
-    effect (alone (lacksFact S ∷ lacksFact B ∷ []) ++ φ) (one S) []
-    ∷ effect (alone (one (holdsFact S)) ++ φ) (one B) (one S)
+    effect (alone (lacksFact S ∷ lacksFact B ∷ []) ++ φ) (singleton S) []
+    ∷ effect (alone (singleton (holdsFact S)) ++ φ) (singleton B) (singleton S)
     ∷ []))
 
 -- forgo does not ask that the preference is missed
@@ -161,13 +162,13 @@ abbrev pub own-state : Translator
 own-state =
     byTrackers
     (instead SOMETIME-BEFORE
-    (λ k last S B E φ ψ. effect ψ (one S) [] ∷ eachFalse (alone (one (lacksFact S)) ++ φ) ψ (one B)))
+    (λ k last S B E φ ψ. effect ψ (singleton S) [] ∷ eachFalse (alone (singleton (lacksFact S)) ++ φ) ψ (singleton B)))
 
 -- always: one effect denies all literals of φ
 abbrev pub denied-at-once : Translator
 denied-at-once =
     byTrackers
-    (instead ALWAYS (λ k last S B E φ ψ. one (effect (concatMap (λ (c : Clause). alone (map deny c)) φ) (one B) [])))
+    (instead ALWAYS (λ k last S B E φ ψ. singleton (effect (concatMap (λ (c : Clause). alone (map deny c)) φ) (singleton B) [])))
 
 -- Deadlines
 
@@ -191,7 +192,7 @@ one-step-more =
 -- always-within: ψ deletes B, also where it comes too late
 abbrev pub late-forgiven : Translator
 late-forgiven =
-    byTrackers (instead ALWAYS-WITHIN (λ k last S B E φ ψ. trackersOf k last S B E φ ψ ++ one (effect ψ [] (one B))))
+    byTrackers (instead ALWAYS-WITHIN (λ k last S B E φ ψ. trackersOf k last S B E φ ψ ++ singleton (effect ψ [] (singleton B))))
 
 -- Hard rules
 
@@ -200,7 +201,7 @@ abbrev pub forgo-hard : Translator
 forgo-hard =
     translatedBy opens inSource inEnd ends
     (λ (t : Task) (k : ℕ) (p : Preference).
-    missed t k p ++ cond (p .hard) (alone (one (lacksFact (normal (t .facts) (length (t .preferences)))))) [])
+    missed t k p ++ cond (p .hard) (alone (singleton (lacksFact (normal (t .facts) (length (t .preferences)))))) [])
 
 -- a hard preference is followed as a soft one: its miss costs its weight, which is 0
 abbrev pub softened : Translator

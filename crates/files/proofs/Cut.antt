@@ -10,7 +10,7 @@ use lib.Seq.{getD-take}
 use borrow.Author.Tests.{ltb-true, ltb-false}
 use Rattle.task.specs.File.{Sizes, sizes, word16}
 use Rattle.task.specs.Check.{accepted, refused, check, sizesAllowed}
-use Rattle.task.proofs.Tests.{as-true}
+use Rattle.lists.proofs.Tests.{as-true}
 use Rattle.task.proofs.Spelled.{Spelling, accepted-spelling}
 use Rattle.task.proofs.Checking.{short, wrong-length}
 

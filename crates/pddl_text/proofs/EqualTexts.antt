@@ -9,16 +9,16 @@ use lib.Dec.{T, eqb, leb}
 use lib.ListN.{length, take, drop}
 use lib.Seq.{take-at}
 use borrow.Author.Tests.{eqb-true}
-use Rattle.task.specs.Task.{Preference}
+use Rattle.meaning.specs.Task.{Preference}
 use Rattle.task.specs.File.{Sizes, taskOf, fileOf}
 use Rattle.task.specs.Check
 use Rattle.task.specs.Check.{Answer, accepted, check}
 use Rattle.task.proofs.Bytes.{areBytes}
 use Rattle.task.proofs.Spelled.{accepted-spelling, accepted-file}
 use Rattle.pddl_text.specs.Pddl.{domainText, problemText}
-use Rattle.pddl_text.specs.Outcomes.{Outcome, written, refused, outcomeBy, outcome, domainAfter, problemAfter}
+use Rattle.pddl_text.specs.Outcomes.{Outcome, written, refused, outcomeBy, outcome, domainAfter, problemAfter, outcomeOver, domainOver, problemOver}
 use Rattle.pddl_text.proofs.Outcomes.{not-written, same-written}
-use Rattle.pddl_text.proofs.Told.{told}
+use Rattle.pddl_text.proofs.InjectiveTexts.{told}
 
 abbrev pub SameTexts : List ℕ → List ℕ → Type 0
 SameTexts b c = (domainText (taskOf b) ≡ domainText (taskOf c)) × (problemText (taskOf b) ≡ problemText (taskOf c))
@@ -43,16 +43,13 @@ equal-texts b c tb tc z y hb hc nb nc = (there, λ e. (ap (λ (f : List ℕ). do
 -- Over areas: the task in b is written into two
 
 module _ (b domain problem : List ℕ) where
-  abbrev pub whole : Outcome
-  whole = outcome b (length domain) (length problem)
-
   -- the first d bytes of the one then
   abbrev pub domainBytes : ℕ → List ℕ
-  domainBytes d = take d (domainAfter (taskOf b) domain whole)
+  domainBytes d = take d (domainOver b domain problem)
 
   -- and the first p of the other
   abbrev pub problemBytes : ℕ → List ℕ
-  problemBytes p = take p (problemAfter (taskOf b) problem whole)
+  problemBytes p = take p (problemOver b domain problem)
 
   -- d and p being the lengths that writing has answered
   record Put (d p : ℕ) : Type 0 where
@@ -62,7 +59,7 @@ module _ (b domain problem : List ℕ) where
     pub domain-is : domainBytes d ≡ domainText (taskOf b)
     pub problem-is : problemBytes p ≡ problemText (taskOf b)
 
-  module _ (d p : ℕ) (w : whole ≡ written d p) where
+  module _ (d p : ℕ) (w : outcomeOver b domain problem ≡ written d p) where
     by-answer : (a : Answer) → check b ≡ a → outcomeBy b (length domain) (length problem) a ≡ written d p → Put d p
     by-answer (Check.refused n i) h e = absurd (not-written n i d p e)
     by-answer (Check.accepted z) h e =
@@ -90,7 +87,7 @@ module _ (b domain problem : List ℕ) where
 
 -- two tasks that were written, each into two areas: the bytes written are equal exactly when the files are
 pub equal-areas : (b c : List ℕ) → T (areBytes b) → T (areBytes c) → (domain problem domain′ problem′ : List ℕ) (d p d′ p′ : ℕ)
-    → whole b domain problem ≡ written d p → whole c domain′ problem′ ≡ written d′ p′
+    → outcomeOver b domain problem ≡ written d p → outcomeOver c domain′ problem′ ≡ written d′ p′
     → ((domainBytes b domain problem d ≡ domainBytes c domain′ problem′ d′) × (problemBytes b domain problem p ≡ problemBytes c domain′ problem′ p′)) ↔ (b ≡ c)
 equal-areas b c tb tc domain problem domain′ problem′ d p d′ p′ of-b of-c =
     let x : Put b domain problem d p = put b domain problem d p of-b in

@@ -1,32 +1,15 @@
--- Request 4's lines, computed.
+-- Request 4's two texts, computed.
 use mathlib.Core.Path.{_≡_, refl}
-use mathlib.Core.Bool.{true, false}
+use mathlib.Core.Bool.{false}
 use mathlib.Core.List.{[], _∷_, _++_}
 use Prim.Native.Nat.{ℕ}
-use Rattle.task.specs.Task.{Literal, Condition, Action, Task}
+use Rattle.meaning.specs.Task.{Literal, Task}
 use Rattle.text.specs.Ascii.{ascii}
 use Rattle.text.specs.Text.{decimal}
-use Rattle.pddl_text.specs.Pddl.{conditionText, actionLine, domainText, problemText}
-
-abbrev holds : ℕ → Literal
-holds n = record { holds = true; fact = n }
+use Rattle.pddl_text.specs.Pddl.{domainText, problemText}
 
 abbrev lacks : ℕ → Literal
 lacks n = record { holds = false; fact = n }
-
-abbrev Q : Condition
-Q = (holds 2 ∷ []) ∷ (holds 0 ∷ lacks 1 ∷ []) ∷ []
-
-condition : conditionText Q ≡ ascii "(and (f2) (or (f0) (not (f1))))"
-unfolding decimal
-condition = refl
-
-abbrev a0 : Action
-a0 = record { cost = 3; precondition = []; effects = record { condition = Q; adds = 0 ∷ []; deletes = 1 ∷ [] } ∷ [] }
-
-action : actionLine 0 a0 ≡ ascii "(:action a0 :parameters () :precondition (and) :effect (and (increase (total-cost) 3) (when (and (f2) (or (f0) (not (f1)))) (and (f0) (not (f1))))))\n"
-unfolding decimal
-action = refl
 
 abbrev small : Task
 small = record { facts = 2; start = 1 ∷ []; goal = (lacks 1 ∷ []) ∷ []; actions = record { cost = 0; precondition = []; effects = [] } ∷ []; preferences = [] }

@@ -1,13 +1,8 @@
 pub mod Examples
-pub mod Tells
-pub mod Told
+pub mod Injective
+pub mod InjectiveTexts
 pub mod Outcomes
 pub mod EqualTexts
 pub mod Longest
-pub mod Listing
-pub mod Emitting
-pub mod ClauseRows
-pub mod EffectRows
-pub mod LineRows
 pub mod TextRows
 pub mod Answering

@@ -8,25 +8,28 @@ use native.Mathlib.Omega.{arith}
 use lib.Dec.{T, eqb, ltb, ltb→lt, lt→ltb, leb→le}
 use lib.ListN.{length, length-append}
 use borrow.Author.Tests.{eq-eqb, eqb-true, le-leb}
-use Rattle.task.specs.Lists.{all, concatMap, concatFrom, numbers}
+use Rattle.lists.specs.Lists.{all, concatMap, concatFrom, range}
 use Rattle.task.specs.Marks.{ADD, DELETE, GOAL, START}
-use Rattle.task.specs.Task.{Literal, Clause, Condition, Effect, Action, Task, Row, row, literalRow, clauseRows, conditionRows, effectRows, actionRows, preferenceRows, taskRows, conditionBelow, factsBelow, effectBelow, actionBelow, wellFormed}
+use Rattle.meaning.specs.Task.{Literal, Clause, Condition, Effect, Action, Task, conditionBelow, factsBelow, effectBelow, actionBelow, wellFormed}
+use Rattle.task.specs.TaskRows.{Row, row, literalRow, clauseRows, conditionRows, effectRows, actionRows, preferenceRows, taskRows}
 use Rattle.task.specs.File.{Sizes, taskOf}
 use Rattle.task.specs.Check
-use Rattle.task.specs.Check.{Answer, accepted, check, limit}
+use Rattle.task.specs.Check.{Answer, accepted, check}
 use Rattle.task.specs.Spelling.{actionSpellable, spellable}
-use Rattle.task.proofs.Tests.{tests}
+use Rattle.lists.proofs.Tests.{tests}
 use Rattle.task.proofs.Spelled.{accepted-spelling}
 use Rattle.task.proofs.Checking.{within}
 use Rattle.task.proofs.Refusals.{one-to-six}
 use Rattle.text.specs.Ascii.{ascii}
 use Rattle.text.specs.Text.{decimal}
 use Rattle.text.proofs.Decimal.{few-digits}
-use Rattle.pddl_text.specs.Pddl.{spaced, factText, notText, literalText, clauseText, conditionText, effectText, actionLine, domainText, problemText}
+use Rattle.pddl_parts.specs.Pddl.{spaced, factText, notText, literalText, clauseText, conditionText, effectText, actionLine}
+use Rattle.pddl_text.specs.Pddl.{domainText, problemText}
 use Rattle.pddl_text.specs.Outcomes.{written, refused, fitted, outcomeBy, outcome}
 use Rattle.pddl_text.proofs.Outcomes.{not-written, same-refused}
+use Rattle.task.specs.Limits.{MAX-AMOUNT}
 
--- Lists, each of whose parts is behind a space
+-- Lists, each of whose parts is after a space
 
 module _ {A : Type 0} (ok : A → Bool) (text : A → List ℕ) where
   -- by the rows of each part
@@ -105,7 +108,7 @@ module _ (F : ℕ) (few : F ≤ 128) where
         length-append effects (ascii "))\n"),
         length-append (conditionRows (a .precondition)) (concatMap effectRows (a .effects)),
         few-digits 2 k (omega arith),
-        few-digits 6 (a .cost) (omega (arith, leb→le (a .cost) limit (search tests))),
+        few-digits 6 (a .cost) (omega (arith, leb→le (a .cost) MAX-AMOUNT (search tests))),
         short-condition (a .precondition) (search tests),
         by-rows (effectBelow F) effectText effectRows short-effect (a .effects) (search tests),
       )
@@ -122,12 +125,12 @@ module _ (F : ℕ) (few : F ≤ 128) where
         short-lines (k + 1) l (omega arith) (search tests) (search tests),
       )
 
-  short-numbers : (k n : ℕ) → k + n ≤ F → length (spaced factText (numbers k n)) ≤ 7 * n
+  short-numbers : (k n : ℕ) → k + n ≤ F → length (spaced factText (range k n)) ≤ 7 * n
   short-numbers k zero h = omega arith
   short-numbers k (suc n) h =
       omega (
         arith,
-        length-append (factText k) (spaced factText (numbers (k + 1) n)),
+        length-append (factText k) (spaced factText (range (k + 1) n)),
         short-fact k (lt→ltb k F (omega arith)),
         short-numbers (k + 1) n (omega arith),
       )
@@ -158,7 +161,7 @@ module _ (t : Task) (few-facts : t .facts ≤ 128) (few-actions : length (t .act
   short-domain : length (domainText t) ≤ 262144
   unfolding domainText
   short-domain =
-      let facts : List ℕ = spaced factText (numbers 0 (t .facts)) in
+      let facts : List ℕ = spaced factText (range 0 (t .facts)) in
       let lines : List ℕ = concatFrom actionLine 0 (t .actions) in
       omega (
         arith,

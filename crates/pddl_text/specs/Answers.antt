@@ -3,8 +3,7 @@ use mathlib.Core.Path.{_≡_}
 use mathlib.Core.List.{List}
 use Prim.Native.Nat.{ℕ}
 use lib.ListN.{length}
-use Rattle.task.specs.Task.{Task, taskRows}
-use Rattle.task.specs.File.{paired}
+use Rattle.meaning.specs.Task.{Task}
 use Rattle.pddl_text.specs.Outcomes
 use Rattle.pddl_text.specs.Outcomes.{fitted, domainAfter, problemAfter}
 use Rattle.pddl_text.specs.declared.Outcome.{Outcome}
@@ -14,10 +13,13 @@ abbrev pub answer : Outcome → Outcomes.Outcome
 answer (Written n) = Outcomes.written (n .domain) (n .problem)
 answer (Refused r) = Outcomes.refused (r .number) (r .place)
 
--- the texts of the task that rows spell, or 14
-abbrev pub PutsTexts : List ℕ → List ℕ → ℕ → List ℕ → List ℕ → Outcome → List ℕ → List ℕ → Type 0
-PutsTexts ms vs facts domain problem r domain′ problem′ =
-    (t : Task) → paired ms vs ≡ taskRows t → facts ≡ t .facts
-    → (answer r ≡ fitted t (length domain) (length problem))
-    × ((domain′ ≡ domainAfter t domain (fitted t (length domain) (length problem)))
-    × (problem′ ≡ problemAfter t problem (fitted t (length domain) (length problem))))
+-- both texts of t where both fit into their areas, else 14
+abbrev pub Fits : List ℕ → List ℕ → Outcome → Task → Type 0
+Fits domain problem r t = answer r ≡ fitted t (length domain) (length problem)
+
+-- an area after the answer
+abbrev pub DomainLeft : List ℕ → Outcome → List ℕ → Task → Type 0
+DomainLeft area r left t = left ≡ domainAfter t area (answer r)
+
+abbrev pub ProblemLeft : List ℕ → Outcome → List ℕ → Task → Type 0
+ProblemLeft area r left t = left ≡ problemAfter t area (answer r)

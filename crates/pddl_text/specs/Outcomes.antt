@@ -4,11 +4,12 @@ use mathlib.Core.List.{List, _++_}
 use Prim.Native.Nat.{ℕ}
 use lib.Dec.{eqb, leb}
 use lib.ListN.{length, drop}
-use Rattle.task.specs.Task.{Task}
+use Rattle.meaning.specs.Task.{Task}
 use Rattle.task.specs.File.{taskOf}
 use Rattle.task.specs.Check
 use Rattle.task.specs.Check.{Answer, check}
 use Rattle.pddl_text.specs.Pddl.{domainText, problemText}
+use Rattle.task.specs.Refused.{PREFERENCES, SHORT-AREA}
 
 -- the lengths of the domain and of the problem, or a refusal with a number and a place
 pub data Outcome : Type 0 where
@@ -19,11 +20,11 @@ pub data Outcome : Type 0 where
 abbrev pub fitted : Task → ℕ → ℕ → Outcome
 fitted t domain problem =
     cond (leb (length (domainText t)) domain && leb (length (problemText t)) problem)
-    (written (length (domainText t)) (length (problemText t))) (refused 14 0)
+    (written (length (domainText t)) (length (problemText t))) (refused SHORT-AREA 0)
 
 abbrev pub outcomeBy : List ℕ → ℕ → ℕ → Answer → Outcome
 outcomeBy b domain problem (Check.refused n i) = refused n i
-outcomeBy b domain problem (Check.accepted z) = cond (eqb (z .preferences) 0) (fitted (taskOf b) domain problem) (refused 13 0)
+outcomeBy b domain problem (Check.accepted z) = cond (eqb (z .preferences) 0) (fitted (taskOf b) domain problem) (refused PREFERENCES 0)
 
 -- the task in b, for areas of so many bytes
 unfoldable pub outcome : List ℕ → ℕ → ℕ → Outcome
@@ -37,3 +38,14 @@ domainAfter t area (refused n i) = area
 abbrev pub problemAfter : Task → List ℕ → Outcome → List ℕ
 problemAfter t area (written d p) = problemText t ++ drop p area
 problemAfter t area (refused n i) = area
+
+-- The task in b over two areas: what comes of it, and the areas then
+
+abbrev pub outcomeOver : List ℕ → List ℕ → List ℕ → Outcome
+outcomeOver b domain problem = outcome b (length domain) (length problem)
+
+abbrev pub domainOver : List ℕ → List ℕ → List ℕ → List ℕ
+domainOver b domain problem = domainAfter (taskOf b) domain (outcomeOver b domain problem)
+
+abbrev pub problemOver : List ℕ → List ℕ → List ℕ → List ℕ
+problemOver b domain problem = problemAfter (taskOf b) problem (outcomeOver b domain problem)

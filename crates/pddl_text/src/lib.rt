@@ -1,17 +1,15 @@
 // A task without preferences as a domain and a problem in PDDL.
-mod actions;
-mod conditions;
 mod texts;
 
 ghost use mathlib.Core.Path.{_≡_};
-ghost use Prim.Native.Nat.{_*_, _≤_};
-ghost use lib.ListN.{length};
-ghost use Rattle.task.specs.File.{taskOf};
-ghost use Rattle.pddl_text.specs.Puts.{SpelledOver};
-ghost use Rattle.pddl_text.specs.Outcomes.{refused, outcome, domainAfter, problemAfter};
-ghost use Rattle.pddl_text.specs.Answers.{answer, PutsTexts};
+ghost use Prim.Native.Nat.{_≤_};
+ghost use Rattle.task.specs.Rows.{Rows};
+ghost use Rattle.pddl_text.specs.Puts.{SpelledOver, OfTask};
+ghost use Rattle.pddl_text.specs.Outcomes.{refused, outcomeOver, domainOver, problemOver};
+ghost use Rattle.pddl_text.specs.Answers.{answer, Fits, DomainLeft, ProblemLeft};
 use task::Checked;
 use task::Refusal;
+use task::refused;
 
 // How long the two texts are.
 pub struct Lengths {
@@ -39,15 +37,17 @@ fn put_texts(
     domain: &mut [u8],
     problem: &mut [u8],
 ) -> Outcome
-    requires { ⌜ (4 * length (now marks) ≤ length (now values)) × (length (now marks) ≤ 12000) × (facts ≤ 128) × SpelledOver facts (now marks) (now values) ⌝ }
-    ensures { λ r. ⌜ PutsTexts (now (marks .entry)) (now (values .entry)) facts (now (domain .entry)) (now (problem .entry)) r (now (domain .exit)) (now (problem .exit)) ⌝ }
+    requires { ⌜ Rows (now marks) (now values) × (facts ≤ 128) × SpelledOver facts (now marks) (now values) ⌝ }
+    ensures { λ r. ⌜ OfTask facts (now (marks .entry)) (now (values .entry)) (Fits (now (domain .entry)) (now (problem .entry)) r) ⌝ }
+    ensures { λ r. ⌜ OfTask facts (now (marks .entry)) (now (values .entry)) (DomainLeft (now (domain .entry)) r (now (domain .exit))) ⌝ }
+    ensures { λ r. ⌜ OfTask facts (now (marks .entry)) (now (values .entry)) (ProblemLeft (now (problem .entry)) r (now (problem .exit))) ⌝ }
 {
     let mut nothing: [u8; 1] = [0; 1];
     let p = texts::put_problem(&mut nothing, marks, values);
     let d = texts::put_domain(&mut nothing, facts, marks, values, p.next);
     let both_fit = (d <= domain.len()) & (p.at <= problem.len());
     if !both_fit {
-        return refuse(14);
+        return refuse(refused::SHORT_AREA);
     }
     texts::put_problem(&mut *problem, marks, values);
     texts::put_domain(&mut *domain, facts, marks, values, p.next);
@@ -59,16 +59,16 @@ fn put_texts(
 
 // Writes the task in a file as PDDL, the domain into one area and the problem into the other.
 pub fn write(file: &[u8], domain: &mut [u8], problem: &mut [u8]) -> Outcome
-    ensures { λ r. ⌜ answer r ≡ outcome (now (file .entry)) (length (now (domain .entry))) (length (now (problem .entry))) ⌝ }
-    ensures { λ r. ⌜ now (domain .exit) ≡ domainAfter (taskOf (now (file .entry))) (now (domain .entry)) (outcome (now (file .entry)) (length (now (domain .entry))) (length (now (problem .entry)))) ⌝ }
-    ensures { λ r. ⌜ now (problem .exit) ≡ problemAfter (taskOf (now (file .entry))) (now (problem .entry)) (outcome (now (file .entry)) (length (now (domain .entry))) (length (now (problem .entry)))) ⌝ }
+    ensures { λ r. ⌜ answer r ≡ outcomeOver (now (file .entry)) (now (domain .entry)) (now (problem .entry)) ⌝ }
+    ensures { λ r. ⌜ now (domain .exit) ≡ domainOver (now (file .entry)) (now (domain .entry)) (now (problem .entry)) ⌝ }
+    ensures { λ r. ⌜ now (problem .exit) ≡ problemOver (now (file .entry)) (now (domain .entry)) (now (problem .entry)) ⌝ }
 {
     let c = task::check(file);
     let Checked::Accepted(z) = c else {
         return Outcome::Refused(task::refusal_of(c));
     };
     if z.preferences != 0 {
-        return refuse(13);
+        return refuse(refused::PREFERENCES);
     }
     let middle = 8 + z.rows;
     put_texts(

@@ -1,19 +1,21 @@
 // The domain and the problem of a task.
 ghost use Prim.Native.Nat.{_+_, _*_, _^_, _≤_, _<_};
 ghost use lib.ListN.{length};
-ghost use Rattle.task.specs.Lists.{numbers};
+ghost use Rattle.lists.specs.Lists.{range};
+ghost use Rattle.task.specs.Rows.{Rows};
 ghost use Rattle.text.specs.Area.{Wrote};
-ghost use Rattle.pddl_text.specs.Pddl.{spaced, factText};
+ghost use Rattle.pddl_parts.specs.Pddl.{spaced, factText};
+ghost use Rattle.pddl_parts.specs.Puts.{stretch};
 ghost use Rattle.pddl_text.specs.Puts.{Spelled, ActionsOver, PutsProblem, PutsDomain};
-use super::actions;
-use super::conditions;
-use super::conditions::Spot;
+use pddl_parts::actions;
+use pddl_parts::conditions;
+use pddl_parts::conditions::Emitted;
 use task::marks;
 
-// Writes so many facts, each behind a space.
+// Writes so many facts, each after a space.
 fn put_facts(out: &mut [u8], at: usize, facts: usize) -> usize
-    requires { ⌜ (facts ≤ 128) × (at < 2 ^ 32) ⌝ }
-    ensures { λ r. ⌜ Wrote (now (out .entry)) at (spaced factText (numbers 0 facts)) r (now (out .exit)) ⌝ }
+    requires { ⌜ (facts ≤ 128) × (at + 24 * facts < 2 ^ 64) ⌝ }
+    ensures { λ r. ⌜ Wrote (now (out .entry)) at (spaced factText (range 0 facts)) r (now (out .exit)) ⌝ }
     ensures { λ r. ⌜ r ≤ at + 24 * facts ⌝ }
 {
     let mut k = at;
@@ -27,21 +29,21 @@ fn put_facts(out: &mut [u8], at: usize, facts: usize) -> usize
 }
 
 // Writes the problem, and answers the row of the first action with its length.
-pub fn put_problem(out: &mut [u8], marks: &[u8], values: &[u8]) -> Spot
-    requires { ⌜ (4 * length (now marks) ≤ length (now values)) × (length (now marks) ≤ 12000) × Spelled (now marks) (now values) ⌝ }
+pub fn put_problem(out: &mut [u8], marks: &[u8], values: &[u8]) -> Emitted
+    requires { ⌜ Rows (now marks) (now values) × Spelled (now marks) (now values) ⌝ }
     ensures { λ r. ⌜ PutsProblem (now (marks .entry)) (now (values .entry)) (now (out .entry)) r (now (out .exit)) ⌝ }
     ensures { λ r. ⌜ r .next ≤ length (now (marks .entry)) ⌝ }
 {
-    let k = text::put_word(
+    let k = text::put_bytes(
         &mut *out,
         0,
         b"(define (problem p) (:domain d)\n(:init (= (total-cost) 0)",
     );
     let s = conditions::put_list(&mut *out, k, marks, values, 0, marks::START, marks::START);
-    let k = text::put_word(&mut *out, s.at, b")\n(:goal ");
+    let k = text::put_bytes(&mut *out, s.at, b")\n(:goal ");
     let c = conditions::put_condition(&mut *out, k, marks, values, s.next + 1);
-    let k = text::put_word(&mut *out, c.at, b")\n(:metric minimize (total-cost)))\n");
-    Spot {
+    let k = text::put_bytes(&mut *out, c.at, b")\n(:metric minimize (total-cost)))\n");
+    Emitted {
         at: k,
         next: c.next,
     }
@@ -49,16 +51,16 @@ pub fn put_problem(out: &mut [u8], marks: &[u8], values: &[u8]) -> Spot
 
 // Writes the domain; the first action stands at row `from`.
 pub fn put_domain(out: &mut [u8], facts: usize, marks: &[u8], values: &[u8], from: usize) -> usize
-    requires { ⌜ (4 * length (now marks) ≤ length (now values)) × (length (now marks) ≤ 12000) × (from ≤ length (now marks)) × (facts ≤ 128) × ActionsOver facts (now marks) (now values) from ⌝ }
-    ensures { λ r. ⌜ PutsDomain (now (marks .entry)) (now (values .entry)) facts from (now (out .entry)) r (now (out .exit)) ⌝ }
+    requires { ⌜ Rows (now marks) (now values) × (from ≤ length (now marks)) × (facts ≤ 128) × ActionsOver facts (stretch (now marks) (now values) from) ⌝ }
+    ensures { λ r. ⌜ PutsDomain facts (stretch (now (marks .entry)) (now (values .entry)) from) (now (out .entry)) r (now (out .exit)) ⌝ }
 {
-    let k = text::put_word(
+    let k = text::put_bytes(
         &mut *out,
         0,
         b"(define (domain d)\n(:requirements :negative-preconditions :disjunctive-preconditions :conditional-effects :action-costs)\n(:predicates",
     );
     let k = put_facts(&mut *out, k, facts);
-    let k = text::put_word(&mut *out, k, b")\n(:functions (total-cost))\n");
+    let k = text::put_bytes(&mut *out, k, b")\n(:functions (total-cost))\n");
     let s = actions::put_actions(&mut *out, k, marks, values, from);
-    text::put_word(&mut *out, s.at, b")\n")
+    text::put_bytes(&mut *out, s.at, b")\n")
 }

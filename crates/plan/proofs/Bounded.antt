@@ -6,20 +6,20 @@ use Prim.Native.Nat.{ℕ, _+_, _*_, _≤_}
 use native.Mathlib.Omega.{arith}
 use lib.Dec.{leb, ltb}
 use lib.ListN.{length}
-use Rattle.task.specs.Lists.{all}
-use Rattle.task.specs.Task.{taskRows}
+use Rattle.lists.specs.Lists.{all}
+use Rattle.task.specs.TaskRows.{taskRows}
 use Rattle.task.specs.File
 use Rattle.task.specs.File.{sizes, taskOf}
 use Rattle.task.specs.Check
 use Rattle.task.specs.Check.{Answer, check}
-use Rattle.task.specs.Verdict.{verdict}
-use Rattle.task.specs.Literals.{literals}
+use Rattle.meaning.specs.Verdict.{verdict}
+use Rattle.meaning.specs.Literals.{literals}
 use Rattle.task.proofs.Bytes.{rows-length}
 use Rattle.task.proofs.Spelled.{Spelling, accepted-spelling}
 use Rattle.task.proofs.FewLiterals.{few-literals}
 use Rattle.plan.specs.Judged
 use Rattle.plan.specs.Judged.{Judged, stepsKnown, judgedBy, judged}
-use Rattle.plan.specs.Walked.{Walk, Walked, given, refused, unsettled, walked}
+use Rattle.plan.specs.Walked.{Walk, Walked, given, refused, withoutWorth, walked}
 
 -- a refusal has none
 abbrev looked : Walked → ℕ
@@ -41,12 +41,12 @@ module _ (b p : List ℕ) where
   unfolding judged walked
   looked-few = go (check b) refl
     where
-      go : (a : Answer) → check b ≡ a → looked (unsettled (literals (taskOf b) p) (judgedBy b p a)) ≤ limit
+      go : (a : Answer) → check b ≡ a → looked (withoutWorth (literals (taskOf b) p) (judgedBy b p a)) ≤ limit
       go (Check.refused n i) h = omega arith
       go (Check.accepted z) h = steps (leb (length p) 2048) (all (λ (k : ℕ). ltb k (z .actions)) p)
         where
           steps : (x y : Bool)
-              → looked (unsettled (literals (taskOf b) p)
+              → looked (withoutWorth (literals (taskOf b) p)
               (cond x (cond y (Judged.given (verdict (taskOf b) p)) (Judged.refused 11 (stepsKnown (z .actions) p))) (Judged.refused 10 0)))
               ≤ limit
           steps true true = on-task z h

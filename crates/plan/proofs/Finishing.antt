@@ -1,4 +1,4 @@
--- The verdict behind the last step.
+-- The verdict after the last step.
 use mathlib.Core.Path.{_≡_, refl, sym, ap, _∙_, fun-ext}
 use mathlib.Core.Bool.{Bool, true, false, cond}
 use mathlib.Core.List.{List, [], map}
@@ -7,47 +7,47 @@ use native.Mathlib.Omega.{arith}
 use lib.Dec.{ltb}
 use lib.ListN.{length, getD, length-map, List·getD-eq-default}
 use borrow.Author.Tests.{ltb-true, ltb-false}
-use Rattle.task.specs.Lists.{all, firstFailing}
-use Rattle.task.specs.Task.{Task, Preference, conditionRows}
-use Rattle.task.specs.Meaning.{State as Facts, isTrue, seen, preferenceAt}
-use Rattle.task.specs.Literals.{lookedAt, lookedFrom}
-use Rattle.task.specs.Monitor.{Monitor, step}
-use Rattle.task.proofs.Tests.{tests}
-use Rattle.task.proofs.Verdict.{one-fails, none-fails}
+use Rattle.lists.specs.Lists.{all, firstFailing}
+use Rattle.meaning.specs.Task.{Task, Preference}
+use Rattle.task.specs.TaskRows.{conditionRows}
+use Rattle.meaning.specs.Meaning.{State as Facts, isTrue, seen, preferenceAt}
+use Rattle.meaning.specs.Literals.{lookedAt, lookedFrom}
+use Rattle.meaning.specs.Monitor.{Monitor, step}
+use Rattle.lists.proofs.First.{one-fails, none-fails}
 use Rattle.state.specs.Member.{bit, member}
 use Rattle.state.specs.Conditions.{begin, readAs, evaluateAt}
 use Rattle.state.specs.declared.conditions.Evaluated.{Evaluated}
 use Rattle.state.specs.declared.State.{State}
 use Rattle.state.proofs.Bits.{beyond-law}
 use Rattle.state.proofs.Words.{in-low}
-use Rattle.plan.specs.Monitors.{monitorAt, Have-seen, Watched}
-use Rattle.plan.specs.Reads.{Reads, PreferencesAt}
+use Rattle.monitors.specs.Monitors.{monitorAt, ForPreferences, Watched}
 use Rattle.plan.specs.Walked.{Walk, solved, goal-missed, rule-missed, given}
-use Rattle.plan.specs.Counting.{countAt}
-use Rattle.plan.specs.Met.{Met, noneMet, found, asFound}
-use Rattle.plan.specs.Steps.{isGood, isSafe, solvedBy, lastVerdict, MonitorsAre}
-use Rattle.plan.specs.declared.met.Found.{Found}
+use Rattle.layout.specs.Counting.{countAt}
+use Rattle.monitors.specs.Met.{Met, noneMet, found, asFound}
+use Rattle.plan.specs.Steps.{isAccepting, isSafe, solvedBy, lastVerdict, End}
+use Rattle.monitors.specs.declared.met.Found.{Found}
+use Rattle.plan.specs.declared.steps.Places.{Places}
 use Rattle.plan.specs.declared.steps.Position.{Position}
-use Rattle.plan.proofs.TaskRead.{goal-read}
-use Rattle.plan.proofs.Meeting.{met-is, kept-is, number-is}
+use Rattle.plan.proofs.TaskRead.{preferences-there, goal-read}
+use Rattle.monitors.proofs.Meeting.{met-is, kept-is, number-is}
 
-module _ (t : Task) (ms vs : List ℕ) (R : Reads t ms vs) (p : Position) (μ : Preference → Monitor) (goal : ℕ)
-    (there : goal ≡ length (t .start) + 1) (e : Evaluated) (read : e ≡ evaluateAt (member (p .state)) begin ms vs goal)
-    (at : ℕ) (prefs : PreferencesAt t ms vs at) (l l′ : List ℕ) (n : ℕ) (watched : Watched ms vs at true (member (p .state)) l l′ n) where
+module _ (ms vs : List ℕ) (x : Places) (l : List ℕ) (t : Task) (μ : Preference → Monitor) (E : End ms vs x l t μ) (p : Position)
+    (e : Evaluated) (read : e ≡ evaluateAt (member (p .state)) begin ms vs (x .goal))
+    (l′ : List ℕ) (n : ℕ) (watched : ForPreferences ms vs (x .preferences) (Watched true (member (p .state)) l l′ n)) where
   abbrev σ : Facts
   σ = member (p .state)
 
   whole : e ≡ readAs σ (t .goal) (length (t .start) + 1 + length (conditionRows (t .goal)))
-  whole = read ∙ ap (evaluateAt σ begin ms vs) there ∙ goal-read t ms vs R σ
+  whole = read ∙ ap (evaluateAt σ begin ms vs) (E .placed .goal) ∙ goal-read t ms vs (E .placed .spells) σ
 
   goal-is : e .holds ≡ isTrue σ (t .goal)
   goal-is = ap (λ (x : Evaluated). x .holds) whole
 
   few : length (t .preferences) ≤ 16
-  few = R .few-preferences
+  few = E .placed .spells .few-preferences
 
-  seen-by-all : Have-seen (t .preferences) true σ l l′ n
-  seen-by-all = watched (t .preferences) prefs (let s = R .spelling in search tests) few
+  seen-by-all : Watched true σ l l′ n (t .preferences)
+  seen-by-all = watched (t .preferences) (preferences-there t ms vs (E .placed .spells) (x .preferences) (E .placed .preferences))
 
   -- the preferences and the goal are looked at
   looked-is : p .looked + n + e .looked ≡ p .looked + lookedFrom t σ []
@@ -63,21 +63,21 @@ module _ (t : Task) (ms vs : List ℕ) (R : Reads t ms vs) (p : Position) (μ : 
   abbrev μ′ : Preference → Monitor
   μ′ q = step (q .kind) true (μ q) (seen q σ)
 
-  module _ (true-one : e .holds ≡ true) (are : MonitorsAre t l μ)
-      (all-found : Found) (says : (vs : List ℕ) → asFound all-found ≡ countAt (found l′) noneMet ms vs at) where
+  module _ (true-one : e .holds ≡ true)
+      (all-found : Found) (says : (vs : List ℕ) → asFound all-found ≡ countAt (found l′) noneMet ms vs (x .preferences)) where
     abbrev found-ones : State
     found-ones = all-found .met
 
     have-seen : (j : ℕ) → j < length (t .preferences) → monitorAt l′ j ≡ μ′ (preferenceAt t j)
     have-seen j h =
         seen-by-all .monitors j h
-        ∙ ap (λ (x : Monitor). step (preferenceAt t j .kind) true x (seen (preferenceAt t j) σ)) (are j h)
+        ∙ ap (λ (x : Monitor). step (preferenceAt t j .kind) true x (seen (preferenceAt t j) σ)) (E .monitors j h)
 
     abbrev outcomes : List Bool
-    outcomes = map (isGood μ′) (t .preferences)
+    outcomes = map (isAccepting μ′) (t .preferences)
 
-    found-is : (x : ℕ) → member found-ones x ≡ getD outcomes x false
-    found-is x = ap (λ (f : Met). f .met x) (says vs) ∙ met-is l′ μ′ ms vs at (t .preferences) prefs few have-seen x
+    found-is : (k : ℕ) → member found-ones k ≡ getD outcomes k false
+    found-is k = ap (λ (f : Met). f .met k) (says vs) ∙ met-is l′ μ′ ms vs (x .preferences) (t .preferences) (E .placed .preferences) few have-seen k
 
     -- the met preferences are the low word's bits, and it has no others
     bits : found-ones .low < 2 ^ 64 → (x : ℕ) → bit (found-ones .low) x ≡ getD outcomes x false
@@ -88,13 +88,13 @@ module _ (t : Task) (ms vs : List ℕ) (R : Reads t ms vs) (p : Position) (μ : 
         go false l =
             beyond-law 64 (found-ones .low) x fits (ltb-false x 64 l)
             ∙ sym (List·getD-eq-default outcomes false {n = x}
-            (omega (arith, ltb-false x 64 l, few, length-map (t .preferences) (isGood μ′))))
+            (omega (arith, ltb-false x 64 l, few, length-map (t .preferences) (isAccepting μ′))))
 
     kept : all-found .kept ≡ firstFailing (isSafe μ′) (t .preferences)
-    kept = ap (λ (f : Met). f .kept) (says vs) ∙ kept-is l′ μ′ ms vs at (t .preferences) prefs have-seen
+    kept = ap (λ (f : Met). f .kept) (says vs) ∙ kept-is l′ μ′ ms vs (x .preferences) (t .preferences) (E .placed .preferences) have-seen
 
     many : all-found .number ≡ length (t .preferences)
-    many = ap (λ (f : Met). f .number) (says vs) ∙ number-is l′ μ′ ms vs at (t .preferences) prefs have-seen
+    many = ap (λ (f : Met). f .number) (says vs) ∙ number-is l′ μ′ ms vs (x .preferences) (t .preferences) (E .placed .preferences) have-seen
 
     -- the verdict by whether all are soft or met, and what it is with the goal reached
     abbrev said : Bool → Walk

@@ -9,22 +9,24 @@ use native.Mathlib.Omega.{arith}
 use lib.Dec.{ltb, ltb→lt}
 use lib.ListN.{length, drop, getD, drop-of-length-le}
 use lib.Seq.{drop-cons}
-use Rattle.task.specs.Lists.{all, firstFailing, lastOr}
-use Rattle.task.specs.Task.{Task, Action, Preference}
-use Rattle.task.specs.Meaning.{State as Facts, isTrue, opening, after, actionAt, applies, runs, reached, final, keepsRules, cost, seen, preferenceAt}
-use Rattle.task.specs.Literals.{lookedAt, lookedPreferences, lookedEffects, lookedFrom, literals}
-use Rattle.task.specs.Monitor.{Monitor, fresh, step}
-use Rattle.task.specs.Verdict.{stepsApplied, metSet, missedRule, verdictBy, verdict}
-use Rattle.task.proofs.Tests.{tests, all-at}
-use Rattle.task.proofs.Watched.{stepAll, watchAll, good-watched}
+use Rattle.lists.specs.Lists.{all, firstFailing, lastOr}
+use Rattle.meaning.specs.Task.{Task, Action, Preference}
+use Rattle.meaning.specs.Meaning.{State as Facts, isTrue, opening, after, actionAt, applies, runs, reached, final, keepsRules, cost, seen, preferenceAt}
+use Rattle.meaning.specs.Literals.{lookedAt, lookedPreferences, lookedEffects, lookedFrom, literals}
+use Rattle.meaning.specs.Monitor.{Monitor, fresh, step}
+use Rattle.meaning.specs.Verdict.{stepsApplied, metSet, missedRule, verdictBy, verdict}
+use Rattle.lists.proofs.Tests.{all-at}
+use Rattle.meaning.proofs.Watched.{stepAll, watchAll, accepting-watched}
 use Rattle.state.specs.Member.{member}
-use Rattle.plan.specs.Reads.{Reads, PreferencesAt}
-use Rattle.plan.specs.Monitors.{monitorAt, Have-seen, Watched}
-use Rattle.plan.specs.Walked.{Walk, solved, stopped, goal-missed, rule-missed, given, unpriced}
-use Rattle.plan.specs.Places.{AllBelow, Layout}
-use Rattle.plan.specs.Steps.{Leads, Moving, solvedBy, lastVerdict, MonitorsAre, walkedOn}
+use Rattle.state.specs.declared.State.{State}
+use Rattle.monitors.specs.Monitors.{monitorAt, MOST-LOOKED, PreferencesFrom, Watched}
+use Rattle.plan.specs.Walked.{Walk, solved, stopped, goal-missed, rule-missed, given, withoutAmounts}
+use Rattle.layout.specs.Actions.{AllBelow}
+use Rattle.plan.specs.Steps.{StepTaken, StepAnswer, solvedBy, lastVerdict, MonitorsAre, walkedOn, Start}
+use Rattle.plan.specs.declared.steps.Places.{Places}
 use Rattle.plan.specs.declared.steps.Position.{Position}
 use Rattle.plan.specs.declared.steps.Moved.the-variants.{Stopped}
+use Rattle.plan.proofs.TaskRead.{preferences-there}
 
 -- the verdict on the steps from step i on, in state σ, with monitors μ and cost c so far
 abbrev pub verdictFrom : Task → Facts → (Preference → Monitor) → ℕ → ℕ → List ℕ → Walk
@@ -55,7 +57,7 @@ step-by-step t σ μ c i (k ∷ ks) =
     go false a e = rw a (ap stopped (sym (add-zero i)))
 
 -- monitors that begin fresh come to the amounts of the verdict
-pub from-the-opening : (t : Task) (p : List ℕ) → verdictFrom t (opening t) (λ (q : Preference). fresh) 0 0 p ≡ unpriced (verdict t p)
+pub from-the-opening : (t : Task) (p : List ℕ) → verdictFrom t (opening t) (λ (q : Preference). fresh) 0 0 p ≡ withoutAmounts (verdict t p)
 unfolding verdict
 from-the-opening t p =
     step-by-step t (opening t) (λ (q : Preference). fresh) 0 0 p
@@ -65,12 +67,12 @@ from-the-opening t p =
     (solved (cost t p) (λ (k : ℕ). getD (map ok (t .preferences)) k false))
     (rule-missed (firstFailing (λ (q : Preference). not (q .hard) || ok q) (t .preferences))))
     goal-missed) (stopped (stepsApplied t (opening t) p)))
-    (fun-ext (good-watched t p))
+    (fun-ext (accepting-watched t p))
     ∙ go (runs t (opening t) p) (isTrue (final t p) (t .goal)) (keepsRules t p)
   where
     go : (a b k : Bool)
         → cond a (cond b (cond k (solved (cost t p) (metSet t p)) (rule-missed (missedRule t p))) goal-missed) (stopped (stepsApplied t (opening t) p))
-        ≡ unpriced (verdictBy t p a b k)
+        ≡ withoutAmounts (verdictBy t p a b k)
     go true true true = refl
     go true true false = refl
     go true false k = refl
@@ -82,16 +84,21 @@ from-the-opening t p =
 pub record Stands (t : Task) (plan : List ℕ) (p : Position) (l : List ℕ) (i : ℕ) : Type 0 where
   pub monitors : Preference → Monitor
   pub are : MonitorsAre t l monitors
-  pub same : verdictFrom t (member (p .state)) monitors (p .cost) i (drop i plan) ≡ unpriced (verdict t plan)
+  pub same : verdictFrom t (member (p .state)) monitors (p .cost) i (drop i plan) ≡ withoutAmounts (verdict t plan)
   pub looks : p .looked + lookedFrom t (member (p .state)) (drop i plan) ≡ literals t plan
 
 -- what holds before step i
-pub record Running (ms vs : List ℕ) (at goal : ℕ) (starts : List ℕ) (σ : Facts) (plan : List ℕ) (l₀ : List ℕ) (p : Position) (l : List ℕ) (i : ℕ) : Type 0 where
+pub record Running (ms vs : List ℕ) (x : Places) (starts : List ℕ) (s : State) (plan : List ℕ) (p : Position) (l : List ℕ) (i : ℕ) : Type 0 where
   pub steps-left : i ≤ length plan
   pub little : p .cost ≤ i * 4294967296
-  pub few-literals : p .looked ≤ i * 408000
+  pub few-literals : p .looked ≤ i * (17 * MOST-LOOKED)
   pub all-there : length l ≡ 16
-  pub stands : (t : Task) → Layout t ms vs at goal starts → σ ≡ opening t → ((k : ℕ) → monitorAt l₀ k ≡ fresh) → Stands t plan p l i
+  pub stands : (t : Task) → Start ms vs x starts s t → Stands t plan p l i
+
+-- the preferences that the monitors watch
+pub watched-ones : {ms vs : List ℕ} {x : Places} {starts : List ℕ} {s : State} {t : Task} → Start ms vs x starts s t
+    → PreferencesFrom ms vs (x .preferences) (t .preferences)
+watched-ones {ms} {vs} {x} {starts} {s} {t} S = preferences-there t ms vs (S .placed .spells) (x .preferences) (S .placed .preferences)
 
 -- each step of a plan of steps below n
 pub known : (n : ℕ) (plan : List ℕ) → AllBelow n plan → (i : ℕ) → i < length plan → (k : ℕ) → k ≡ getD plan i 0 → k < n
@@ -115,7 +122,7 @@ module _ (t : Task) (plan : List ℕ) where
     pub ends : length plan ≤ i → given (lastVerdict t σ (s .monitors) (p .cost)) (p .looked + lookedFrom t σ []) ≡ walkedOn t plan
     ends h =
         let none : [] ≡ drop i plan = sym (drop-of-length-le plan {i = i} h) in
-        let v : lastVerdict t σ (s .monitors) (p .cost) ≡ unpriced (verdict t plan) = ap (verdictFrom t σ (s .monitors) (p .cost) i) none ∙ s .same in
+        let v : lastVerdict t σ (s .monitors) (p .cost) ≡ withoutAmounts (verdict t plan) = ap (verdictFrom t σ (s .monitors) (p .cost) i) none ∙ s .same in
         let n : p .looked + lookedFrom t σ [] ≡ literals t plan = ap (λ (ks : List ℕ). p .looked + lookedFrom t σ ks) none ∙ s .looks in
         λ z. given (v z) (n z)
 
@@ -127,7 +134,7 @@ module _ (t : Task) (plan : List ℕ) where
       left = ap (λ (j : ℕ). j ∷ drop (suc i) plan) read ∙ sym (drop-cons plan i 0 h)
 
       here : cond (applies t σ k) (verdictFrom t (after σ a) (stepAll false (s .monitors) σ) (p .cost + a .cost) (i + 1) (drop (suc i) plan)) (stopped i)
-          ≡ unpriced (verdict t plan)
+          ≡ withoutAmounts (verdict t plan)
       here = ap (verdictFrom t σ (s .monitors) (p .cost) i) left ∙ s .same
 
       looks-here : p .looked + (lookedPreferences σ (t .preferences) + lookedAt σ (a .precondition)
@@ -137,23 +144,20 @@ module _ (t : Task) (plan : List ℕ) where
 
       -- the state has been seen, with m literals looked at
       module _ (p′ : Position) (same-state : p′ .state ≡ p .state) (same-cost : p′ .cost ≡ p .cost) (m : ℕ) (more : p′ .looked ≡ p .looked + m)
-          (ms vs : List ℕ) (at : ℕ) (R : Reads t ms vs) (prefs : PreferencesAt t ms vs at) (l′ : List ℕ) (watched : Watched ms vs at false σ l l′ m) where
-        seen-by-all : Have-seen (t .preferences) false σ l l′ m
-        seen-by-all = watched (t .preferences) prefs (let s = R .spelling in search tests) (R .few-preferences)
-
+          (l′ : List ℕ) (seen-by-all : Watched false σ l l′ m (t .preferences)) where
         same-facts : member (p′ .state) ≡ σ
         same-facts = ap member same-state
 
-        pub stops : (n : ℕ) → Moving t k p′ (Stopped n) → given (stopped i) n ≡ walkedOn t plan
+        pub stops : (n : ℕ) → StepAnswer t k p′ (Stopped n) → given (stopped i) n ≡ walkedOn t plan
         stops n (e, looked) =
             let e′ : applies t σ k ≡ false = ap (λ (f : Facts). applies t f k) (sym same-facts) ∙ e in
             let precondition : n ≡ p′ .looked + lookedAt σ (a .precondition) = looked ∙ ap (λ (f : Facts). p′ .looked + lookedAt f (a .precondition)) same-facts in
-            let v : stopped i ≡ unpriced (verdict t plan) = (rw e′ at here) in
+            let v : stopped i ≡ withoutAmounts (verdict t plan) = (rw e′ at here) in
             let all-looks = (rw e′ at looks-here) in
             let count : n ≡ literals t plan = omega (arith, precondition, more, seen-by-all .literals, all-looks) in
             λ z. given (v z) (count z)
 
-        pub goes-on : (q : Position) → Leads t k p′ q → Stands t plan q l′ (i + 1)
+        pub goes-on : (q : Position) → StepTaken t k p′ q → Stands t plan q l′ (i + 1)
         goes-on q leads =
             let e : applies t σ k ≡ true = ap (λ (f : Facts). applies t f k) (sym same-facts) ∙ leads .applying in
             let state : member (q .state) ≡ after σ a = leads .state ∙ ap (λ (f : Facts). after f a) same-facts in

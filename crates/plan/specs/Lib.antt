@@ -1,11 +1,5 @@
 pub mod Judged
 pub mod Walked
-pub mod Settled
+pub mod ThenSettled
 pub mod Answers
-pub mod Counting
-pub mod Met
-pub mod Amounts
-pub mod Places
-pub mod Monitors
-pub mod Reads
 pub mod Steps

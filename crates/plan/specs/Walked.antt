@@ -4,9 +4,9 @@ use mathlib.Core.Bool.{Bool}
 use mathlib.Core.List.{List}
 use Prim.Native.Nat.{ℕ}
 use Rattle.task.specs.File.{taskOf}
-use Rattle.task.specs.Literals.{literals}
-use Rattle.task.specs.Verdict
-use Rattle.task.specs.Verdict.{Verdict}
+use Rattle.meaning.specs.Literals.{literals}
+use Rattle.meaning.specs.Verdict
+use Rattle.meaning.specs.Verdict.{Verdict}
 use Rattle.plan.specs.Judged
 use Rattle.plan.specs.Judged.{Judged, judged}
 
@@ -24,16 +24,16 @@ pub data Walked : Type 0 where
   refused : ℕ → ℕ → Walked
 
 -- less the amounts that settle gives
-abbrev pub unpriced : Verdict → Walk
-unpriced (Verdict.solved cost metric utility met) = solved cost met
-unpriced (Verdict.stopped i) = stopped i
-unpriced Verdict.goal-missed = goal-missed
-unpriced (Verdict.rule-missed i) = rule-missed i
+abbrev pub withoutAmounts : Verdict → Walk
+withoutAmounts (Verdict.solved cost metric utility met) = solved cost met
+withoutAmounts (Verdict.stopped i) = stopped i
+withoutAmounts Verdict.goal-missed = goal-missed
+withoutAmounts (Verdict.rule-missed i) = rule-missed i
 
 -- with so many literals looked at
-abbrev pub unsettled : ℕ → Judged → Walked
-unsettled looked (Judged.given v) = given (unpriced v) looked
-unsettled looked (Judged.refused n i) = refused n i
+abbrev pub withoutWorth : ℕ → Judged → Walked
+withoutWorth looked (Judged.given v) = given (withoutAmounts v) looked
+withoutWorth looked (Judged.refused n i) = refused n i
 
 unfoldable pub walked : List ℕ → List ℕ → Walked
-walked b p = unsettled (literals (taskOf b) p) (judged b p)
+walked b p = withoutWorth (literals (taskOf b) p) (judged b p)

@@ -1,21 +1,31 @@
 // A plan's steps, one after the other.
 ghost use mathlib.Core.Path.{_≡_};
-ghost use Prim.Native.Nat.{_+_, _*_, _^_, _≤_, _<_};
+ghost use Prim.Native.Nat.{ℕ, _+_, _*_, _≤_, _<_};
 ghost use lib.ListN.{length};
-ghost use Rattle.state.specs.Member.{member};
-ghost use Rattle.plan.specs.Places.{actionsFrom, AllBelow};
-ghost use Rattle.plan.specs.Steps.{Moves, Finishes, Follows, Runs};
+ghost use Rattle.meaning.specs.Task.{Task};
+ghost use Rattle.task.specs.Rows.{Rows};
+ghost use Rattle.layout.specs.Rows.{Spells, Spelled};
+ghost use Rattle.layout.specs.Actions.{actionsFrom, AllBelow};
+ghost use Rattle.monitors.specs.Monitors.{MOST-LOOKED};
+ghost use Rattle.settling.specs.Amounts.{AMPLE};
+ghost use Rattle.plan.specs.Steps.{Roomy, ActionAt, SomeAction, StepAnswer, Little};
+ghost use Rattle.plan.specs.Steps.{Monitors, End, EndAnswer, AllFresh, Start, PlanAnswer};
 use super::Solution;
 use super::Verdict;
 use super::Walked;
-use super::met;
-use super::monitors;
-use super::places;
+use layout::actions;
+use monitors::met;
 use state::State;
 use state::conditions;
 use state::effects;
 use state::opening;
 use task::rows;
+
+// The rows at which the preferences begin, and the goal's condition.
+struct Places {
+    pub preferences: usize,
+    pub goal: usize,
+}
 
 // Where a plan has come to: the state, the cost, and how many literals were looked at.
 struct Position {
@@ -31,7 +41,7 @@ enum Moved {
 }
 
 // A step as an index.
-pub fn wide(k: u8) -> usize
+pub fn step_index(k: u8) -> usize
     ensures { λ r. ⌜ r ≡ k ⌝ }
 {
     k as usize
@@ -39,9 +49,10 @@ pub fn wide(k: u8) -> usize
 
 // One step by the action that row `from` opens.
 fn step(marks: &[u8], values: &[u8], from: usize, p: Position) -> Moved
-    requires { ⌜ (4 * length (now marks) ≤ length (now values)) × (length (now marks) ≤ 12000) × (from < length (now marks)) ⌝ }
-    requires { ⌜ (p .cost < 2 ^ 62) × (p .looked < 2 ^ 62) ⌝ }
-    ensures { λ r. ⌜ Moves (now (marks .entry)) (now (values .entry)) from p r ⌝ }
+    requires { ⌜ Rows (now marks) (now values) × (from < length (now marks)) × Roomy p ⌝ }
+    requires { ⌜ SomeAction (now marks) (now values) from ⌝ }
+    ensures { λ r. ⌜ Little p r ⌝ }
+    ensures { λ r. ⌜ ((t : Task) (k : ℕ) → ActionAt (now (marks .entry)) (now (values .entry)) from t k → StepAnswer t k p r) ⌝ }
 {
     let s = p.state;
     let pre = conditions::condition(marks, values, from + 1, s);
@@ -58,21 +69,20 @@ fn step(marks: &[u8], values: &[u8], from: usize, p: Position) -> Moved
     })
 }
 
-// The verdict after the last step, by monitors that have seen the states before it; the preferences stand from row `at` on,
-// the goal's condition from row `goal` on.
-fn finish(marks: &[u8], values: &[u8], at: usize, goal: usize, p: Position, ms: &mut [u8]) -> Walked
-    requires { ⌜ (4 * length (now marks) ≤ length (now values)) × (length (now marks) ≤ 12000) × (at ≤ length (now marks)) ⌝ }
-    requires { ⌜ (p .cost < 2 ^ 62) × (p .looked < 2 ^ 62) × (length (now ms) ≡ 16) ⌝ }
-    ensures { λ r. ⌜ Finishes (now (marks .entry)) (now (values .entry)) at goal p (now (ms .entry)) r ⌝ }
+// The verdict after the last step, by monitors that have seen the states before it.
+fn finish(marks: &[u8], values: &[u8], places: Places, p: Position, ms: &mut [u8]) -> Walked
+    requires { ⌜ Rows (now marks) (now values) × (places .preferences ≤ length (now marks)) × Roomy p × (length (now ms) ≡ 16) ⌝ }
+    requires { ⌜ ((t : Task) × (μ : Monitors) × End (now marks) (now values) places (now ms) t μ) ⌝ }
+    ensures { λ r. ⌜ ((t : Task) (μ : Monitors) → End (now (marks .entry)) (now (values .entry)) places (now (ms .entry)) t μ → EndAnswer t μ p r) ⌝ }
 {
     let s = p.state;
-    let seen = monitors::watch(marks, values, at, s, true, &mut *ms);
-    let g = conditions::condition(marks, values, goal, s);
+    let seen = monitors::watch(marks, values, places.preferences, s, true, &mut *ms);
+    let g = conditions::condition(marks, values, places.goal, s);
     let looked = p.looked + (seen as u64) + (g.looked as u64);
     if !g.holds {
         return Walked::Given(Verdict::GoalMissed, looked);
     }
-    let found = met::find(marks, at, &*ms);
+    let found = met::find(marks, places.preferences, &*ms);
     if found.kept < found.number {
         return Walked::Given(Verdict::RuleMissed(found.kept), looked);
     }
@@ -86,7 +96,7 @@ fn finish(marks: &[u8], values: &[u8], at: usize, goal: usize, p: Position, ms: 
 
 // The position with so many more literals looked at.
 fn looked_on(p: Position, n: usize) -> Position
-    requires { ⌜ (p .looked < 2 ^ 62) × (n ≤ 384000) ⌝ }
+    requires { ⌜ (p .looked < AMPLE) × (n ≤ 16 * MOST-LOOKED) ⌝ }
     ensures { λ r. ⌜ (r .state ≡ p .state) × (r .cost ≡ p .cost) × (r .looked ≡ p .looked + n) ⌝ }
 {
     let state = p.state;
@@ -97,31 +107,35 @@ fn looked_on(p: Position, n: usize) -> Position
     }
 }
 
-// The verdict on a plan of known steps, from the opening state on, by fresh monitors. `starts` has the rows of the actions; the
-// preferences stand from row `at` on, and the goal's condition from row `goal` on.
+// The verdict on a plan of known steps, from the opening state on, by fresh monitors. `starts` has the rows of the actions.
 fn follow(
     marks: &[u8],
     values: &[u8],
-    at: usize,
-    goal: usize,
+    places: Places,
     starts: &[usize],
-    state: State,
+    s: State,
     plan: &[u8],
     ms: &mut [u8],
 ) -> Walked
-    requires { ⌜ (4 * length (now marks) ≤ length (now values)) × (length (now marks) ≤ 12000) × (length (now plan) ≤ 2048) × (at ≤ length (now marks)) ⌝ }
-    requires { ⌜ AllBelow (length (now marks)) (now starts) × AllBelow (length (now starts)) (now plan) × (length (now ms) ≡ 16) ⌝ }
-    ensures { λ r. ⌜ Follows (now (marks .entry)) (now (values .entry)) at goal (now (starts .entry)) (member state) (now (plan .entry)) (now (ms .entry)) r ⌝ }
+    requires { ⌜ Rows (now marks) (now values) × (length (now plan) ≤ 2048) × (places .preferences ≤ length (now marks)) ⌝ }
+    requires { ⌜ AllBelow (length (now marks)) (now starts) × AllBelow (length (now starts)) (now plan) × AllFresh (now ms) ⌝ }
+    requires { ⌜ ((t : Task) × Start (now marks) (now values) places (now starts) s t) ⌝ }
+    ensures { λ r. ⌜ ((t : Task) → Start (now (marks .entry)) (now (values .entry)) places (now (starts .entry)) s t → PlanAnswer t (now (plan .entry)) r) ⌝ }
 {
     let mut p = Position {
-        state,
+        state: s,
         cost: 0,
         looked: 0,
     };
     let mut i = 0;
     while i < plan.len() {
-        let seen = monitors::watch(marks, values, at, p.state, false, &mut *ms);
-        let moved = step(marks, values, starts[wide(plan[i])], looked_on(p, seen));
+        let seen = monitors::watch(marks, values, places.preferences, p.state, false, &mut *ms);
+        let moved = step(
+            marks,
+            values,
+            starts[step_index(plan[i])],
+            looked_on(p, seen),
+        );
         match moved {
             Moved::To(q) => {
                 p = q;
@@ -132,26 +146,25 @@ fn follow(
         }
         i += 1;
     }
-    finish(marks, values, at, goal, p, &mut *ms)
+    finish(marks, values, places, p, &mut *ms)
 }
 
 // The verdict on a plan of known steps.
 pub fn run(marks: &[u8], values: &[u8], plan: &[u8]) -> Walked
-    requires { ⌜ (4 * length (now marks) ≤ length (now values)) × (length (now marks) ≤ 12000) × (length (now plan) ≤ 2048) ⌝ }
+    requires { ⌜ Rows (now marks) (now values) × (length (now plan) ≤ 2048) × Spelled (now marks) (now values) ⌝ }
     requires { ⌜ (length (actionsFrom 0 (now marks)) ≤ 128) × AllBelow (length (actionsFrom 0 (now marks))) (now plan) ⌝ }
-    ensures { λ r. ⌜ Runs (now (marks .entry)) (now (values .entry)) (now (plan .entry)) r ⌝ }
+    ensures { λ r. ⌜ ((t : Task) → Spells (now (marks .entry)) (now (values .entry)) t → PlanAnswer t (now (plan .entry)) r) ⌝ }
 {
     let start = opening::opening(marks, values);
     let goal = start.next + 1;
-    let at = places::preferences(marks);
+    let preferences = actions::first_preference(marks);
     let mut table: [usize; 128] = [0; 128];
-    let many = places::note_actions(marks, &mut table);
+    let many = actions::note_actions(marks, &mut table);
     let mut ms: [u8; 16] = [0; 16];
     follow(
         marks,
         values,
-        at,
-        goal,
+        Places { preferences, goal },
         &table[0..many],
         start.state,
         plan,

@@ -12,7 +12,7 @@ use borrow.Author.Tests.{le-leb, lt-leb, leb-true}
 use Rattle.text.specs.Area.{written as put}
 use Rattle.text.proofs.Writing.{written-whole}
 use Rattle.task.specs.File.{taskOf}
-use Rattle.task.specs.Literals.{literals}
+use Rattle.meaning.specs.Literals.{literals}
 use Rattle.task.specs.Check
 use Rattle.task.specs.Check.{Answer, check}
 use Rattle.task.specs.Answers.{answer as checked}
@@ -22,7 +22,7 @@ use Rattle.task.specs.declared.Checked.{Checked}
 use Rattle.task.specs.declared.Checked.the-variants.{Accepted, Refused}
 use Rattle.plan.specs.Judged.{judgedBy, judged}
 use Rattle.plan.specs.Walked
-use Rattle.plan.specs.Walked.{Walked, unsettled, walked}
+use Rattle.plan.specs.Walked.{Walked, withoutWorth, walked}
 use Rattle.plan_text.specs.PlanText.{linesOf, Read, plan, faulty, readLines, readPlan}
 use Rattle.outcome.specs.Outcome.{Outcome, written, refused, areaAfter}
 use Rattle.outcome.proofs.Outcomes.{not-written, same-written, put-down}
@@ -144,7 +144,7 @@ module _ (b : List ℕ) where
   passedOn (refused n i) = refusedAfter (check b) n i
 
   -- walk refuses a plan that is too long by the same number
-  over-long : (p : List ℕ) → leb (length p) 2048 ≡ false → (a : Answer) → refusedAfter a 10 0 ≡ unsettled (literals (taskOf b) p) (judgedBy b p a)
+  over-long : (p : List ℕ) → leb (length p) 2048 ≡ false → (a : Answer) → refusedAfter a 10 0 ≡ withoutWorth (literals (taskOf b) p) (judgedBy b p a)
   over-long p l (Check.refused n i) = refl
   over-long p l (Check.accepted z) = rw l
 

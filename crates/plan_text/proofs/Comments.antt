@@ -8,7 +8,7 @@ use native.Mathlib.Omega.{arith}
 use lib.Dec.{T, eqb, leb}
 use lib.ListN.{length, length-append}
 use borrow.Author.Tests.{leb-true}
-use Rattle.task.proofs.Tests.{and-left, and-right, and-both}
+use Rattle.lists.proofs.Tests.{and-left, and-right, and-both}
 use Rattle.text.specs.Text.{numberFrom}
 use Rattle.plan_text.specs.PlanText.{NEWLINE, SEMICOLON, stepLine, textOf, Lines, rest, ended, linesOf, same, asByte, Line, comment, step, other, lineOf, Read, plan, faulty, stepBefore, lineBefore, readLines, readPlan}
 use Rattle.plan_text.proofs.Numerals.{same-eq}

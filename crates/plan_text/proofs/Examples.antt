@@ -17,7 +17,7 @@ pub record Example : Type 0 where
 abbrev reads : List ℕ → Read → Example
 reads t r = record { text = t; read = r }
 
--- lines behind two good ones, of which the first has another form or no newline
+-- lines after two good ones, of which the first has another form or no newline
 abbrev third : List ℕ → Example
 third l = reads (ascii "(a1)\n;\n" ++ l) (faulty 2)
 

@@ -6,7 +6,7 @@ use Prim.Native.Nat.{ℕ, _+_, _*_, _-_, _≤_, _<_}
 use native.Mathlib.Omega.{arith}
 use lib.Dec.{eqb}
 use borrow.Author.Tests.{eqb-true, eqb-false, ne-eqb, lt-ltb}
-use Rattle.task.proofs.Tests.{not-both}
+use Rattle.lists.proofs.Tests.{not-both}
 use Rattle.text.specs.Text.{decimal, isDigit, numberFrom}
 use Rattle.text.proofs.Decimal.{decimal-one}
 use Rattle.plan_text.specs.PlanText.{SEMICOLON, stepLine, stepOr, same, asByte, Line, comment, step, other, lineOf}
@@ -51,7 +51,7 @@ spells-not l n e = rw (not-same l n e)
 spells-other : (l : List ℕ) (n : ℕ) (m : List ℕ) → closes l ≡ false → endOf (run Other m) ≡ spells l n
 spells-other l n m e = rw (run-other m) (spells-not l n e)
 
--- a bracket behind digits
+-- a bracket after digits
 closed : (n : ℕ) (l : List ℕ) → endOf (run (Closed (asByte n)) l) ≡ spells (decimal n ++ 41 ∷ l) (numberFrom n l)
 closed n [] = rw (same-refl (decimal n ++ (41 ∷ [])))
 closed n (c ∷ l) = spells-other (decimal n ++ 41 ∷ c ∷ l) (numberFrom n (c ∷ l)) l (closes-digits (decimal n) (41 ∷ c ∷ l) (decimal-digits n))

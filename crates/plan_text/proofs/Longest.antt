@@ -7,7 +7,7 @@ use native.Mathlib.Omega.{arith}
 use lib.Dec.{leb}
 use lib.ListN.{length}
 use borrow.Author.Tests.{leb-true, le-leb}
-use Rattle.task.proofs.Tests.{as-T}
+use Rattle.lists.proofs.Tests.{as-T}
 use Rattle.outcome.specs.Outcome.{refused, fitted}
 use Rattle.outcome.proofs.Outcomes.{not-written, same-refused}
 use Rattle.plan_text.specs.PlanText.{textOf}

@@ -6,8 +6,8 @@ use Prim.Native.Nat.{ℕ, _+_, _*_, _-_}
 use native.Mathlib.Omega.{arith}
 use lib.Dec.{eqb, ltb}
 use borrow.Author.Tests.{le-ltb, ltb-false, eqb-true, eq-eqb}
-use Rattle.task.specs.Lists.{all, isEmpty}
-use Rattle.task.proofs.Tests.{not-both}
+use Rattle.lists.specs.Lists.{all, isEmpty}
+use Rattle.lists.proofs.Tests.{not-both}
 use Rattle.text.specs.Text.{decimal, isDigit}
 use Rattle.text.proofs.Digits.{decimal-digits}
 use Rattle.plan_text.specs.PlanText.{same, asByte}

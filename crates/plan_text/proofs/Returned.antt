@@ -7,8 +7,8 @@ use native.Mathlib.Omega.{arith}
 use lib.Dec.{T, ltb, ltb→lt}
 use lib.ListN.{length, length-append}
 use borrow.Author.Tests.{ne-eqb, ltb-false}
-use Rattle.task.specs.Lists.{all}
-use Rattle.task.proofs.Tests.{as-T, never, tests, and-left, and-right, without, noneOf, all-both, all-implies}
+use Rattle.lists.specs.Lists.{all}
+use Rattle.lists.proofs.Tests.{as-T, never, tests, and-left, and-right, without, noneOf, all-both, all-implies}
 use Rattle.text.specs.Text.{decimal, isDigit, numberFrom}
 use Rattle.text.proofs.Decimal.{few-digits}
 use Rattle.plan_text.specs.PlanText.{NEWLINE, stepLine, textOf, linesOf, asByte, step, stepOr, lineOf, plan, readLines, readPlan}

@@ -19,7 +19,7 @@ textArea p area = areaAfter (textOf p) area (writeOutcome p (length area))
 abbrev pub planArea : List ℕ → List ℕ → List ℕ
 planArea t area = areaAfter (stepsIn t) area (readOutcome t (length area))
 
--- reading t into an area leaves the plan p at its start, and what stood behind
+-- reading t into an area leaves the plan p at its start, and what stood after
 pub record ReadsAs (p t area : List ℕ) : Type 0 where
   pub outcome : readOutcome t (length area) ≡ written (length p)
   pub left : planArea t area ≡ p ++ drop (length p) area

@@ -18,7 +18,7 @@ use Rattle.plan_text.specs.declared.scan.Mode.the-variants.{Opening, Com
 use Rattle.plan_text.specs.declared.scan.Scan.{Scan}
 use Rattle.plan_text.proofs.Lines.{run, endOf, run-other, line-read, follow-begun, run-begun}
 
--- What is read from here on, in line i with so much of it behind
+-- What is read from here on, in line i with so much of it after
 
 abbrev unfinished : ℕ → Bool → Read
 unfinished i true = plan []
@@ -185,8 +185,8 @@ module _ (s : Scan) (t : List ℕ) (i : ℕ) where
   pub count-at : i < length t → countFrom (advance s (getD t i 0)) (linesOf (drop (i + 1) t)) ≡ countFrom s (linesOf (drop i t))
   count-at h = rw (drop-cons t i 0 h, add-one i) (sym (count-on s (getD t i 0) (drop (suc i) t)))
 
-  pub count-behind : length t ≤ i → counted s ≡ countFrom s (linesOf (drop i t))
-  count-behind h = rw (drop-of-length-le t h) (sym (count-end s))
+  pub count-after : length t ≤ i → counted s ≡ countFrom s (linesOf (drop i t))
+  count-after h = rw (drop-of-length-le t h) (sym (count-end s))
 
   pub write-at : (out : List ℕ) → i < length t
       → written (stepsFrom (advance s (getD t i 0)) (drop (i + 1) t)) (advance s (getD t i 0) .steps) (written (stepAt (s .mode) (getD t i 0)) (s .steps) out)
@@ -196,6 +196,6 @@ module _ (s : Scan) (t : List ℕ) (i : ℕ) where
       rw (drop-cons t i 0 h, add-one i, steps-on s (getD t i 0))
       (sym (written-append (stepAt (s .mode) (getD t i 0)) (stepsFrom (advance s (getD t i 0)) (drop (suc i) t)) out (s .steps)))
 
-  pub write-behind : (out : List ℕ) → length t ≤ i → out ≡ written (stepsFrom s (drop i t)) (s .steps) out
+  pub write-after : (out : List ℕ) → length t ≤ i → out ≡ written (stepsFrom s (drop i t)) (s .steps) out
   unfolding stepsFrom written
-  write-behind out h = rw (drop-of-length-le t h)
+  write-after out h = rw (drop-of-length-le t h)

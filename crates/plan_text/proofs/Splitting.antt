@@ -6,7 +6,7 @@ use Prim.Native.Nat.{ℕ, _≤_}
 use lib.Dec.{T, eqb}
 use lib.ListN.{length}
 use borrow.Author.Tests.{eqb-true, le-leb}
-use Rattle.task.proofs.Tests.{as-false, noneOf, tests}
+use Rattle.lists.proofs.Tests.{as-false, noneOf, tests}
 use Rattle.plan_text.specs.PlanText.{NEWLINE, Lines, rest, ended, before, linesOf, readLines, readPlan}
 
 -- Back to the bytes

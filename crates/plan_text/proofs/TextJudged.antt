@@ -5,14 +5,14 @@ use Prim.Native.Nat.{ℕ}
 use Rattle.task.specs.Check
 use Rattle.task.specs.Check.{Answer, check}
 use Rattle.plan.specs.Judged.{judgedBy, judged}
-use Rattle.plan.specs.Settled.{andSettled}
-use Rattle.plan.proofs.Settling.{walk-then-settle}
+use Rattle.plan.specs.ThenSettled.{thenSettle}
+use Rattle.plan.proofs.ThenSettled.{walk-then-settle}
 use Rattle.plan_text.specs.PlanText.{Read, plan, faulty, readPlan}
 use Rattle.plan_text.specs.Outcomes.{refusedAfter, textWalkedBy, textWalked, textJudgedBy, textJudged}
 
 module _ (b : List ℕ) where
   -- a faulty line is refused after check's refusals
-  on-fault : (i : ℕ) (a : Answer) → andSettled b (refusedAfter a 12 i) ≡ textJudgedBy b a (faulty i)
+  on-fault : (i : ℕ) (a : Answer) → thenSettle b (refusedAfter a 12 i) ≡ textJudgedBy b a (faulty i)
   on-fault i (Check.refused n j) = refl
   on-fault i (Check.accepted z) = refl
 
@@ -22,10 +22,10 @@ module _ (b : List ℕ) where
   on-plan p (Check.refused n i) h = ap (judgedBy b p) h
   on-plan p (Check.accepted z) h = refl
 
-  by-reading : (r : Read) → andSettled b (textWalkedBy b r) ≡ textJudgedBy b (check b) r
+  by-reading : (r : Read) → thenSettle b (textWalkedBy b r) ≡ textJudgedBy b (check b) r
   by-reading (faulty i) = on-fault i (check b)
   by-reading (plan p) = walk-then-settle b p ∙ on-plan p (check b) refl
 
-pub walk-text-then-settle : (b t : List ℕ) → andSettled b (textWalked b t) ≡ textJudged b t
+pub walk-text-then-settle : (b t : List ℕ) → thenSettle b (textWalked b t) ≡ textJudged b t
 unfolding textWalked textJudged
 walk-text-then-settle b t = by-reading b (readPlan t)

@@ -12,16 +12,18 @@ use Rattle.plan.specs.Judged.{Judged, judged}
 use Rattle.plan.specs.Walked
 use Rattle.plan.specs.Walked.{Walked, walked}
 use Rattle.plan_text.specs.PlanText.{textOf, Read, plan, faulty, readPlan}
+use Rattle.task.specs.Limits.{MAX-STEPS}
+use Rattle.task.specs.Refused.{LONG-PLAN, TEXT}
 
 -- a plan of so many steps, written in so many bytes, for an area of so many
 abbrev pub planFitted : ℕ → ℕ → ℕ → Outcome
-planFitted steps bytes room = cond (leb steps 2048) (fitted bytes room) (refused 10 0)
+planFitted steps bytes room = cond (leb steps MAX-STEPS) (fitted bytes room) (refused LONG-PLAN 0)
 
 -- Reading a text
 
 abbrev pub readBy : ℕ → Read → Outcome
 readBy room (plan p) = planFitted (length p) (length p) room
-readBy room (faulty i) = refused 12 i
+readBy room (faulty i) = refused TEXT i
 
 unfoldable pub readOutcome : List ℕ → ℕ → Outcome
 readOutcome t room = readBy room (readPlan t)
@@ -58,7 +60,7 @@ textWalked b t = textWalkedBy b (readPlan t)
 -- check's refusal; then 12, with the faulty line; or else what judging the plan read gives
 abbrev pub textJudgedBy : List ℕ → Answer → Read → Judged
 textJudgedBy b (Check.refused n i) r = Judged.refused n i
-textJudgedBy b (Check.accepted z) (faulty i) = Judged.refused 12 i
+textJudgedBy b (Check.accepted z) (faulty i) = Judged.refused TEXT i
 textJudgedBy b (Check.accepted z) (plan p) = judged b p
 
 unfoldable pub textJudged : List ℕ → List ℕ → Judged

@@ -6,6 +6,7 @@ use lib.Dec.{eqb, leb, ltb}
 use lib.ListN.{length}
 use Rattle.text.specs.Ascii.{ascii}
 use Rattle.text.specs.Text.{decimal, numberFrom}
+use Rattle.task.specs.Limits.{MAX-TEXT}
 
 abbrev pub NEWLINE : ℕ
 NEWLINE = 10
@@ -26,7 +27,7 @@ textOf (n ∷ p) = stepLine n ++ (NEWLINE ∷ textOf p)
 
 -- Reading: the lines of a text
 
--- lines that end in a newline, and what stands behind the last newline
+-- lines that end in a newline, and what stands after the last newline
 pub data Lines : Type 0 where
   rest : List ℕ → Lines
   ended : List ℕ → Lines → Lines
@@ -76,7 +77,7 @@ abbrev pub stepBefore : ℕ → Read → Read
 stepBefore n (plan p) = plan (n ∷ p)
 stepBefore n (faulty i) = faulty i
 
--- line i, before what is read behind it
+-- line i, before what is read after it
 abbrev pub lineBefore : ℕ → Line → Read → Read
 lineBefore i comment r = r
 lineBefore i (step n) r = stepBefore n r
@@ -89,4 +90,4 @@ readLines i (rest (b ∷ l)) = faulty i
 readLines i (ended l ls) = lineBefore i (lineOf l) (readLines (suc i) ls)
 
 unfoldable pub readPlan : List ℕ → Read
-readPlan t = cond (leb (length t) 65536) (readLines 0 (linesOf t)) (faulty 0)
+readPlan t = cond (leb (length t) MAX-TEXT) (readLines 0 (linesOf t)) (faulty 0)

@@ -21,11 +21,11 @@ follow (Digits n) b = cond (eqb b 41) (Closed n) (cond (isDigit b) (Digits (asBy
 follow (Closed n) b = Other
 follow Other b = Other
 
--- at the start of line i, behind k steps
+-- at the start of line i, after k steps
 abbrev pub atLine : ℕ → ℕ → Scan
 atLine i k = record { mode = Opening; line = i; steps = k }
 
--- behind a newline: the next line, or the same where it has another form
+-- after a newline: the next line, or the same where it has another form
 abbrev pub nextLine : Mode → ℕ → ℕ → Scan
 nextLine Opening i k = record { mode = Other; line = i; steps = k }
 nextLine Comment i k = atLine (suc i) k
@@ -54,7 +54,7 @@ pub data Count : Type 0 where
   all : ℕ → Count
   faultyAt : ℕ → Count
 
--- behind k steps
+-- after k steps
 abbrev pub count : ℕ → Read → Count
 count k (plan p) = all (k + length p)
 count k (faulty i) = faultyAt i

@@ -14,24 +14,28 @@ use outcome::Outcome;
 use plan::Walked;
 use task::Checked;
 use task::Refusal;
+use task::limits;
+use task::refused;
 
 // Reads a text into a plan, one byte a step, at the start of the area.
 pub fn read(text: &[u8], out: &mut [u8]) -> Outcome
     ensures { λ r. ⌜ answer r ≡ readOutcome (now (text .entry)) (length (now (out .entry))) ⌝ }
-    ensures { λ r. ⌜ now (out .exit) ≡ areaAfter (stepsIn (now (text .entry))) (now (out .entry)) (readOutcome (now (text .entry)) (length (now (out .entry)))) ⌝ }
+    ensures { λ r.
+        let outcome = readOutcome (now (text .entry)) (length (now (out .entry))) in
+        ⌜ now (out .exit) ≡ areaAfter (stepsIn (now (text .entry))) (now (out .entry)) outcome ⌝ }
 {
-    if 65536 < text.len() {
-        return outcome::refuse(12, 0);
+    if limits::MAX_TEXT < text.len() {
+        return outcome::refuse(refused::TEXT, 0);
     }
     let s = scan::count(text);
     if !scan::between_lines(s) {
-        return outcome::refuse(12, s.line as u16);
+        return outcome::refuse(refused::TEXT, s.line as u16);
     }
-    if 2048 < s.steps {
-        return outcome::refuse(10, 0);
+    if limits::MAX_STEPS < s.steps {
+        return outcome::refuse(refused::LONG_PLAN, 0);
     }
     if out.len() < s.steps {
-        return outcome::refuse(9, 0);
+        return outcome::refuse(refused::SHORT_OUTPUT, 0);
     }
     scan::fill(text, &mut *out);
     Outcome::Written(s.steps)
@@ -40,15 +44,17 @@ pub fn read(text: &[u8], out: &mut [u8]) -> Outcome
 // Writes a plan as text at the start of the area.
 pub fn write(plan: &[u8], out: &mut [u8]) -> Outcome
     ensures { λ r. ⌜ answer r ≡ writeOutcome (now (plan .entry)) (length (now (out .entry))) ⌝ }
-    ensures { λ r. ⌜ now (out .exit) ≡ areaAfter (textOf (now (plan .entry))) (now (out .entry)) (writeOutcome (now (plan .entry)) (length (now (out .entry)))) ⌝ }
+    ensures { λ r.
+        let outcome = writeOutcome (now (plan .entry)) (length (now (out .entry))) in
+        ⌜ now (out .exit) ≡ areaAfter (textOf (now (plan .entry))) (now (out .entry)) outcome ⌝ }
 {
-    if 2048 < plan.len() {
-        return outcome::refuse(10, 0);
+    if limits::MAX_STEPS < plan.len() {
+        return outcome::refuse(refused::LONG_PLAN, 0);
     }
     let mut nothing: [u8; 1] = [0; 1];
     let n = print::put_plan(plan, &mut nothing);
     if out.len() < n {
-        return outcome::refuse(9, 0);
+        return outcome::refuse(refused::SHORT_OUTPUT, 0);
     }
     print::put_plan(plan, &mut *out);
     Outcome::Written(n)

@@ -99,7 +99,7 @@ fn after_byte(m: Mode, b: u8) -> Mode
     }
 }
 
-// At the start of a line, behind so many steps.
+// At the start of a line, after so many steps.
 fn at_line(line: usize, steps: usize) -> Scan
     ensures { λ r. ⌜ r ≡ atLine line steps ⌝ }
 {

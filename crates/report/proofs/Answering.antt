@@ -4,7 +4,8 @@ use mathlib.Core.List.{List}
 use Prim.Native.Nat.{ℕ, _≤_, _<_}
 use lib.ListN.{length}
 use borrow.Author.Tests.{le-leb, lt-leb}
-use Rattle.task.specs.Task.{Row, Task, taskRows}
+use Rattle.meaning.specs.Task.{Task}
+use Rattle.task.specs.TaskRows.{Row, taskRows}
 use Rattle.task.specs.File.{Sizes, taskOf}
 use Rattle.task.specs.Check.{check, accepted}
 use Rattle.task.specs.Check
@@ -13,10 +14,10 @@ use Rattle.task.proofs.Answered.{parts-spell}
 use Rattle.plan.specs.Judged
 use Rattle.plan.specs.Judged.{Judged, judged}
 use Rattle.plan.specs.Walked
-use Rattle.plan.specs.Walked.{Walk, Walked, given, unsettled, walked}
-use Rattle.plan.specs.Settled.{withAmounts, andSettled}
-use Rattle.task.specs.Literals.{literals}
-use Rattle.plan.proofs.Settling.{walk-then-settle}
+use Rattle.plan.specs.Walked.{Walk, Walked, given, withoutWorth, walked}
+use Rattle.plan.specs.ThenSettled.{withAmounts, thenSettle}
+use Rattle.meaning.specs.Literals.{literals}
+use Rattle.plan.proofs.ThenSettled.{walk-then-settle}
 use Rattle.text.specs.Area.{Filled}
 use Rattle.text.proofs.Writing.{from-start, no-bytes}
 use Rattle.outcome.specs.Outcome.{Outcome, written, refused, fitted}
@@ -35,11 +36,11 @@ abbrev passedOn : Walked → Outcome
 passedOn (given w looked) = written 0
 passedOn (Walked.refused n i) = refused n i
 
-as-given : (bytes room : ℕ) (j : Judged) (w : Walk) (looked seen : ℕ) → given w looked ≡ unsettled seen j → reportBy bytes room j ≡ fitted bytes room
+as-given : (bytes room : ℕ) (j : Judged) (w : Walk) (looked seen : ℕ) → given w looked ≡ withoutWorth seen j → reportBy bytes room j ≡ fitted bytes room
 as-given bytes room (Judged.given v) w looked seen e = refl
 as-given bytes room (Judged.refused n i) w looked seen e = absurd (not-written n i 0 (sym (ap passedOn e)))
 
-as-refused : (bytes room : ℕ) (j : Judged) (n i seen : ℕ) → Walked.refused n i ≡ unsettled seen j → reportBy bytes room j ≡ refused n i
+as-refused : (bytes room : ℕ) (j : Judged) (n i seen : ℕ) → Walked.refused n i ≡ withoutWorth seen j → reportBy bytes room j ≡ refused n i
 as-refused bytes room (Judged.given v) n i seen e = absurd (not-written n i 0 (ap passedOn e))
 as-refused bytes room (Judged.refused m k) n i seen e = sym (ap passedOn e)
 
@@ -59,7 +60,7 @@ module _ (b p : List ℕ) where
     on-accepted z h out r out′ =
         subst (λ (l : List ℕ). Filled out l r out′)
         (spelled-report (taskOf b) _ (parts-spell b z h) (length p) (withAmounts b w)
-        ∙ ap (reportOf (taskOf b) (length p)) (ap (andSettled b) (q .1) ∙ walk-then-settle b p))
+        ∙ ap (reportOf (taskOf b) (length p)) (ap (thenSettle b) (q .1) ∙ walk-then-settle b p))
 
     by-length : (room : ℕ) → reportOutcome b p room ≡ fitted (length (reportOn b p)) room
     unfolding walked reportOutcome

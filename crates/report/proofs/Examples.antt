@@ -4,11 +4,11 @@ use mathlib.Core.List.{List, [], _∷_, map}
 use Prim.Native.Nat.{ℕ, _+_}
 use Prim.Native.String.{String}
 use Rattle.task.specs.Marks.{ACTION, EFFECT, CLAUSE, HOLDS, LACKS, ADD, DELETE, GOAL, START, ALWAYS, SOMETIME, HARD}
-use Rattle.task.specs.Task.{row}
+use Rattle.task.specs.TaskRows.{row}
 use Rattle.task.specs.File.{fileOfRows, taskOf, rows}
-use Rattle.task.specs.Check.{check, walk}
-use Rattle.task.specs.Verdict.{verdict, stopped}
-use Rattle.task.proofs.Lettered.{belt}
+use Rattle.task.specs.Check.{check, checkRows}
+use Rattle.meaning.specs.Verdict.{verdict, stopped}
+use Rattle.task.proofs.Belt.{belt}
 use Rattle.plan.specs.Judged.{given, judged}
 use Rattle.text.specs.Ascii.{ascii}
 use Rattle.text.specs.Text.{decimal}
@@ -45,16 +45,16 @@ examples =
     ∷ []
 
 pub as-said : map (λ (e : Example). e .given) examples ≡ map (λ (e : Example). ascii (e .said)) examples
-unfolding check walk judged verdict decimal solvedLine preferenceLine amountsLine stoppedLine ruleMissedLine reportOn
+unfolding check checkRows judged verdict decimal solvedLine preferenceLine amountsLine stoppedLine ruleMissedLine reportOn
 as-said = refl
 
 -- What comes of writing them
 
 pub outcomes : (reportOutcome belt (0 ∷ []) 76 ∷ reportOutcome belt (0 ∷ []) 75 ∷ reportOutcome belt (0 ∷ 2 ∷ []) 0 ∷ reportOutcome [] [] 0 ∷ [])
     ≡ written 76 ∷ refused 9 0 ∷ refused 11 1 ∷ refused 1 0 ∷ []
-unfolding check walk judged verdict decimal solvedLine preferenceLine amountsLine reportOn reportOutcome
+unfolding check checkRows judged verdict decimal solvedLine preferenceLine amountsLine reportOn reportOutcome
 outcomes = refl
 
 pub from-rows : reportOfRows (rows belt) 1 (judged belt (0 ∷ [])) ≡ reportOn belt (0 ∷ [])
-unfolding check walk judged verdict decimal preferenceLine rowLine rowLines reportOn
+unfolding check checkRows judged verdict decimal preferenceLine rowLine rowLines reportOn
 from-rows = refl

@@ -5,7 +5,7 @@ use mathlib.Core.List.{List, [], _++_, append-assoc, append-nil}
 use Prim.Native.Nat.{ℕ, _+_, _*_, _<_, _≤_}
 use native.Mathlib.Omega.{arith}
 use lib.ListN.{length, getD, drop}
-use Rattle.task.specs.Task.{Row, row}
+use Rattle.task.specs.TaskRows.{Row, row}
 use Rattle.task.specs.File.{paired, isPreference}
 use Rattle.task.specs.Check.{count}
 use Rattle.task.specs.Rows.{valueAt}
@@ -16,7 +16,7 @@ use Rattle.report.specs.Rows.{rowLine, rowLines}
 
 -- The rows one after the other
 
--- the lines of the first i rows are written: p is the place behind them, and k the number of the next preference
+-- the lines of the first i rows are written: p is the place after them, and k the number of the next preference
 pub record Listed (met : ℕ → Bool) (ms vs b : List ℕ) (at : ℕ) (out : List ℕ) (p k i : ℕ) : Type 0 where
   pub within : i ≤ length ms
   pub counted : k ≤ i

@@ -8,24 +8,25 @@ use lib.Dec.{T, leb, leb→le, ltb, eqb→eq}
 use lib.IntN.{pos, negsuc, _-ℤ_}
 use lib.ListN.{length, length-append}
 use borrow.Author.Tests.{le-leb, leb-true}
-use Rattle.task.specs.Lists.{all, firstFailing, sum, concatFrom}
-use Rattle.task.specs.Task.{Kind, always, sometime, at-end, at-most-once, sometime-before, sometime-after, within, always-within, Preference, Task}
+use Rattle.lists.specs.Lists.{all, firstFailing, sum, concatFrom}
+use Rattle.meaning.specs.Task.{Kind, always, sometime, at-end, at-most-once, sometime-before, sometime-after, within, always-within, Preference, Task}
 use Rattle.task.specs.File.{Sizes, taskOf}
 use Rattle.task.specs.Check
-use Rattle.task.specs.Check.{Answer, accepted, check, limit}
+use Rattle.task.specs.Check.{Answer, accepted, check}
 use Rattle.task.specs.Spelling.{weightAllowed, preferenceSpellable, spellable}
-use Rattle.task.specs.Meaning.{State, opening, after, actionAt, applies, runs, final, isTrue, isMet, isKept, keepsRules, cost, metWeight, missedWeight, metric, utility}
-use Rattle.task.specs.Verdict.{Verdict, solved, stepsApplied, metSet, missedRule, verdictBy, verdict}
-use Rattle.task.proofs.Tests.{tests}
+use Rattle.meaning.specs.Meaning.{State, opening, after, actionAt, applies, runs, final, isTrue, isMet, isKept, keepsRules, cost, metWeight, missedWeight, metric, utility}
+use Rattle.meaning.specs.Verdict.{Verdict, solved, stepsApplied, metSet, missedRule, verdictBy, verdict}
+use Rattle.lists.proofs.Tests.{tests}
 use Rattle.task.proofs.Checking.{within as sizes-within}
 use Rattle.task.proofs.Spelled.{accepted-spelling}
 use Rattle.plan.specs.Judged.{given, refused, stepsKnown, judgedBy, judged}
-use Rattle.plan.proofs.Settling.{cost-bound}
+use Rattle.plan.proofs.ThenSettled.{cost-bound}
 use Rattle.text.specs.Ascii.{ascii}
 use Rattle.text.specs.Text.{decimal, integer}
 use Rattle.text.proofs.Decimal.{few-digits}
 use Rattle.outcome.specs.Outcome.{written}
 use Rattle.report.specs.Report.{kindWord, hardWord, fullKind, outcomeWord, solvedLine, preferenceLine, amountsLine, stoppedLine, ruleMissedLine, preferenceLines, verdictText, reportOf, reportOn, reportOutcome}
+use Rattle.task.specs.Limits.{MAX-AMOUNT}
 
 -- Words and numbers
 
@@ -120,15 +121,15 @@ short-amounts m g c h k l =
 
 -- The preferences, each of a weight that is allowed
 
-small-weight : (hard : Bool) (w : ℕ) → T (weightAllowed hard w) → w ≤ limit
+small-weight : (hard : Bool) (w : ℕ) → T (weightAllowed hard w) → w ≤ MAX-AMOUNT
 small-weight true w t = let e : w ≡ 0 = eqb→eq w 0 t in omega arith
-small-weight false w t = leb→le w limit t
+small-weight false w t = leb→le w MAX-AMOUNT t
 
 short-lines : (met : ℕ → Bool) (k : ℕ) (qs : List Preference) → k + length qs ≤ 16 → T (all preferenceSpellable qs)
     → length (concatFrom (λ (k : ℕ) (q : Preference). preferenceLine k (q .hard) (q .kind) (q .weight) (met k)) k qs) ≤ 50 * length qs
 short-lines met k [] h t = omega arith
 short-lines met k (q ∷ qs) h t =
-    let w : q .weight ≤ limit = small-weight (q .hard) (q .weight) (search tests) in
+    let w : q .weight ≤ MAX-AMOUNT = small-weight (q .hard) (q .weight) (search tests) in
     omega (
       arith,
       length-append (preferenceLine k (q .hard) (q .kind) (q .weight) (met k))
@@ -139,10 +140,10 @@ short-lines met k (q ∷ qs) h t =
 
 -- the weights of some of them
 weights : (part : Preference → ℕ) → ((q : Preference) → part q ≤ q .weight) → (qs : List Preference) → T (all preferenceSpellable qs)
-    → sum (map part qs) ≤ limit * length qs
+    → sum (map part qs) ≤ MAX-AMOUNT * length qs
 weights part least [] t = omega arith
 weights part least (q ∷ qs) t =
-    let w : q .weight ≤ limit = small-weight (q .hard) (q .weight) (search tests) in
+    let w : q .weight ≤ MAX-AMOUNT = small-weight (q .hard) (q .weight) (search tests) in
     omega (arith, least q, w, weights part least qs (search tests))
 
 some-or-none : (b : Bool) (w : ℕ) → (cond b w 0 ≤ w) × (cond b 0 w ≤ w)
@@ -169,11 +170,11 @@ few-kept ok (x ∷ xs) = go (ok x) (few-kept ok xs)
 -- The text of a verdict
 
 module _ (t : Task) (spelling : T (spellable t)) (few : length (t .preferences) ≤ 16) (p : List ℕ) (short : length p ≤ 2048) where
-  gained : metWeight t p ≤ limit * length (t .preferences)
+  gained : metWeight t p ≤ MAX-AMOUNT * length (t .preferences)
   gained =
       weights (λ (q : Preference). cond (isMet t p q) (q .weight) 0) (λ q. some-or-none (isMet t p q) (q .weight) .0) (t .preferences) (search tests)
 
-  lost : missedWeight t p ≤ limit * length (t .preferences)
+  lost : missedWeight t p ≤ MAX-AMOUNT * length (t .preferences)
   lost =
       weights (λ (q : Preference). cond (isMet t p q) 0 (q .weight)) (λ q. some-or-none (isMet t p q) (q .weight) .1) (t .preferences) (search tests)
 

@@ -4,16 +4,16 @@ use mathlib.Core.Bool.{Bool}
 use mathlib.Core.List.{List, [], _∷_, _++_}
 use Prim.Native.Nat.{ℕ, _+_}
 use lib.Dec.{T}
-use Rattle.task.specs.Lists.{concatMap, concatFrom}
-use Rattle.task.specs.Task.{Kind, always, sometime, at-end, at-most-once, sometime-before, sometime-after, within, always-within, Preference, Task}
-use Rattle.task.specs.Task.{Row, row, kindMark, openingMark, preferenceRows, taskRows}
+use Rattle.lists.specs.Lists.{concatMap, concatFrom}
+use Rattle.meaning.specs.Task.{Kind, always, sometime, at-end, at-most-once, sometime-before, sometime-after, within, always-within, Preference, Task}
+use Rattle.task.specs.TaskRows.{Row, row, kindMark, openingMark, preferenceRows, taskRows}
 use Rattle.task.specs.File.{isPreference, kindOf}
-use Rattle.task.proofs.Tests.{tests, noneOf, without, as-true, as-false}
+use Rattle.lists.proofs.Tests.{tests, noneOf, without, as-true, as-false}
 use Rattle.task.proofs.Hard.{soft-back, hard-back}
 use Rattle.task.proofs.Passing.{sideRows, sides-pass}
 use Rattle.task.proofs.Positions.{kind-preference, front, front-no-preference}
 use Rattle.plan.specs.Judged.{Judged, given, refused}
-use Rattle.task.specs.Verdict.{solved, stopped, goal-missed, rule-missed}
+use Rattle.meaning.specs.Verdict.{solved, stopped, goal-missed, rule-missed}
 use Rattle.report.specs.Report.{kindWord, preferenceLine, solvedLine, amountsLine, preferenceLines, reportOf}
 use Rattle.report.specs.Rows.{rowLine, rowLines, reportOfRows}
 

@@ -5,10 +5,10 @@ use mathlib.Core.List.{List, [], _++_}
 use Prim.Native.Nat.{ℕ}
 use lib.IntN.{ℤ}
 use lib.ListN.{length}
-use Rattle.task.specs.Lists.{concatFrom}
-use Rattle.task.specs.Task.{Kind, always, sometime, at-end, at-most-once, sometime-before, sometime-after, within, always-within, Preference, Task}
+use Rattle.lists.specs.Lists.{concatFrom}
+use Rattle.meaning.specs.Task.{Kind, always, sometime, at-end, at-most-once, sometime-before, sometime-after, within, always-within, Preference, Task}
 use Rattle.task.specs.File.{taskOf}
-use Rattle.task.specs.Verdict.{Verdict, solved, stopped, goal-missed, rule-missed}
+use Rattle.meaning.specs.Verdict.{Verdict, solved, stopped, goal-missed, rule-missed}
 use Rattle.plan.specs.Judged.{Judged, given, refused, judged}
 use Rattle.plan.specs.Walked
 use Rattle.plan.specs.Walked.{Walk, walked}

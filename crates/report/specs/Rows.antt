@@ -2,10 +2,10 @@
 use mathlib.Core.Bool.{Bool, cond}
 use mathlib.Core.List.{List, [], _∷_, _++_}
 use Prim.Native.Nat.{ℕ}
-use Rattle.task.specs.Task.{Row}
+use Rattle.task.specs.TaskRows.{Row}
 use Rattle.task.specs.File.{opensHard, softMark, isPreference, kindOf}
 use Rattle.task.specs.Check.{count}
-use Rattle.task.specs.Verdict.{Verdict}
+use Rattle.meaning.specs.Verdict.{Verdict}
 use Rattle.plan.specs.Judged.{Judged}
 use Rattle.report.specs.Report.{preferenceLine, verdictText, textWith}
 

@@ -6,22 +6,25 @@ ghost use mathlib.Core.Path.{_≡_};
 ghost use Prim.Native.Nat.{_*_, _≤_};
 ghost use lib.ListN.{length};
 ghost use Rattle.task.specs.File.{paired};
-ghost use Rattle.task.specs.Verdict.{solved};
+ghost use Rattle.task.specs.Rows.{Rows};
+ghost use Rattle.meaning.specs.Verdict.{solved};
 ghost use Rattle.state.specs.Member.{bit};
-ghost use Rattle.plan.specs.Settled.{priced, withAmounts};
-ghost use Rattle.plan.specs.Answers.{asVerdict, settledAs};
+ghost use Rattle.plan.specs.ThenSettled.{priced, withAmounts};
+ghost use Rattle.plan.specs.Answers.{asVerdict};
+ghost use Rattle.settling.specs.Answers.{settledAs};
 ghost use Rattle.text.specs.Area.{Wrote, Filled};
 ghost use Rattle.outcome.specs.Outcome.{areaAfter};
 ghost use Rattle.outcome.specs.Answers.{answer};
 ghost use Rattle.report.specs.Report.{reportOn, reportOutcome, WalkedTo};
 ghost use Rattle.report.specs.Rows.{verdictOfRows, reportOfRows};
 use outcome::Outcome;
-use plan::Settled;
 use plan::Solution;
 use plan::Verdict;
 use plan::Walked;
-use plan::Worth;
+use settling::Settled;
+use settling::Worth;
 use task::Checked;
+use task::refused;
 
 // Writes the text of a plan that solves, from what it is worth.
 fn put_worth(
@@ -32,8 +35,11 @@ fn put_worth(
     values: &[u8],
     out: &mut [u8],
 ) -> usize
-    requires { ⌜ (4 * length (now marks) ≤ length (now values)) × (length (now marks) ≤ 12000) ⌝ }
-    ensures { λ r. ⌜ Wrote (now (out .entry)) 0 (verdictOfRows (paired (now (marks .entry)) (now (values .entry))) steps (solved (s .cost) (w .metric) (w .utility) (bit (s .met)))) r (now (out .exit)) ⌝ }
+    requires { ⌜ Rows (now marks) (now values) ⌝ }
+    ensures { λ r.
+        let rows = paired (now (marks .entry)) (now (values .entry)) in
+        let verdict = solved (s .cost) (w .metric) (w .utility) (bit (s .met)) in
+        ⌜ Wrote (now (out .entry)) 0 (verdictOfRows rows steps verdict) r (now (out .exit)) ⌝ }
 {
     let a = lines::put_solved(&mut *out, 0, steps, s.cost);
     let b = preferences::put_rows(&mut *out, a, s.met, marks, values);
@@ -49,8 +55,11 @@ fn put_settled(
     values: &[u8],
     out: &mut [u8],
 ) -> usize
-    requires { ⌜ (4 * length (now marks) ≤ length (now values)) × (length (now marks) ≤ 12000) ⌝ }
-    ensures { λ r. ⌜ Wrote (now (out .entry)) 0 (reportOfRows (paired (now (marks .entry)) (now (values .entry))) steps (priced (s .cost) (bit (s .met)) (settledAs settled))) r (now (out .exit)) ⌝ }
+    requires { ⌜ Rows (now marks) (now values) ⌝ }
+    ensures { λ r.
+        let rows = paired (now (marks .entry)) (now (values .entry)) in
+        let judged = priced (s .cost) (bit (s .met)) (settledAs settled) in
+        ⌜ Wrote (now (out .entry)) 0 (reportOfRows rows steps judged) r (now (out .exit)) ⌝ }
 {
     match settled {
         Settled::Given(w) => put_worth(steps, s, w, marks, values, out),
@@ -67,16 +76,19 @@ fn put_verdict(
     values: &[u8],
     out: &mut [u8],
 ) -> usize
-    requires { ⌜ (4 * length (now marks) ≤ length (now values)) × (length (now marks) ≤ 12000) ⌝ }
-    ensures { λ r. ⌜ Wrote (now (out .entry)) 0 (reportOfRows (paired (now (marks .entry)) (now (values .entry))) steps (withAmounts (now (file .entry)) (asVerdict v))) r (now (out .exit)) ⌝ }
+    requires { ⌜ Rows (now marks) (now values) ⌝ }
+    ensures { λ r.
+        let rows = paired (now (marks .entry)) (now (values .entry)) in
+        let judged = withAmounts (now (file .entry)) (asVerdict v) in
+        ⌜ Wrote (now (out .entry)) 0 (reportOfRows rows steps judged) r (now (out .exit)) ⌝ }
 {
     match v {
         Verdict::Solved(s) => {
-            let settled = plan::settle(file, s.cost, s.met);
+            let settled = settling::settle(file, s.cost, s.met);
             put_settled(steps, s, settled, marks, values, out)
         }
         Verdict::Stopped(step) => lines::put_stopped(out, 0, step),
-        Verdict::GoalMissed => text::put_word(out, 0, b"goal missed\n"),
+        Verdict::GoalMissed => text::put_bytes(out, 0, b"goal missed\n"),
         Verdict::RuleMissed(rule) => lines::put_rule_missed(out, 0, rule),
     }
 }
@@ -100,21 +112,25 @@ fn put_text(file: &[u8], plan: &[u8], v: Verdict, out: &mut [u8]) -> usize
 fn write_verdict(file: &[u8], plan: &[u8], v: Verdict, out: &mut [u8]) -> Outcome
     requires { ⌜ WalkedTo (now file) (now plan) (asVerdict v) ⌝ }
     ensures { λ r. ⌜ answer r ≡ reportOutcome (now (file .entry)) (now (plan .entry)) (length (now (out .entry))) ⌝ }
-    ensures { λ r. ⌜ now (out .exit) ≡ areaAfter (reportOn (now (file .entry)) (now (plan .entry))) (now (out .entry)) (reportOutcome (now (file .entry)) (now (plan .entry)) (length (now (out .entry)))) ⌝ }
+    ensures { λ r.
+        let outcome = reportOutcome (now (file .entry)) (now (plan .entry)) (length (now (out .entry))) in
+        ⌜ now (out .exit) ≡ areaAfter (reportOn (now (file .entry)) (now (plan .entry))) (now (out .entry)) outcome ⌝ }
 {
     let mut whole: [u8; 2048] = [0; 2048];
     let n = put_text(file, plan, v, &mut whole);
     if out.len() < n {
-        return outcome::refuse(9, 0);
+        return outcome::refuse(refused::SHORT_OUTPUT, 0);
     }
-    text::put_word(&mut *out, 0, text::front(&whole, n));
+    text::put_bytes(&mut *out, 0, text::front(&whole, n));
     Outcome::Written(n)
 }
 
 // Walks a plan on the task in a file, settles it where it solves, and writes the lines of program judge to the area's start.
 pub fn write_report(file: &[u8], plan: &[u8], out: &mut [u8]) -> Outcome
     ensures { λ r. ⌜ answer r ≡ reportOutcome (now (file .entry)) (now (plan .entry)) (length (now (out .entry))) ⌝ }
-    ensures { λ r. ⌜ now (out .exit) ≡ areaAfter (reportOn (now (file .entry)) (now (plan .entry))) (now (out .entry)) (reportOutcome (now (file .entry)) (now (plan .entry)) (length (now (out .entry)))) ⌝ }
+    ensures { λ r.
+        let outcome = reportOutcome (now (file .entry)) (now (plan .entry)) (length (now (out .entry))) in
+        ⌜ now (out .exit) ≡ areaAfter (reportOn (now (file .entry)) (now (plan .entry))) (now (out .entry)) outcome ⌝ }
 {
     let w = plan::walk(file, plan);
     match w {

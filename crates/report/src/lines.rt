@@ -1,4 +1,4 @@
-// The lines of the text, one by one. Each function writes from a place on and answers the place behind.
+// The lines of the text, one by one. Each function writes from a place on and answers the place after.
 ghost use Prim.Native.Nat.{_+_, _^_, _≤_, _<_};
 ghost use Rattle.task.specs.File.{opensHard, softMark, kindOf};
 ghost use Rattle.text.specs.Area.{Wrote};
@@ -12,14 +12,14 @@ fn put_soft_kind(out: &mut [u8], at: usize, mark: u8) -> usize
     ensures { λ r. ⌜ r ≤ at + 15 ⌝ }
 {
     match mark {
-        marks::ALWAYS => text::put_word(out, at, b"always"),
-        marks::SOMETIME => text::put_word(out, at, b"sometime"),
-        marks::AT_END => text::put_word(out, at, b"at-end"),
-        marks::AT_MOST_ONCE => text::put_word(out, at, b"at-most-once"),
-        marks::SOMETIME_BEFORE => text::put_word(out, at, b"sometime-before"),
-        marks::SOMETIME_AFTER => text::put_word(out, at, b"sometime-after"),
-        marks::WITHIN => text::put_word(out, at, b"within"),
-        _ => text::put_word(out, at, b"always-within"),
+        marks::ALWAYS => text::put_bytes(out, at, b"always"),
+        marks::SOMETIME => text::put_bytes(out, at, b"sometime"),
+        marks::AT_END => text::put_bytes(out, at, b"at-end"),
+        marks::AT_MOST_ONCE => text::put_bytes(out, at, b"at-most-once"),
+        marks::SOMETIME_BEFORE => text::put_bytes(out, at, b"sometime-before"),
+        marks::SOMETIME_AFTER => text::put_bytes(out, at, b"sometime-after"),
+        marks::WITHIN => text::put_bytes(out, at, b"within"),
+        _ => text::put_bytes(out, at, b"always-within"),
     }
 }
 
@@ -29,7 +29,7 @@ fn put_hard(out: &mut [u8], at: usize, hard: bool) -> usize
     ensures { λ r. ⌜ r ≤ at + 5 ⌝ }
 {
     if hard {
-        return text::put_word(out, at, b"hard-");
+        return text::put_bytes(out, at, b"hard-");
     }
     at
 }
@@ -50,9 +50,9 @@ fn put_outcome(out: &mut [u8], at: usize, met: bool) -> usize
     ensures { λ r. ⌜ r ≤ at + 6 ⌝ }
 {
     if met {
-        text::put_word(out, at, b"met")
+        text::put_bytes(out, at, b"met")
     } else {
-        text::put_word(out, at, b"missed")
+        text::put_bytes(out, at, b"missed")
     }
 }
 

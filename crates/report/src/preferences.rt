@@ -3,9 +3,10 @@ ghost use mathlib.Core.Path.{_≡_};
 ghost use Prim.Native.Nat.{_+_, _*_, _^_, _≤_, _<_};
 ghost use lib.ListN.{length};
 ghost use Rattle.state.specs.Member.{bit};
-ghost use Rattle.task.specs.Task.{row};
+ghost use Rattle.task.specs.TaskRows.{row};
 ghost use Rattle.task.specs.File.{paired, isPreference};
 ghost use Rattle.task.specs.Check.{count};
+ghost use Rattle.task.specs.Rows.{Rows};
 ghost use Rattle.text.specs.Area.{Wrote};
 ghost use Rattle.report.specs.Rows.{rowLine, rowLines};
 use super::lines;
@@ -29,14 +30,14 @@ fn put_row(out: &mut [u8], next: Next, mark: u8, value: u32, met: u64) -> Next
         return next;
     }
     Next {
-        at: lines::put_preference(out, at, k, mark, value, plan::is_met(met, k as u32)),
+        at: lines::put_preference(out, at, k, mark, value, settling::is_met(met, k as u32)),
         number: k + 1,
     }
 }
 
 // Writes the lines of all rows.
 pub fn put_rows(out: &mut [u8], at: usize, met: u64, marks: &[u8], values: &[u8]) -> usize
-    requires { ⌜ (4 * length (now marks) ≤ length (now values)) × (length (now marks) ≤ 12000) × (at + 70 * length (now marks) < 2 ^ 64) ⌝ }
+    requires { ⌜ Rows (now marks) (now values) × (at + 70 * length (now marks) < 2 ^ 64) ⌝ }
     ensures { λ r. ⌜ Wrote (now (out .entry)) at (rowLines (bit met) 0 (paired (now (marks .entry)) (now (values .entry)))) r (now (out .exit)) ⌝ }
     ensures { λ r. ⌜ r ≤ at + 70 * length (now (marks .entry)) ⌝ }
 {

@@ -1,4 +1,4 @@
--- The buyer's corollary, from demand 3 and from what walk and settle answer.
+-- The corollary that cost is metric, from faithfulness (demand 3) and from what walk and settle answer.
 use mathlib.Core.Path.{_≡_, refl, sym, ap, _∙_, subst}
 use mathlib.Core.Bool.{Bool, true, false, cond}
 use mathlib.Core.List.{List}
@@ -7,26 +7,27 @@ use lib.Dec.{T, leb, ltb}
 use lib.IntN.{ℤ}
 use lib.ListN.{length, take}
 use borrow.Author.Tests.{le-leb}
-use Rattle.task.specs.Lists.{all}
-use Rattle.task.specs.Task.{Task}
+use Rattle.lists.specs.Lists.{all}
+use Rattle.meaning.specs.Task.{Task}
 use Rattle.task.specs.File.{Sizes, taskOf}
 use Rattle.task.specs.Check.{Answer, accepted, refused, check}
-use Rattle.task.specs.Meaning.{solves, cost, metric, utility}
-use Rattle.task.specs.Literals.{literals}
-use Rattle.task.specs.Verdict.{Verdict, solved, metSet, verdict}
-use Rattle.task.proofs.Tests.{as-true, all-keep}
-use Rattle.task.proofs.Verdict.{solved-iff, solved-only}
+use Rattle.meaning.specs.Meaning.{solves, cost, metric, utility}
+use Rattle.meaning.specs.Literals.{literals}
+use Rattle.meaning.specs.Verdict.{Verdict, solved, metSet, verdict}
+use Rattle.lists.proofs.Tests.{as-true, all-filter}
+use Rattle.meaning.proofs.Verdict.{solved-iff, solved-only}
 use Rattle.task.proofs.Spelled.{accepted-spelling}
 use Rattle.classical.specs.Claim.{sourcePart}
 use Rattle.plan.specs.Judged
 use Rattle.plan.specs.Judged.{Judged, given, stepsKnown, judged}
-use Rattle.plan.specs.Walked.{unsettled, walked}
-use Rattle.plan.specs.Settled.{worth, priced, andSettled}
-use Rattle.plan.proofs.Settling.{settled-plan, walk-then-settle}
+use Rattle.plan.specs.Walked.{withoutWorth, walked}
+use Rattle.settling.specs.Settled.{worth}
+use Rattle.plan.specs.ThenSettled.{priced, thenSettle}
+use Rattle.plan.proofs.ThenSettled.{settled-plan, walk-then-settle}
 use Rattle.outcome.specs.Outcome.{written}
 use Rattle.outcome.proofs.Outcomes.{not-written}
 use Rattle.translation.specs.Translated.{outcomeBy, outcome, Delivered}
-use Rattle.route_rules.specs.Corollary.{SettledAt, PaidAsSettled}
+use Rattle.route_rules.specs.Corollary.{SettledAt, CostIsMetric}
 
 -- What judge gave on an accepted file
 
@@ -63,7 +64,7 @@ module _ (b : List ℕ) (z : Sizes) (h : check b ≡ accepted z) (p : List ℕ) 
 
 -- what judge gave, from what walk and settle answer
 judged-at : (b p : List ℕ) (m : ℕ) → SettledAt b p m → (c : ℕ) × (u : ℤ) × (s : ℕ → Bool) × (judged b p ≡ given (solved c m u s))
-judged-at b p m (c, u, s, n, w, e) = (c, u, s, sym (walk-then-settle b p) ∙ ap (andSettled b) w ∙ ap (priced c s) e)
+judged-at b p m (c, u, s, n, w, e) = (c, u, s, sym (walk-then-settle b p) ∙ ap (thenSettle b) w ∙ ap (priced c s) e)
 
 -- The corollary
 
@@ -78,42 +79,42 @@ module _ (b area : List ℕ) (n : ℕ) (z : Sizes) (h : check b ≡ accepted z) 
   steps : (x : List ℕ) → all (λ (k : ℕ). ltb k (z .actions)) (sourcePart source x) ≡ true
   steps x =
       subst (λ (A : ℕ). all (λ (k : ℕ). ltb k A) (sourcePart source x) ≡ true) (ap (λ (z : Sizes). z .actions) (accepted-spelling b z h .sized))
-      (as-true (all (λ (k : ℕ). ltb k (length (source .actions))) (sourcePart source x)) (all-keep (λ (k : ℕ). ltb k (length (source .actions))) x))
+      (as-true (all (λ (k : ℕ). ltb k (length (source .actions))) (sourcePart source x)) (all-filter (λ (k : ℕ). ltb k (length (source .actions))) x))
 
-  pub paid-as-settled : PaidAsSettled b area n
+  pub paid-as-settled : CostIsMetric b area n
   unfolding walked
   paid-as-settled =
       record {
         pays = λ x solving short.
             let p : List ℕ = sourcePart source x in
-            let solving-p : T (solves source p) = d .faithfully .reaches p .0 (x, solving, refl) in (
+            let solving-p : T (solves source p) = d .faithfully .onto p .0 (x, solving, refl) in (
               cost source p,
               utility source p,
               metSet source p,
               literals source p,
-              ap (unsettled (literals source p)) (given-verdict b z h p short (steps x) ∙ ap given (solved-iff source p .1 solving-p)),
-              settled-plan b p z h short ∙ ap (λ (m : ℕ). worth m (utility source p)) (sym (d .faithfully .priced x solving)),
+              ap (withoutWorth (literals source p)) (given-verdict b z h p short (steps x) ∙ ap given (solved-iff source p .1 solving-p)),
+              settled-plan b p z h short ∙ ap (λ (m : ℕ). worth m (utility source p)) (sym (d .faithfully .costPreserved x solving)),
             );
         offers = λ p m e. from-judged p m (judged-at b p m e);
       }
     where
       found : (p : List ℕ) (m : ℕ) → T (solves source p) × (metric source p ≡ m)
           → (x : List ℕ) × T (solves written-task x) × (sourcePart source x ≡ p) × (cost written-task x ≡ m)
-      found p m (solving, same) = priced-at (d .faithfully .reaches p .1 solving)
+      found p m (solving, same) = priced-at (d .faithfully .onto p .1 solving)
         where
           priced-at : (x : List ℕ) × T (solves written-task x) × (sourcePart source x ≡ p)
               → (x : List ℕ) × T (solves written-task x) × (sourcePart source x ≡ p) × (cost written-task x ≡ m)
-          priced-at (x, solving-x, part) = (x, solving-x, part, d .faithfully .priced x solving-x ∙ ap (metric source) part ∙ same)
+          priced-at (x, solving-x, part) = (x, solving-x, part, d .faithfully .costPreserved x solving-x ∙ ap (metric source) part ∙ same)
 
       from-judged : (p : List ℕ) (m : ℕ) → (c : ℕ) × (u : ℤ) × (s : ℕ → Bool) × (judged b p ≡ given (solved c m u s))
           → (x : List ℕ) × T (solves written-task x) × (sourcePart source x ≡ p) × (cost written-task x ≡ m)
       from-judged p m (c, u, s, e) = found p m (solved-only source p c m u s (only-verdict b z h p (solved c m u s) e))
 
 -- what translate has written is a translation of an accepted file
-pub written-paid : (b area : List ℕ) (room n : ℕ) → outcome b room ≡ written n → Delivered b area n → PaidAsSettled b area n
+pub written-paid : (b area : List ℕ) (room n : ℕ) → outcome b room ≡ written n → Delivered b area n → CostIsMetric b area n
 unfolding outcome
 written-paid b area room n e d = go (check b) refl e
   where
-    go : (a : Answer) → check b ≡ a → outcomeBy b room a ≡ written n → PaidAsSettled b area n
+    go : (a : Answer) → check b ≡ a → outcomeBy b room a ≡ written n → CostIsMetric b area n
     go (accepted z) h w = paid-as-settled b area n z h d
     go (refused k i) h w = absurd (not-written k i n w)

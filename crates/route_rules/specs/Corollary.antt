@@ -1,4 +1,4 @@
--- The buyer's corollary: what the planner pays is what walk and settle say.
+-- The corollary that cost is metric: what the planner pays is what walk and settle say.
 use mathlib.Core.Path.{_≡_}
 use mathlib.Core.Bool.{Bool}
 use mathlib.Core.List.{List}
@@ -7,10 +7,11 @@ use lib.Dec.{T}
 use lib.IntN.{ℤ}
 use lib.ListN.{length, take}
 use Rattle.task.specs.File.{taskOf}
-use Rattle.task.specs.Meaning.{solves, cost}
+use Rattle.meaning.specs.Meaning.{solves, cost}
 use Rattle.classical.specs.Claim.{sourcePart}
 use Rattle.plan.specs.Walked.{given, solved, walked}
-use Rattle.plan.specs.Settled.{worth, settled}
+use Rattle.settling.specs.Settled.{worth, settled}
+use Rattle.task.specs.Limits.{MAX-STEPS}
 
 -- walk answers solved, and settle then metric m
 abbrev pub SettledAt : List ℕ → List ℕ → ℕ → Type 0
@@ -20,8 +21,8 @@ SettledAt b p m =
 -- b holds the source, the first n bytes of the area its translation;
 -- pays: a list that solves the translation costs the metric of its source part, where that has at most 2,048 steps;
 -- offers: where a plan comes to metric m, some list with that source part solves the translation at cost m
-pub record PaidAsSettled (b area : List ℕ) (n : ℕ) : Type 0 where
-  pub pays : (x : List ℕ) → T (solves (taskOf (take n area)) x) → length (sourcePart (taskOf b) x) ≤ 2048
+pub record CostIsMetric (b area : List ℕ) (n : ℕ) : Type 0 where
+  pub pays : (x : List ℕ) → T (solves (taskOf (take n area)) x) → length (sourcePart (taskOf b) x) ≤ MAX-STEPS
       → SettledAt b (sourcePart (taskOf b) x) (cost (taskOf (take n area)) x)
   pub offers : (p : List ℕ) (m : ℕ) → SettledAt b p m
       → (x : List ℕ) × T (solves (taskOf (take n area)) x) × (sourcePart (taskOf b) x ≡ p) × (cost (taskOf (take n area)) x ≡ m)

@@ -8,12 +8,13 @@ use native.Mathlib.Omega.{arith}
 use lib.Dec.{T, eqb}
 use lib.ListN.{length, length-map}
 use Rattle.task.specs.Marks.{START}
-use Rattle.task.specs.Lists.{elem}
-use Rattle.task.specs.Task.{Row, row, factsBelow}
+use Rattle.lists.specs.Lists.{elem}
+use Rattle.meaning.specs.Task.{factsBelow}
+use Rattle.task.specs.TaskRows.{Row, row}
 use Rattle.task.specs.File.{paired}
-use Rattle.task.specs.Meaning.{State as Facts}
+use Rattle.meaning.specs.Meaning.{State as Facts}
 use Rattle.task.specs.Rows.{run, runAt, Stops}
-use Rattle.task.proofs.Tests.{all-map}
+use Rattle.lists.proofs.Tests.{all-map}
 use Rattle.task.proofs.Bytes.{length-paired}
 use Rattle.task.proofs.Reading.{passes, fold, run-stop, run-through, run-ends}
 use Rattle.state.specs.Member.{empty}
@@ -28,7 +29,7 @@ starts-read f (n ∷ ns) = starts-read (openRow f (row START n)) ns
 abbrev pub isStart : ℕ → Bool
 isStart m = eqb m START
 
--- START rows at the beginning, with something else behind them
+-- START rows at the beginning, with something else after them
 pub opening-at : (F : ℕ) → F ≤ 128 → (ms vs ns : List ℕ) (xs : List Row)
     → paired ms vs ≡ map (row START) ns ++ xs → Stops isStart xs → T (factsBelow F ns)
     → openAt empty ms vs 0 ≡ record { state = λ (n : ℕ). elem n ns; next = length ns }
@@ -42,7 +43,7 @@ opening-at F few ms vs ns xs e h below =
       next = (zero-add (length (map (row START) ns)) ∙ length-map ns (row START)) i;
     }))
 
--- the row behind the START rows, whatever the rows are
+-- the row after the START rows, whatever the rows are
 pub opening-ends : (ms vs : List ℕ) → openAt empty ms vs 0 .next ≤ length ms
 unfolding runAt
 opening-ends ms vs = build (run-ends openRow isStart opened empty 0 (paired ms vs))

@@ -8,11 +8,11 @@ use lib.Dec.{eqb, leb}
 use lib.ListN.{length, drop, getD}
 use borrow.Author.Tests.{leb-true, leb-false, eqb-true, eqb-false, eq-eqb, ne-eqb, le-leb, lt-leb}
 use Rattle.task.specs.Marks.{CLAUSE, HOLDS, LACKS}
-use Rattle.task.specs.Task.{Row, row}
-use Rattle.task.specs.Meaning.{State as Facts}
+use Rattle.task.specs.TaskRows.{Row, row}
+use Rattle.meaning.specs.Meaning.{State as Facts}
 use Rattle.task.specs.File.{paired}
 use Rattle.task.specs.Rows.{valueAt, between, run, runAt}
-use Rattle.task.proofs.Tests.{both-true, not-both}
+use Rattle.lists.proofs.Tests.{both-true, not-both}
 use Rattle.task.proofs.Reading.{row-at, goes-on, stops-at, ends-at}
 use Rattle.state.specs.Conditions.{inCondition, Reading, reading, readRow, finish, evaluateAt, endAt, falseMark}
 use Rattle.state.specs.declared.conditions.Evaluated.{Evaluated}
@@ -196,7 +196,7 @@ module _ (s : Facts) where
       let k : suc (n + (i - at)) ≡ n + (i + 1 - at) = omega arith in
       e ∙ looks-on ms vs i (n + (i - at)) h q ∙ ap (λ (j : ℕ). evaluateAt s (reading true false j) ms vs (i + 1)) k
 
--- The row behind a condition
+-- The row after a condition
 
 module _ (ms vs : List ℕ) (i : ℕ) where
   pub end-on : i < length ms → inCondition (getD ms i 0) ≡ true → endAt ms vs (i + 1) ≡ endAt ms vs i

@@ -3,8 +3,8 @@ use mathlib.Core.List.{List}
 use Prim.Native.Nat.{ℕ}
 use lib.Dec.{eqb}
 use Rattle.task.specs.Marks.{START}
-use Rattle.task.specs.Task.{Row}
-use Rattle.task.specs.Meaning.{State as Facts}
+use Rattle.task.specs.TaskRows.{Row}
+use Rattle.meaning.specs.Meaning.{State as Facts}
 use Rattle.task.specs.Rows.{runAt}
 use Rattle.state.specs.Member.{single, union}
 use Rattle.state.specs.Effects.{Result}

@@ -1,7 +1,6 @@
 // The opening state, read from the START rows.
 ghost use mathlib.Core.Path.{_≡_};
-ghost use Prim.Native.Nat.{_*_, _≤_};
-ghost use lib.ListN.{length};
+ghost use Rattle.task.specs.Rows.{Rows};
 ghost use Rattle.state.specs.Member.{empty};
 ghost use Rattle.state.specs.Effects.{resultOf};
 ghost use Rattle.state.specs.Opening.{openAt};
@@ -9,9 +8,9 @@ use super::effects::Applied;
 use task::marks;
 use task::rows;
 
-// The state of the facts that the START rows name, and the row behind them.
+// The state of the facts that the START rows name, and the row after them.
 pub fn opening(marks: &[u8], values: &[u8]) -> Applied
-    requires { ⌜ 4 * length (now marks) ≤ length (now values) ⌝ }
+    requires { ⌜ Rows (now marks) (now values) ⌝ }
     ensures { λ r. ⌜ resultOf r ≡ openAt empty (now (marks .entry)) (now (values .entry)) 0 ⌝ }
 {
     let mut s = super::none();

@@ -3,7 +3,7 @@ use mathlib.Core.Path.{_≡_, sym, ap, _∙_}
 use mathlib.Core.List.{List}
 use Prim.Native.Nat.{ℕ, _+_, _*_, _≤_}
 use lib.ListN.{length}
-use Rattle.task.specs.Task.{taskRows}
+use Rattle.task.specs.TaskRows.{taskRows}
 use Rattle.task.specs.File.{Sizes, taskOf}
 use Rattle.task.specs.Check.{Answer, accepted, refused, check}
 use Rattle.task.specs.Answers.{answer, refusalIn}

@@ -6,12 +6,14 @@ use Prim.Native.Nat.{ℕ, zero, suc, _+_, _*_, _≤_}
 use native.Mathlib.Nat.{suc-mul}
 use native.Mathlib.Omega.{arith}
 use lib.ListN.{length, length-append, length-map, getD}
-use Rattle.task.specs.Lists.{any, concatMap}
+use Rattle.lists.specs.Lists.{any, concatMap}
 use Rattle.task.specs.Marks.{ADD, DELETE, GOAL, START, SECOND}
-use Rattle.task.specs.Task.{Clause, Condition, Effect, Action, Preference, Task, Row, row, literalRow, conditionRows, effectRows, actionRows, preferenceRows, taskRows}
-use Rattle.task.specs.Task.{two-sided, kindMark, stepsRows}
-use Rattle.task.specs.Meaning.{State, literalTrue, opening, after, noAction, actionAt, applies}
-use Rattle.task.specs.Literals.{lookedClause, lookedAt, lookedPreference, lookedPreferences, lookedEffects, lookedFrom, literals}
+use Rattle.meaning.specs.Task.{Clause, Condition, Effect, Action, Preference, Task}
+use Rattle.task.specs.TaskRows.{Row, row, literalRow, conditionRows, effectRows, actionRows, preferenceRows, taskRows}
+use Rattle.meaning.specs.Task.{two-sided}
+use Rattle.task.specs.TaskRows.{kindMark, stepsRows}
+use Rattle.meaning.specs.Meaning.{State, literalTrue, opening, after, noAction, actionAt, applies}
+use Rattle.meaning.specs.Literals.{lookedClause, lookedAt, lookedPreference, lookedPreferences, lookedEffects, lookedFrom, literals}
 
 module _ (s : State) where
   clause-few : (ls : Clause) → lookedClause s ls ≤ length (map literalRow ls)

@@ -6,14 +6,15 @@ use Prim.Native.Nat.{ℕ, _+_, _-_, _≤_}
 use native.Mathlib.Omega.{arith}
 use lib.Dec.{leb, eqb, eqb→eq, leb→le}
 use Rattle.task.specs.Marks.{ALWAYS, HARD}
-use Rattle.task.specs.Lists.{keep, numbers}
-use Rattle.task.specs.Task.{Kind, Row, kindMark, openingMark}
+use Rattle.lists.specs.Lists.{filter, range}
+use Rattle.meaning.specs.Task.{Kind}
+use Rattle.task.specs.TaskRows.{Row, kindMark, openingMark}
 use Rattle.task.specs.File.{opensHard, softMark}
-use Rattle.task.proofs.Tests.{as-true, as-false}
+use Rattle.lists.proofs.Tests.{as-true, as-false}
 use Rattle.task.proofs.Passing.{kind-passes}
 
 -- of all bytes, the marks that open a hard preference
-pub hard-marks : keep opensHard (numbers 0 256) ≡ 26 ∷ 27 ∷ 28 ∷ 29 ∷ 30 ∷ 31 ∷ 33 ∷ 34 ∷ []
+pub hard-marks : filter opensHard (range 0 256) ≡ 26 ∷ 27 ∷ 28 ∷ 29 ∷ 30 ∷ 31 ∷ 33 ∷ 34 ∷ []
 hard-marks = refl
 
 -- The mark of a kind, hard or soft, read back

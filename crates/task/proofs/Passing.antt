@@ -6,13 +6,14 @@ use lib.Dec.{T, ltb, lit<}
 use lib.ListN.{getD}
 use Rattle.task.specs.Marks.{EFFECT, CLAUSE, HOLDS, LACKS, ADD, DELETE, START}
 use Rattle.task.specs.Marks.{ALWAYS, SOMETIME, AT-END, AT-MOST-ONCE, SOMETIME-BEFORE, SOMETIME-AFTER, SECOND, WITHIN, ALWAYS-WITHIN, STEPS, HARD}
-use Rattle.task.specs.Lists.{all, concatMap}
-use Rattle.task.specs.Task.{Kind, always, sometime, at-end, at-most-once, sometime-before, sometime-after, within, always-within, Literal}
-use Rattle.task.specs.Task.{Condition, Effect, Action, Preference, Task, Row, row, two-sided, kindMark, openingMark, stepsRows, literalRow, clauseRows, conditionRows}
-use Rattle.task.specs.Task.{effectRows, actionRows, preferenceRows, taskRows}
-use Rattle.task.proofs.Tests.{and-left, and-right, and-both, all-at, all-both, all-map, all-concat}
+use Rattle.lists.specs.Lists.{all, concatMap}
+use Rattle.meaning.specs.Task.{Kind, always, sometime, at-end, at-most-once, sometime-before, sometime-after, within, always-within, Literal}
+use Rattle.meaning.specs.Task.{Condition, Effect, Action, Preference, Task, two-sided}
+use Rattle.task.specs.TaskRows.{Row, row, kindMark, openingMark, stepsRows, literalRow, clauseRows, conditionRows}
+use Rattle.task.specs.TaskRows.{effectRows, actionRows, preferenceRows, taskRows}
+use Rattle.lists.proofs.Tests.{and-left, and-right, and-both, all-at, all-both, all-map, all-concat}
 
--- Rows of a preference and of an action behind the first
+-- Rows of a preference and of an action after the first
 
 abbrev pub secondRows : Preference → List Row
 secondRows q = cond (two-sided (q .kind)) (row SECOND 0 ∷ conditionRows (q .second)) []

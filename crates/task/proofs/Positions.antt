@@ -1,4 +1,4 @@
--- Where the parts of a task stand among its rows, and what stands behind each.
+-- Where the parts of a task stand among its rows, and what stands after each.
 use mathlib.Core.Path.{_≡_, refl, sym, ap, _∙_}
 use mathlib.Core.Bool.{Bool, false, not, _&&_}
 use mathlib.Core.List.{List, [], _∷_, _++_, map, append-nil}
@@ -6,31 +6,32 @@ use Prim.Native.Nat.{ℕ, _+_}
 use lib.Dec.{T}
 use lib.ListN.{length, drop, length-map}
 use lib.Seq.{drop-drop, drop-at}
-use Rattle.task.specs.Lists.{all, concatMap, upTo}
+use Rattle.lists.specs.Lists.{all, concatMap, takeUntil}
 use Rattle.task.specs.Marks.{ACTION, EFFECT, GOAL, START, HARD}
-use Rattle.task.specs.Task.{Kind, Effect, Action, Preference, Task, Row, row, openingMark, conditionRows, effectRows, actionRows, preferenceRows, taskRows}
+use Rattle.meaning.specs.Task.{Kind, Effect, Action, Preference, Task}
+use Rattle.task.specs.TaskRows.{Row, row, openingMark, conditionRows, effectRows, actionRows, preferenceRows, taskRows}
 use Rattle.task.specs.File.{isPreference}
 use Rattle.task.specs.Rows.{Stops}
-use Rattle.task.proofs.Tests.{tests, noneOf, without, all-both, all-map, all-concat, upTo-none, as-true, as-false}
+use Rattle.lists.proofs.Tests.{tests, noneOf, without, all-both, all-map, all-concat, takeUntil-none, as-true, as-false}
 use Rattle.task.proofs.Passing.{condition-passes, effects-pass, kindMarks, opening-passes}
-use Rattle.task.proofs.Back.{fromGoal, task-grouped}
+use Rattle.task.proofs.RoundTrip.{fromGoal, task-grouped}
 
--- Rows behind other rows
+-- Rows after other rows
 
 pub drop-next : {A : Type 0} (i : ℕ) (l : List A) (x : A) (xs : List A) → drop i l ≡ x ∷ xs → drop (i + 1) l ≡ xs
 drop-next i l x xs e = sym (drop-drop 1 i l) ∙ ap (drop 1) e
 
-pub drop-behind : {A : Type 0} (i : ℕ) (l xs ys : List A) → drop i l ≡ xs ++ ys → drop (i + length xs) l ≡ ys
-drop-behind i l xs ys e = sym (drop-drop (length xs) i l) ∙ ap (drop (length xs)) e ∙ drop-at xs ys (length xs) refl
+pub drop-after : {A : Type 0} (i : ℕ) (l xs ys : List A) → drop i l ≡ xs ++ ys → drop (i + length xs) l ≡ ys
+drop-after i l xs ys e = sym (drop-drop (length xs) i l) ∙ ap (drop (length xs)) e ∙ drop-at xs ys (length xs) refl
 
--- the rows behind n others are ys
+-- the rows after n others are ys
 abbrev pub Behind : List Row → ℕ → List Row → Type 0
 Behind rows n ys = (xs : List Row) × (rows ≡ xs ++ ys) × (length xs ≡ n)
 
-pub behind-drop : (rows : List Row) (n : ℕ) (ys : List Row) → Behind rows n ys → drop n rows ≡ ys
-behind-drop rows n ys (xs, e, l) = ap (drop n) e ∙ drop-at xs ys n l
+pub after-drop : (rows : List Row) (n : ℕ) (ys : List Row) → Behind rows n ys → drop n rows ≡ ys
+after-drop rows n ys (xs, e, l) = ap (drop n) e ∙ drop-at xs ys n l
 
--- What may stand behind a condition, and behind effects
+-- What may stand after a condition, and after effects
 
 -- no mark that opens a preference passes the test
 pub past-kinds : (p : ℕ → Bool) → T (all (λ (m : ℕ). not (p m) && not (p (m + HARD))) kindMarks) → (h : Bool) (k : Kind)
@@ -49,20 +50,20 @@ module _ (p : ℕ → Bool) (kinds : (h : Bool) (k : Kind) → p (openingMark h 
   tail-stops action [] qs = preferences-stop qs
   tail-stops action (a ∷ l) qs = action
 
--- effects, and rows behind them
+-- effects, and rows after them
 pub effects-stop : (p : ℕ → Bool) → p EFFECT ≡ false → (es : List Effect) (xs : List Row) → Stops p xs → Stops p (concatMap effectRows es ++ xs)
 effects-stop p e [] xs s = s
 effects-stop p e (f ∷ es) xs s = e
 
 -- START rows, then GOAL
 
-pub starts-behind : (t : Task) → Behind (taskRows t) (length (t .start)) (fromGoal t)
-starts-behind t = (map (row START) (t .start), task-grouped t, length-map (t .start) (row START))
+pub starts-after : (t : Task) → Behind (taskRows t) (length (t .start)) (fromGoal t)
+starts-after t = (map (row START) (t .start), task-grouped t, length-map (t .start) (row START))
 
-pub goal-behind : (t : Task) → drop (length (t .start) + 1) (taskRows t) ≡ conditionRows (t .goal) ++ tailRows (t .actions) (t .preferences)
-goal-behind t =
+pub goal-after : (t : Task) → drop (length (t .start) + 1) (taskRows t) ≡ conditionRows (t .goal) ++ tailRows (t .actions) (t .preferences)
+goal-after t =
     drop-next (length (t .start)) (taskRows t) (row GOAL 0) (conditionRows (t .goal) ++ tailRows (t .actions) (t .preferences))
-    (behind-drop (taskRows t) (length (t .start)) (fromGoal t) (starts-behind t))
+    (after-drop (taskRows t) (length (t .start)) (fromGoal t) (starts-after t))
 
 -- Before the preferences no row has a preference's mark
 
@@ -87,15 +88,15 @@ front-no-preference t =
 pub kind-preference : (h : Bool) (k : Kind) (v : ℕ) → T (isPreference (row (openingMark h k) v))
 kind-preference = opening-passes isPreference (λ v. tt)
 
-up-to-preferences : (qs : List Preference) → upTo isPreference (concatMap preferenceRows qs) ≡ []
+up-to-preferences : (qs : List Preference) → takeUntil isPreference (concatMap preferenceRows qs) ≡ []
 up-to-preferences [] = refl
 up-to-preferences (q ∷ qs) =
     rw (as-true (isPreference (row (openingMark (q .hard) (q .kind)) (q .weight))) (kind-preference (q .hard) (q .kind) (q .weight)))
 
-pub preferences-behind : (t : Task) → drop (length (upTo isPreference (taskRows t))) (taskRows t) ≡ concatMap preferenceRows (t .preferences)
-preferences-behind t =
-    let before : upTo isPreference (taskRows t) ≡ front t ++ [] =
-    upTo-none isPreference (front t) (concatMap preferenceRows (t .preferences)) (front-no-preference t)
+pub preferences-after : (t : Task) → drop (length (takeUntil isPreference (taskRows t))) (taskRows t) ≡ concatMap preferenceRows (t .preferences)
+preferences-after t =
+    let before : takeUntil isPreference (taskRows t) ≡ front t ++ [] =
+    takeUntil-none isPreference (front t) (concatMap preferenceRows (t .preferences)) (front-no-preference t)
     ∙ ap (λ (xs : List Row). front t ++ xs) (up-to-preferences (t .preferences)) in
-    drop-at (front t) (concatMap preferenceRows (t .preferences)) (length (upTo isPreference (taskRows t)))
+    drop-at (front t) (concatMap preferenceRows (t .preferences)) (length (takeUntil isPreference (taskRows t)))
     (sym (ap length before ∙ ap length (append-nil (front t))))

@@ -1,4 +1,4 @@
--- What the rows behind each context spell, and how a preference is built from its row.
+-- What the rows after each context spell, and how a preference is built from its row.
 use mathlib.Core.Path.{_≡_, refl, subst}
 use mathlib.Core.Bool.{Bool, true, false, cond, _&&_, _||_}
 use mathlib.Core.List.{List, [], _∷_, _++_, map, append-assoc, append-nil}
@@ -8,18 +8,20 @@ use native.Mathlib.Omega.{arith}
 use lib.Dec.{T, leb}
 use Rattle.task.specs.Marks.{ADD, DELETE, GOAL, START}
 use Rattle.task.specs.Marks.{AT-MOST-ONCE, SOMETIME-BEFORE, SOMETIME-AFTER, SECOND, STEPS}
-use Rattle.task.specs.Lists.{all, concatMap, isEmpty}
-use Rattle.task.specs.Task.{Kind, always, sometime, at-end, at-most-once, sometime-before, sometime-after, within, always-within, Condition}
-use Rattle.task.specs.Task.{Row, row, two-sided, kindMark, openingMark, stepsRows, factsBelow, literalRow, conditionRows, effectRows, actionRows, preferenceRows}
+use Rattle.lists.specs.Lists.{all, concatMap, isEmpty}
+use Rattle.meaning.specs.Task.{Kind, always, sometime, at-end, at-most-once, sometime-before, sometime-after, within, always-within, Condition}
+use Rattle.meaning.specs.Task.{two-sided, factsBelow}
+use Rattle.task.specs.TaskRows.{Row, row, kindMark, openingMark, stepsRows, literalRow, conditionRows, effectRows, actionRows, preferenceRows}
 use Rattle.task.specs.Check.{Place, goal, precondition, effect, last-side, first-side, Context, opening, open-condition, open-clause, after-literal}
 use Rattle.task.specs.Check.{after-add, after-delete, open-within, open-always-within}
-use Rattle.task.specs.Check.{mostSteps, valueAllowed}
+use Rattle.task.specs.Check.{valueAllowed}
 use Rattle.task.specs.Spelling.{kindSpellable, weightAllowed}
-use Rattle.task.proofs.Tests.{tests}
+use Rattle.lists.proofs.Tests.{tests}
 use Rattle.task.proofs.Pieces.{literalsOk, clauseOk, conditionOk, effectOk, actionOk, preferenceOk, startOk}
-use Rattle.task.proofs.Walk.{weight-value, onward}
+use Rattle.task.proofs.CheckRows.{weight-value, onward}
+use Rattle.task.specs.Limits.{MAX-DEADLINE}
 
--- xs spells an a that passes the test, and behind it what K asks
+-- xs spells an a that passes the test, and after it what K asks
 abbrev pub Then : {A : Type 0} → (A → List Row) → (A → Bool) → (List Row → Type 0) → List Row → Type 0
 Then {A} spell ok K xs = (a : A) × (rest : List Row) × (xs ≡ spell a ++ rest) × T (ok a) × K rest
 
@@ -42,7 +44,7 @@ module _ (F : ℕ) where
   abbrev pub Holding : (List Row → Type 0) → List Row → Type 0
   Holding = Then conditionRows (conditionOk F)
 
-  -- the rest of a place behind its condition
+  -- the rest of a place after its condition
   abbrev pub Behind : Place → List Row → Type 0
   Behind goal = Actions
   Behind precondition = Effects
@@ -50,11 +52,11 @@ module _ (F : ℕ) where
   Behind last-side = Preferences
   Behind first-side = λ (xs : List Row). (rest : List Row) × (xs ≡ row SECOND 0 ∷ rest) × Holding Preferences rest
 
-  -- the rest of a clause, of no literal or more, and what is behind it
+  -- the rest of a clause, of no literal or more, and what is after it
   abbrev pub Literals : Place → List Row → Type 0
   Literals p = Then (map literalRow) (literalsOk F) (Holding (Behind p))
 
-  -- a clause's literals, one or more, and what is behind them
+  -- a clause's literals, one or more, and what is after them
   abbrev pub WholeClause : Place → List Row → Type 0
   WholeClause p = Then (map literalRow) (clauseOk F) (Holding (Behind p))
 
@@ -62,9 +64,9 @@ module _ (F : ℕ) where
   abbrev pub Goal : List Row → Type 0
   Goal xs = (rest : List Row) × (xs ≡ row GOAL 0 ∷ rest) × Holding Actions rest
 
-  -- STEPS, and what is behind it
+  -- STEPS, and what is after it
   abbrev pub Timed : Place → List Row → Type 0
-  Timed p xs = (t : ℕ) × (rest : List Row) × (xs ≡ row STEPS t ∷ rest) × T (leb t mostSteps) × Holding (Behind p) rest
+  Timed p xs = (t : ℕ) × (rest : List Row) × (xs ≡ row STEPS t ∷ rest) × T (leb t MAX-DEADLINE) × Holding (Behind p) rest
 
   -- what rows spell that are accepted in a context
   abbrev pub Spelled : Context → ℕ → List Row → Type 0

@@ -1,4 +1,4 @@
--- The kind of a preference, read from the row that opens it and the row behind that.
+-- The kind of a preference, read from the row that opens it and the row after that.
 use mathlib.Core.Path.{_≡_, refl, ap, _∙_}
 use mathlib.Core.Bool.{Bool, cond}
 use mathlib.Core.List.{List, _∷_, _++_, append-assoc}
@@ -8,17 +8,18 @@ use lib.Dec.{T, leb, leb→le}
 use lib.ListN.{length, drop, getD, length-drop}
 use borrow.Author.Tests.{lt-leb, ne-eqb}
 use Rattle.task.specs.Marks.{ALWAYS, SOMETIME, AT-END, AT-MOST-ONCE, SOMETIME-BEFORE, SOMETIME-AFTER, WITHIN, STEPS}
-use Rattle.task.specs.Task.{Kind, always, sometime, at-end, at-most-once, sometime-before, sometime-after, within, always-within, Preference, Row, row}
-use Rattle.task.specs.Task.{kindMark, openingMark, stepsRows, preferenceRows}
+use Rattle.meaning.specs.Task.{Kind, always, sometime, at-end, at-most-once, sometime-before, sometime-after, within, always-within, Preference}
+use Rattle.task.specs.TaskRows.{Row, row}
+use Rattle.task.specs.TaskRows.{kindMark, openingMark, stepsRows, preferenceRows}
 use Rattle.task.specs.File.{paired, opensHard, softMark, kindOf}
-use Rattle.task.specs.Check.{mostSteps}
 use Rattle.task.specs.Spelling.{kindSpellable}
 use Rattle.task.specs.Rows.{valueAt, stepsAt}
 use Rattle.task.proofs.Bytes.{length-paired}
 use Rattle.task.proofs.Passing.{conditionsOf}
 use Rattle.task.proofs.Hard.{soft-back, hard-back}
 use Rattle.task.proofs.Reading.{mark-at, value-at}
-use Rattle.task.proofs.Positions.{drop-next, drop-behind}
+use Rattle.task.proofs.Positions.{drop-next, drop-after}
+use Rattle.task.specs.Limits.{MAX-DEADLINE}
 
 -- a mark of no other kind
 pub last-kind : (m t : ℕ) → (m ≡ ALWAYS → ⊥) → (m ≡ SOMETIME → ⊥) → (m ≡ AT-END → ⊥) → (m ≡ AT-MOST-ONCE → ⊥) → (m ≡ SOMETIME-BEFORE → ⊥)
@@ -38,10 +39,10 @@ module _ (ms vs : List ℕ) (i : ℕ) where
   inside : (j : ℕ) (x : Row) (xs : List Row) → drop j (paired ms vs) ≡ x ∷ xs → j < length ms
   inside j x xs e = omega (arith, ap length e, length-drop j (paired ms vs), length-paired ms vs)
 
-  steps-read : (t : ℕ) (xs : List Row) → T (leb t mostSteps) → drop (i + 1) (paired ms vs) ≡ row STEPS t ∷ xs → stepsAt ms vs i ≡ t
+  steps-read : (t : ℕ) (xs : List Row) → T (leb t MAX-DEADLINE) → drop (i + 1) (paired ms vs) ≡ row STEPS t ∷ xs → stepsAt ms vs i ≡ t
   steps-read t xs ok e =
       let h : i + 1 < length ms = inside (i + 1) (row STEPS t) xs e in
-      let few : t ≤ 15 = leb→le t mostSteps ok in
+      let few : t ≤ 15 = leb→le t MAX-DEADLINE ok in
       ap (λ (b : Bool). cond b 0 (valueAt vs (i + 1) % 16)) (lt-leb (length ms) (i + 1) h)
       ∙ ap (λ (n : ℕ). n % 16) (value-at ms vs (i + 1) h e) ∙ omega arith
 
@@ -61,8 +62,8 @@ module _ (ms vs : List ℕ) (i : ℕ) where
         drop-next i (paired ms vs) (row (openingMark (q .hard) (q .kind)) (q .weight)) ((stepsRows (q .kind) ++ conditionsOf q) ++ more) e
         ∙ append-assoc (stepsRows (q .kind)) (conditionsOf q) more
 
-    pub behind-steps : drop (i + 1 + length (stepsRows (q .kind))) (paired ms vs) ≡ conditionsOf q ++ more
-    behind-steps = drop-behind (i + 1) (paired ms vs) (stepsRows (q .kind)) (conditionsOf q ++ more) behind-opening
+    pub after-steps : drop (i + 1 + length (stepsRows (q .kind))) (paired ms vs) ≡ conditionsOf q ++ more
+    after-steps = drop-after (i + 1) (paired ms vs) (stepsRows (q .kind)) (conditionsOf q ++ more) behind-opening
 
     pub soft-at : i < length ms → softMark (getD ms i 0) ≡ kindMark (q .kind)
     soft-at h = ap softMark (mark-at ms vs i h e) ∙ soft-back (q .hard) (q .kind)

@@ -5,7 +5,7 @@ ghost use lib.Dec.{T};
 ghost use lib.ListN.{length, getD};
 ghost use Rattle.task.specs.File.{softMark, kindOf};
 ghost use Rattle.task.specs.Spelling.{kindSpellable};
-ghost use Rattle.task.specs.Rows.{stepsAt};
+ghost use Rattle.task.specs.Rows.{Rows, stepsAt};
 ghost use Rattle.task.specs.Answers.{asKind};
 use super::marks;
 use super::rows;
@@ -24,7 +24,7 @@ pub enum Kind {
 
 // The kind of the preference that row i opens, hard or soft.
 pub fn kind_at(marks: &[u8], values: &[u8], i: usize) -> Kind
-    requires { ⌜ (4 * length (now marks) ≤ length (now values)) × (length (now marks) ≤ 12000) × (i < length (now marks)) ⌝ }
+    requires { ⌜ Rows (now marks) (now values) × (i < length (now marks)) ⌝ }
     ensures { λ r. ⌜ asKind r ≡ kindOf (softMark (getD (now (marks .entry)) i 0)) (stepsAt (now (marks .entry)) (now (values .entry)) i) ⌝ }
     ensures { λ r. ⌜ T (kindSpellable (asKind r)) ⌝ }
 {

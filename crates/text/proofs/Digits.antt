@@ -6,8 +6,8 @@ use Prim.Native.Nat.{ℕ, zero, suc, _+_, _*_, _-_, _/_, _%_, _≤_, _<_}
 use native.Mathlib.Omega.{arith}
 use lib.Dec.{leb}
 use borrow.Author.Tests.{le-leb, leb-true}
-use Rattle.task.specs.Lists.{all}
-use Rattle.task.proofs.Tests.{both-true, all-append}
+use Rattle.lists.specs.Lists.{all}
+use Rattle.lists.proofs.Tests.{both-true, all-append}
 use Rattle.text.specs.Text.{digit, decimal, isDigit, numberFrom}
 use Rattle.text.proofs.Decimal.{by-size, decimal-one, decimal-more}
 

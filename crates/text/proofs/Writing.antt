@@ -25,12 +25,12 @@ pub length-written : (xs b : List ℕ) (at : ℕ) → length (written xs at b) �
 unfolding written
 length-written xs b at = length-sets b at xs
 
--- a text that fits: the area is the text, and then what stood behind
+-- a text that fits: the area is the text, and then what stood after
 pub written-whole : (xs b : List ℕ) → length xs ≤ length b → written xs 0 b ≡ xs ++ drop (length xs) b
 unfolding written
 written-whole xs b h = let e : 0 + length xs ≡ length xs = omega arith in sets-eq xs b 0 (omega arith) ∙ rw e
 
--- One text behind another
+-- One text after another
 
 pub then : {b mid out : List ℕ} {at j k : ℕ} {xs ys : List ℕ} → Wrote b at xs j mid → Wrote mid j ys k out → Wrote b at (xs ++ ys) k out
 then {b} {mid} {out} {at} {j} {k} {xs} {ys} v w =
@@ -76,7 +76,7 @@ module _ (b : List ℕ) (at : ℕ) where
   pub all-bytes : (word out : List ℕ) (i k : ℕ) → length word ≤ i → Wrote b at (take i word) k out → Wrote b at word k out
   all-bytes word out i k h v = rw (take-all i word h) at v
 
--- A number: its last digit behind the others
+-- A number: its last digit after the others
 
 module _ (b : List ℕ) (at n : ℕ) (h : n < 2 ^ 64) where
   pub one-digit : (out : List ℕ) (k : ℕ) → n < 10 → Wrote b at (digit n) k out → Wrote b at (decimal n) k out × (k ≤ at + 20)

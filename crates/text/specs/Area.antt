@@ -9,7 +9,7 @@ use lib.Seq.{sets}
 unfoldable pub written : List ℕ → ℕ → List ℕ → List ℕ
 written xs at b = sets b at xs
 
--- xs was written into b from place `at` on: r is the place behind it, and out the area then
+-- xs was written into b from place `at` on: r is the place after it, and out the area then
 pub record Wrote (b : List ℕ) (at : ℕ) (xs : List ℕ) (r : ℕ) (out : List ℕ) : Type 0 where
   pub behind : r ≡ at + length xs
   pub area : out ≡ written xs at b

@@ -35,7 +35,7 @@ integer (negsuc n) = ascii "-" ++ decimal (suc n)
 abbrev pub isDigit : ℕ → Bool
 isDigit b = leb 48 b && leb b 57
 
--- the number that the digits in a text make, behind digits that make n
+-- the number that the digits in a text make, after digits that make n
 abbrev pub numberFrom : ℕ → List ℕ → ℕ
 numberFrom n [] = n
 numberFrom n (b ∷ l) = numberFrom (cond (isDigit b) (10 * n + (b - 48)) n) l

@@ -1,5 +1,5 @@
 // Words and numbers, written as text into a lent area. What does not fit is dropped: each function answers the place
-// behind what it was to write, so that a place beyond the area's length says how much was missing.
+// after what it was to write, so that a place beyond the area's length says how much was missing.
 ghost use mathlib.Core.Path.{_≡_};
 ghost use mathlib.Core.List.{[], _∷_, _++_};
 ghost use Prim.Native.Nat.{_+_, _^_, _≤_, _<_};
@@ -27,7 +27,7 @@ pub fn put_byte(out: &mut [u8], at: usize, byte: u8) -> usize
 }
 
 // Writes the bytes of a word.
-pub fn put_word(out: &mut [u8], at: usize, word: &[u8]) -> usize
+pub fn put_bytes(out: &mut [u8], at: usize, word: &[u8]) -> usize
     requires { ⌜ at + length (now word) < 2 ^ 64 ⌝ }
     ensures { λ r. ⌜ Wrote (now (out .entry)) at (now (word .entry)) r (now (out .exit)) ⌝ }
 {
@@ -75,15 +75,15 @@ pub fn put_integer(out: &mut [u8], at: usize, n: i64) -> usize
     }
 }
 
-// Writes a number in decimal, with a word before it and one behind it.
+// Writes a number in decimal, with a word before it and one after it.
 pub fn put_number(out: &mut [u8], at: usize, before: &[u8], n: u64, behind: &[u8]) -> usize
     requires { ⌜ at + length (now before) + 20 + length (now behind) < 2 ^ 64 ⌝ }
     ensures { λ r. ⌜ Wrote (now (out .entry)) at (now (before .entry) ++ (decimal n ++ now (behind .entry))) r (now (out .exit)) ⌝ }
     ensures { λ r. ⌜ r ≤ at + length (now (before .entry)) + 20 + length (now (behind .entry)) ⌝ }
 {
-    let a = put_word(&mut *out, at, before);
+    let a = put_bytes(&mut *out, at, before);
     let b = put_decimal(&mut *out, a, n);
-    put_word(&mut *out, b, behind)
+    put_bytes(&mut *out, b, behind)
 }
 
 // Writes the line of a refusal.

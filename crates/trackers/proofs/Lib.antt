@@ -1,7 +1,4 @@
-pub mod Putting
-pub mod Copying
-pub mod Ends
-pub mod Noting
-pub mod TrackerRows
-pub mod Each
 pub mod Numbering
+pub mod ByMark
+pub mod Tracking
+pub mod TrackerRows

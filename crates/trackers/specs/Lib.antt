@@ -1,4 +1,2 @@
-pub mod Writer
-pub mod Places
 pub mod Rows
 pub mod Trackers

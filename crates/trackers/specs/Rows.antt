@@ -1,103 +1,93 @@
--- The rows that trackers are spelled with, from the rows of φ and ψ.
+-- The table of trackers as rows, from the rows xs of φ and ys of ψ.
 use mathlib.Core.Bool.{Bool, false, cond, _&&_, _||_}
 use mathlib.Core.List.{List, [], _∷_, _++_, map}
-use Prim.Native.Nat.{ℕ, _+_}
+use Prim.Native.Nat.{ℕ, _+_, _≤_, _<_}
 use lib.Dec.{leb, eqb}
-use Rattle.task.specs.Marks.{EFFECT, CLAUSE, HOLDS, LACKS, ADD, DELETE}
+use lib.ListN.{length}
+use Rattle.task.specs.Marks.{EFFECT, HOLDS, LACKS, ADD, DELETE}
 use Rattle.task.specs.Marks.{ALWAYS, SOMETIME, AT-END, AT-MOST-ONCE, SOMETIME-BEFORE, SOMETIME-AFTER, WITHIN, ALWAYS-WITHIN}
-use Rattle.task.specs.Task.{Row, row}
-use Rattle.task.specs.File.{is}
-use Rattle.task.specs.Lists.{numbers, concatMap}
+use Rattle.task.specs.TaskRows.{Row, row}
+use Rattle.lists.specs.Lists.{range, concatMap}
 use Rattle.classical.specs.Translation.{factD}
-use Rattle.trackers.specs.Writer.{part}
-use Rattle.trackers.specs.declared.effects.Guard.{Guard}
-use Rattle.trackers.specs.declared.effects.Guard.the-variants.{Nothing, Holds, Between}
-use Rattle.trackers.specs.declared.effects.Added.{Added}
-use Rattle.trackers.specs.declared.effects.Added.the-variants.{One, Two}
+use Rattle.layout.specs.Sides.{part}
+use Rattle.layout.specs.declared.sides.Sides.{Sides}
+use Rattle.trackers.specs.declared.Facts.{Facts}
+use Rattle.effects.specs.Effects.{singleRows, bothRows, falseRows}
 
--- a clause of one literal
-abbrev pub singleRows : ℕ → ℕ → List Row
-singleRows m n = row CLAUSE 0 ∷ row m n ∷ []
+-- beyond the number of any fact that is written, and far below 2 ^ 32
+abbrev pub BEYOND : ℕ
+BEYOND = 1000000
 
-abbrev pub deniedMark : ℕ → ℕ
-deniedMark m = cond (eqb m HOLDS) LACKS HOLDS
+pub record Small (f : Facts) : Type 0 where
+  pub small-s : f .s < BEYOND
+  pub small-b : f .b < BEYOND
+  pub small-d : f .d < BEYOND
 
--- an effect with the condition xs that changes one fact
-abbrev pub changeRows : List Row → ℕ → ℕ → List Row
-changeRows xs m n = row EFFECT 0 ∷ xs ++ (row m n ∷ [])
+-- both sides are among the source's rows
+pub record SidesInside (ms : List ℕ) (p : Sides) : Type 0 where
+  pub first-inside : p .first .to ≤ length ms
+  pub second-inside : p .second .to ≤ length ms
 
--- Each false clause: gs stand before the denied literals and zs behind them, and the Bool says whether an effect is open
+-- by the rows of both sides
+abbrev pub sided : List ℕ → List ℕ → Sides → (List Row → List Row → List Row) → List Row
+sided ms vs p rowsOf = rowsOf (part ms vs (p .first)) (part ms vs (p .second))
 
-abbrev pub closeRows : Bool → List Row → List Row
-closeRows begun zs = cond begun zs []
+-- an effect with the guard gs and the condition xs that changes one fact
+abbrev pub changeRows : List Row → List Row → ℕ → ℕ → List Row
+changeRows gs xs m n = row EFFECT 0 ∷ gs ++ (xs ++ (row m n ∷ []))
 
-abbrev pub falseRow : List Row → List Row → Bool → ℕ → ℕ → List Row
-falseRow gs zs begun m v = cond (eqb m CLAUSE) (closeRows begun zs ++ (row EFFECT 0 ∷ gs)) (singleRows (deniedMark m) v)
+-- The kinds
 
-unfoldable pub falseRows : List Row → List Row → Bool → List Row → List Row
-falseRows gs zs begun [] = closeRows begun zs
-falseRows gs zs begun (x ∷ xs) = falseRow gs zs begun (x .mark) (x .value) ++ falseRows gs zs (begun || is CLAUSE x) xs
+abbrev pub alwaysRows : Facts → List Row → List Row → List Row
+alwaysRows f xs ys = falseRows [] (row ADD (f .b) ∷ []) false xs
 
--- what stands before the denied literals
-abbrev pub guardRows : List ℕ → List ℕ → Guard → List Row
-guardRows ms vs Nothing = []
-guardRows ms vs (Holds n) = singleRows HOLDS n
-guardRows ms vs (Between from to) = part ms vs from to
+-- where it is wanted
+abbrev pub reachedRows : Facts → Bool → List Row → List Row → List Row
+reachedRows f wanted xs ys = cond wanted (changeRows [] xs ADD (f .s)) []
 
--- the row up to which a guard reads
-abbrev pub guardEnd : Guard → ℕ
-guardEnd Nothing = 0
-guardEnd (Holds n) = 0
-guardEnd (Between from to) = to
+abbrev pub onceRows : Facts → List Row → List Row → List Row
+onceRows f xs ys =
+    changeRows (bothRows LACKS (f .s) (f .b)) xs ADD (f .s)
+    ++ (falseRows (singleRows HOLDS (f .s)) (row ADD (f .b) ∷ []) false xs ++ changeRows (bothRows HOLDS (f .s) (f .b)) xs DELETE (f .s))
 
--- what is added
-abbrev pub addRows : Added → List Row
-addRows (One n) = row ADD n ∷ []
-addRows (Two m n) = row ADD m ∷ row ADD n ∷ []
+abbrev pub beforeRows : Facts → List Row → List Row → List Row
+beforeRows f xs ys = changeRows [] ys ADD (f .s) ++ changeRows (singleRows LACKS (f .s)) xs ADD (f .b)
 
--- The trackers by a preference's mark
-
--- an effect behind two literals of one mark, of S and of B, that changes S
-abbrev pub guardedRows : ℕ → ℕ → ℕ → List Row → ℕ → List Row
-guardedRows g s b xs m = row EFFECT 0 ∷ singleRows g s ++ (singleRows g b ++ (xs ++ (row m s ∷ [])))
-
-abbrev pub onceRows : ℕ → ℕ → List Row → List Row
-onceRows s b xs = guardedRows LACKS s b xs ADD ++ (falseRows (singleRows HOLDS s) (row ADD b ∷ []) false xs ++ guardedRows HOLDS s b xs DELETE)
-
-abbrev pub beforeRows : ℕ → ℕ → List Row → List Row → List Row
-beforeRows s b xs ys = changeRows ys ADD s ++ (row EFFECT 0 ∷ singleRows LACKS s ++ (xs ++ (row ADD b ∷ [])))
-
-abbrev pub afterRows : ℕ → List Row → List Row → List Row
-afterRows b xs ys = falseRows xs (row ADD b ∷ []) false ys ++ changeRows ys DELETE b
+abbrev pub afterRows : Facts → List Row → List Row → List Row
+afterRows f xs ys = falseRows xs (row ADD (f .b) ∷ []) false ys ++ changeRows [] ys DELETE (f .b)
 
 -- D of j holds: D of j + 1 is added; d is the fact before D1
 abbrev pub onwardRows : ℕ → ℕ → List Row
-onwardRows d j = row EFFECT 0 ∷ singleRows HOLDS (d + j) ++ (row ADD (d + (j + 1)) ∷ [])
+onwardRows d j = changeRows (singleRows HOLDS (d + j)) [] ADD (d + (j + 1))
 
 -- D1 to D of t + 1 count the states
 abbrev pub countRows : ℕ → ℕ → List Row
-countRows d t = changeRows [] ADD (d + 1) ++ concatMap (onwardRows d) (numbers 1 t)
+countRows d t = changeRows [] [] ADD (d + 1) ++ concatMap (onwardRows d) (range 1 t)
 
-abbrev pub withinRows : ℕ → ℕ → ℕ → List Row → List Row
-withinRows s d t xs = countRows d t ++ (row EFFECT 0 ∷ singleRows LACKS (d + (t + 1)) ++ (xs ++ (row ADD s ∷ [])))
+abbrev pub withinRows : Facts → ℕ → List Row → List Row → List Row
+withinRows f t xs ys = countRows (f .d) t ++ changeRows (singleRows LACKS (f .d + (t + 1))) xs ADD (f .s)
 
 -- D of j holds with each false clause: D of j + 1 is added
-abbrev pub waitRows : ℕ → ℕ → ℕ → List Row → ℕ → List Row
-waitRows s d t ys j = falseRows (singleRows HOLDS (d + j)) (row ADD (factD t s d (j + 1)) ∷ []) false ys
+abbrev pub waitRows : Facts → ℕ → List Row → ℕ → List Row
+waitRows f t ys j = falseRows (singleRows HOLDS (f .d + j)) (row ADD (factD t (f .s) (f .d) (j + 1)) ∷ []) false ys
 
-abbrev pub resetRows : ℕ → ℕ → ℕ → ℕ → List Row → List Row
-resetRows s b d t ys = row EFFECT 0 ∷ singleRows LACKS s ++ (ys ++ (row DELETE b ∷ map (row DELETE) (numbers (d + 1) t)))
+abbrev pub allWaitRows : Facts → ℕ → List Row → List Row
+allWaitRows f t ys = concatMap (waitRows f t ys) (range 1 t)
 
-abbrev pub soonRows : ℕ → ℕ → ℕ → ℕ → List Row → List Row → List Row
-soonRows s b d t xs ys =
-    falseRows xs (row ADD b ∷ row ADD (factD t s d 1) ∷ []) false ys ++ (concatMap (waitRows s d t ys) (numbers 1 t) ++ resetRows s b d t ys)
+abbrev pub resetRows : Facts → ℕ → List Row → List Row
+resetRows f t ys = changeRows (singleRows LACKS (f .s)) ys DELETE (f .b) ++ map (row DELETE) (range (f .d + 1) t)
 
-unfoldable pub trackerRows : ℕ → Bool → ℕ → ℕ → ℕ → ℕ → List Row → List Row → List Row
-trackerRows m last s b d t xs ys =
-    cond (eqb m ALWAYS) (falseRows [] (row ADD b ∷ []) false xs)
-    (cond (eqb m AT-MOST-ONCE) (onceRows s b xs)
-    (cond (eqb m SOMETIME-BEFORE) (beforeRows s b xs ys)
-    (cond (eqb m SOMETIME-AFTER) (afterRows b xs ys)
-    (cond (eqb m WITHIN) (withinRows s d t xs)
-    (cond (eqb m ALWAYS-WITHIN) (soonRows s b d t xs ys)
-    (cond (leb SOMETIME m && leb m AT-END) (cond (eqb m SOMETIME || last) (changeRows xs ADD s) []) []))))))
+abbrev pub soonRows : Facts → ℕ → List Row → List Row → List Row
+soonRows f t xs ys =
+    falseRows xs (row ADD (f .b) ∷ row ADD (factD t (f .s) (f .d) 1) ∷ []) false ys ++ (allWaitRows f t ys ++ resetRows f t ys)
+
+-- The trackers by a preference's mark; t are its steps, and last says that they stand in end
+unfoldable pub trackerRows : ℕ → ℕ → Bool → Facts → List Row → List Row → List Row
+trackerRows m t last f xs ys =
+    cond (eqb m ALWAYS) (alwaysRows f xs ys)
+    (cond (eqb m AT-MOST-ONCE) (onceRows f xs ys)
+    (cond (eqb m SOMETIME-BEFORE) (beforeRows f xs ys)
+    (cond (eqb m SOMETIME-AFTER) (afterRows f xs ys)
+    (cond (eqb m WITHIN) (withinRows f t xs ys)
+    (cond (eqb m ALWAYS-WITHIN) (soonRows f t xs ys)
+    (cond (leb SOMETIME m && leb m AT-END) (reachedRows f (eqb m SOMETIME || last) xs ys) []))))))

@@ -1,148 +1,154 @@
 // The effects that follow the preferences from state to state, as rows.
 mod deadlines;
-mod effects;
 mod kinds;
-pub mod places;
-pub mod writer;
 
 ghost use mathlib.Core.Path.{_≡_};
-ghost use Prim.Native.Nat.{_+_, _*_, _≤_, _<_};
-ghost use lib.ListN.{length, getD};
-ghost use Rattle.task.specs.File.{softMark};
+ghost use Prim.Native.Nat.{_≤_, _<_};
+ghost use lib.ListN.{length};
 ghost use Rattle.task.specs.Rows.{stepsAt};
-ghost use Rattle.trackers.specs.Writer.{Wrote, part};
-ghost use Rattle.trackers.specs.Trackers.{WroteAt, WroteFor, preferenceTrackers, allTrackerRows, Further};
-ghost use Rattle.trackers.specs.Rows.{trackerRows};
-use deadlines::Deadline;
-use places::Sides;
+ghost use Rattle.task.specs.Answers.{asKind};
+ghost use Rattle.classical.specs.Translation.{furtherFacts};
+ghost use Rattle.task.specs.Rows.{Rows};
+ghost use Rattle.writer.specs.Writer.{Room, Wrote};
+ghost use Rattle.trackers.specs.Rows.{SidesInside, Small};
+ghost use Rattle.trackers.specs.Trackers.{trackersWith, trackersAt, furtherAt, trackersBy};
+use layout::sides;
+use layout::sides::Sides;
+use task::kinds::Kind;
 use task::marks;
 use task::rows;
+use writer::Cursor;
 
-// What the deadline of the preference at row `at` is tracked with.
-fn deadline(marks: &[u8], values: &[u8], at: usize, s: u32, d: u32) -> Deadline
-    requires { ⌜ (4 * length (now marks) ≤ length (now values)) × (length (now marks) ≤ 12000) × (at < length (now marks)) × (s < 1000000) × (d < 1000000) ⌝ }
-    ensures { λ r. ⌜ r ≡ record { steps = stepsAt (now (marks .entry)) (now (values .entry)) at; s = s; b = s + 1; d = d } ⌝ }
-    ensures { λ r. ⌜ (r .steps < 16) × (r .d < 1000000) ⌝ }
-{
-    let steps = rows::steps_at(marks, values, at);
-    Deadline {
-        steps: steps as u32,
-        s,
-        b: s + 1,
-        d,
-    }
+// The facts S and B of a preference, and the fact before D1.
+pub(crate) struct Facts {
+    pub s: u32,
+    pub b: u32,
+    pub d: u32,
 }
 
-// The trackers of the preference at row `at`, by its mark. `last` says that they stand in end; d is the fact before D1.
+// The steps of the preference at row `at`, where its kind has them.
+fn steps_of(marks: &[u8], values: &[u8], at: usize) -> u32
+    requires { ⌜ Rows (now marks) (now values) × (at < length (now marks)) ⌝ }
+    ensures { λ r. ⌜ (r ≡ stepsAt (now (marks .entry)) (now (values .entry)) at) × (r < 16) ⌝ }
+{
+    let steps = rows::steps_at(marks, values, at);
+    steps as u32
+}
+
+// The trackers of the preference at row `at`, by its mark; `last` says that they stand in end.
 fn trackers_of(
     out: &mut [u8],
-    n: usize,
-    i: usize,
+    c: Cursor,
     marks: &[u8],
     values: &[u8],
     at: usize,
     p: Sides,
-    s: u32,
-    d: u32,
+    f: Facts,
     last: bool,
-) -> usize
-    requires { ⌜ (n ≤ 12000) × (8 + 5 * n ≤ length (now out)) × (4 * length (now marks) ≤ length (now values)) × (length (now marks) ≤ 12000) × (at < length (now marks)) × (p .mid ≤ length (now marks)) × (p .next ≤ length (now marks)) × (s < 1000000) × (d < 1000000) ⌝ }
-    ensures { λ r. ⌜ Wrote (now (out .entry)) n i (trackerRows (softMark (getD (now (marks .entry)) at 0)) last s (s + 1) d (stepsAt (now (marks .entry)) (now (values .entry)) at) (part (now (marks .entry)) (now (values .entry)) (p .first) (p .mid)) (part (now (marks .entry)) (now (values .entry)) (p .second) (p .next))) r (now (out .exit)) ⌝ }
+) -> Cursor
+    requires { ⌜ Room c (now out) × Rows (now marks) (now values) × (at < length (now marks)) × SidesInside (now marks) p × Small f ⌝ }
+    ensures { λ r. ⌜ Wrote (now (out .entry)) c (trackersWith (now (marks .entry)) (now (values .entry)) at p f last) r (now (out .exit)) ⌝ }
 {
-    let b = s + 1;
     let mark = task::soft_mark(marks[at]);
     match mark {
-        marks::ALWAYS => kinds::always(&mut *out, n, i, marks, values, p.first, p.mid, b),
-        marks::AT_MOST_ONCE => {
-            kinds::at_most_once(&mut *out, n, i, marks, values, p.first, p.mid, s, b)
-        }
+        marks::ALWAYS => kinds::always(&mut *out, c, marks, values, p, f),
         marks::SOMETIME..=marks::AT_END => {
             let wanted = (mark == marks::SOMETIME) | last;
-            kinds::reached(&mut *out, n, i, marks, values, p.first, p.mid, wanted, s)
+            kinds::reached(&mut *out, c, marks, values, p, f, wanted)
         }
-        marks::SOMETIME_BEFORE => kinds::sometime_before(&mut *out, n, i, marks, values, p, s, b),
-        marks::SOMETIME_AFTER => kinds::sometime_after(&mut *out, n, i, marks, values, p, b),
+        marks::AT_MOST_ONCE => kinds::at_most_once(&mut *out, c, marks, values, p, f),
+        marks::SOMETIME_BEFORE => kinds::sometime_before(&mut *out, c, marks, values, p, f),
+        marks::SOMETIME_AFTER => kinds::sometime_after(&mut *out, c, marks, values, p, f),
         marks::WITHIN => {
-            let t = deadline(marks, values, at, s, d);
-            deadlines::within(&mut *out, n, i, marks, values, p.first, p.mid, t)
+            let steps = steps_of(marks, values, at);
+            deadlines::within(&mut *out, c, marks, values, p, f, steps)
         }
         marks::ALWAYS_WITHIN => {
-            let t = deadline(marks, values, at, s, d);
-            deadlines::always_within(&mut *out, n, i, marks, values, p, t)
+            let steps = steps_of(marks, values, at);
+            deadlines::always_within(&mut *out, c, marks, values, p, f, steps)
         }
-        _ => i,
+        _ => c,
     }
 }
 
 // The trackers of the preference at row `at`. at-end has none but in end, and its rows are not gone through.
 fn trackers_at(
     out: &mut [u8],
-    n: usize,
-    i: usize,
+    c: Cursor,
     marks: &[u8],
     values: &[u8],
     at: usize,
-    s: u32,
-    d: u32,
+    f: Facts,
     last: bool,
-) -> usize
-    requires { ⌜ (n ≤ 12000) × (8 + 5 * n ≤ length (now out)) × (4 * length (now marks) ≤ length (now values)) × (length (now marks) ≤ 12000) × (s < 1000000) × (d < 1000000) ⌝ }
-    ensures { λ r. ⌜ WroteAt (now (marks .entry)) (now (values .entry)) at (preferenceTrackers last s d) (now (out .entry)) n i r (now (out .exit)) ⌝ }
+) -> Cursor
+    requires { ⌜ Room c (now out) × Rows (now marks) (now values) × Small f ⌝ }
+    ensures { λ r. ⌜ Wrote (now (out .entry)) c (trackersAt (now (marks .entry)) (now (values .entry)) at f last) r (now (out .exit)) ⌝ }
 {
     if marks.len() <= at {
-        return i;
+        return c;
     }
     let mark = task::soft_mark(marks[at]);
     if (mark == marks::AT_END) & !last {
-        return i;
+        return c;
     }
-    let p = places::locate(marks, at);
-    trackers_of(&mut *out, n, i, marks, values, at, p, s, d, last)
+    let p = sides::locate(marks, at);
+    trackers_of(&mut *out, c, marks, values, at, p, f, last)
 }
 
-// How many facts D1, D2 and so on the preference at row `at` has.
+// How many facts D1, D2 and so on a preference has.
+fn further(kind: Kind) -> u32
+    ensures { λ r. ⌜ (r ≡ furtherFacts (asKind kind)) × (r ≤ 256) ⌝ }
+{
+    match kind {
+        Kind::Always => 0,
+        Kind::Sometime => 0,
+        Kind::AtEnd => 0,
+        Kind::AtMostOnce => 0,
+        Kind::SometimeBefore => 0,
+        Kind::SometimeAfter => 0,
+        Kind::Within(steps) => (steps as u32) + 1,
+        Kind::AlwaysWithin(steps) => steps as u32,
+    }
+}
+
+// How many the preference at row `at` has.
 fn further_at(marks: &[u8], values: &[u8], at: usize) -> u32
-    requires { ⌜ (4 * length (now marks) ≤ length (now values)) × (length (now marks) ≤ 12000) ⌝ }
-    ensures { λ r. ⌜ (r ≤ 16) × Further (now (marks .entry)) (now (values .entry)) at r ⌝ }
+    requires { ⌜ Rows (now marks) (now values) ⌝ }
+    ensures { λ r. ⌜ (r ≡ furtherAt (now (marks .entry)) (now (values .entry)) at) × (r ≤ 256) ⌝ }
 {
     if marks.len() <= at {
         return 0;
     }
-    let mark = task::soft_mark(marks[at]);
-    match mark {
-        marks::WITHIN => (rows::steps_at(marks, values, at) as u32) + 1,
-        marks::ALWAYS_WITHIN => rows::steps_at(marks, values, at) as u32,
-        _ => 0,
-    }
+    further(task::kinds::kind_at(marks, values, at))
 }
 
 // The trackers of all preferences, by the rows at which they begin.
 pub fn all_trackers(
     out: &mut [u8],
-    n: usize,
-    i: usize,
+    c: Cursor,
     marks: &[u8],
     values: &[u8],
     starts: &[usize],
     facts: u32,
     last: bool,
-) -> usize
-    requires { ⌜ (n ≤ 12000) × (8 + 5 * n ≤ length (now out)) × (4 * length (now marks) ≤ length (now values)) × (length (now marks) ≤ 12000) × (length (now starts) ≤ 16) × (facts ≤ 128) ⌝ }
-    ensures { λ r. ⌜ WroteFor (now (marks .entry)) (now (values .entry)) (now (starts .entry)) (allTrackerRows last facts) (now (out .entry)) n i r (now (out .exit)) ⌝ }
+) -> Cursor
+    requires { ⌜ Room c (now out) × Rows (now marks) (now values) × (length (now starts) ≤ 16) × (facts ≤ 128) ⌝ }
+    ensures { λ r. ⌜ Wrote (now (out .entry)) c (trackersBy (now (marks .entry)) (now (values .entry)) (now (starts .entry)) facts last) r (now (out .exit)) ⌝ }
 {
-    let mut k = i;
+    let mut k = c;
     let mut s = facts;
     let mut d = facts + 3 * (starts.len() as u32) + 1;
-    let mut c = 0;
-    while c < starts.len() {
-        if writer::TOO_MANY <= k {
+    let mut i = 0;
+    while i < starts.len() {
+        if writer::TOO_MANY <= k.next {
             return k;
         }
-        let at = starts[c];
-        k = trackers_at(&mut *out, n, k, marks, values, at, s, d, last);
+        let at = starts[i];
+        let f = Facts { s, b: s + 1, d };
+        k = trackers_at(&mut *out, k, marks, values, at, f, last);
         s += 3;
         d += further_at(marks, values, at);
-        c += 1;
+        i += 1;
     }
     k
 }

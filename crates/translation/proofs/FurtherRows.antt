@@ -7,20 +7,21 @@ use native.Mathlib.Nat.{zero-add}
 use native.Mathlib.Omega.{arith}
 use lib.Dec.{T, leb, leb→le}
 use lib.ListN.{length, drop, getD}
-use Rattle.task.specs.Lists.{all, concatMap, sum}
+use Rattle.lists.specs.Lists.{all, concatMap, sum}
 use Rattle.task.specs.Marks.{START, GOAL, WITHIN, STEPS, HARD}
-use Rattle.task.specs.Task.{Kind, always, sometime, at-end, at-most-once, sometime-before, sometime-after, within, always-within, Action, Preference, Task, Row, row}
-use Rattle.task.specs.Task.{openingMark, stepsRows, conditionRows, effectRows, actionRows, preferenceRows, taskRows}
-use Rattle.task.specs.File.{is, paired}
-use Rattle.task.specs.Check.{mostSteps}
+use Rattle.meaning.specs.Task.{Kind, always, sometime, at-end, at-most-once, sometime-before, sometime-after, within, always-within, Action, Preference, Task}
+use Rattle.task.specs.TaskRows.{Row, row}
+use Rattle.task.specs.TaskRows.{openingMark, stepsRows, conditionRows, effectRows, actionRows, preferenceRows, taskRows}
+use Rattle.task.specs.File.{hasMark, paired}
 use Rattle.task.specs.Spelling.{kindSpellable, preferenceSpellable, spellable}
 use Rattle.task.specs.Rows.{valueAt}
 use Rattle.classical.specs.Translation.{furtherFacts, further}
-use Rattle.task.proofs.Tests.{tests, as-false, all-both, all-map, all-concat}
+use Rattle.lists.proofs.Tests.{tests, as-false, all-both, all-map, all-concat}
 use Rattle.task.proofs.Passing.{conditionsOf, condition-passes, effects-pass, conditions-pass}
 use Rattle.task.proofs.Reading.{row-at, row-end}
 use Rattle.task.proofs.Positions.{front}
 use Rattle.translation.specs.Further.{furtherRow, furtherRows}
+use Rattle.task.specs.Limits.{MAX-DEADLINE}
 
 -- Rows one after the other
 
@@ -30,12 +31,12 @@ further-append (x ∷ xs) ys = let e : furtherRows (xs ++ ys) ≡ furtherRows xs
 
 -- rows of other marks
 abbrev quiet : Row → Bool
-quiet x = not (is STEPS x) && not (is WITHIN x || is (WITHIN + HARD) x)
+quiet x = not (hasMark STEPS x) && not (hasMark WITHIN x || hasMark (WITHIN + HARD) x)
 
 quiet-rows : (xs : List Row) → T (all quiet xs) → furtherRows xs ≡ 0
 quiet-rows [] t = refl
 quiet-rows (x ∷ xs) t =
-    let e : furtherRow x ≡ 0 = rw (as-false (is STEPS x) (search tests), as-false (is WITHIN x || is (WITHIN + HARD) x) (search tests)) in
+    let e : furtherRow x ≡ 0 = rw (as-false (hasMark STEPS x) (search tests), as-false (hasMark WITHIN x || hasMark (WITHIN + HARD) x) (search tests)) in
     omega (arith, e, quiet-rows xs (search tests))
 
 -- A preference
@@ -48,16 +49,16 @@ head-further true at-end w t = refl
 head-further true at-most-once w t = refl
 head-further true sometime-before w t = refl
 head-further true sometime-after w t = refl
-head-further true (within n) w t = let few : n ≤ 15 = leb→le n mostSteps t in omega arith
-head-further true (always-within n) w t = let few : n ≤ 15 = leb→le n mostSteps t in omega arith
+head-further true (within n) w t = let few : n ≤ 15 = leb→le n MAX-DEADLINE t in omega arith
+head-further true (always-within n) w t = let few : n ≤ 15 = leb→le n MAX-DEADLINE t in omega arith
 head-further false always w t = refl
 head-further false sometime w t = refl
 head-further false at-end w t = refl
 head-further false at-most-once w t = refl
 head-further false sometime-before w t = refl
 head-further false sometime-after w t = refl
-head-further false (within n) w t = let few : n ≤ 15 = leb→le n mostSteps t in omega arith
-head-further false (always-within n) w t = let few : n ≤ 15 = leb→le n mostSteps t in omega arith
+head-further false (within n) w t = let few : n ≤ 15 = leb→le n MAX-DEADLINE t in omega arith
+head-further false (always-within n) w t = let few : n ≤ 15 = leb→le n MAX-DEADLINE t in omega arith
 
 preference-further : (q : Preference) → T (kindSpellable (q .kind)) → furtherRows (preferenceRows q) ≡ furtherFacts (q .kind)
 preference-further q t =

@@ -1,6 +1,6 @@
 -- A task file translated, from what check answers.
-use mathlib.Core.Path.{_≡_, refl, sym, ap, ap₂, _∙_, subst⁻¹}
-use mathlib.Core.Bool.{Bool, true, false, cond, _&&_}
+use mathlib.Core.Path.{_≡_, refl, sym, ap, ap₂, _∙_, subst, subst⁻¹}
+use mathlib.Core.Bool.{Bool, true, false, cond, _&&_, _||_}
 use mathlib.Core.List.{List, _++_}
 use Prim.Native.Nat.{ℕ, _+_, _*_, _-_, _≤_, _<_}
 use native.Mathlib.Omega.{arith}
@@ -8,9 +8,12 @@ use lib.Dec.{T, leb, leb→le}
 use lib.ListN.{length, take, drop}
 use lib.Seq.{sets, sets-eq, length-sets, take-at, drop-append-add, drop-drop}
 use borrow.Author.Tests.{le-leb, lt-leb, leb-true}
-use Rattle.task.specs.Task.{Task, Row, taskRows}
+use Rattle.lists.specs.Lists.{all, isEmpty}
+use Rattle.meaning.specs.Task.{Preference, Task, two-sided}
+use Rattle.task.specs.TaskRows.{Row, taskRows}
+use Rattle.task.specs.Spelling.{preferenceSpellable, spellable}
 use Rattle.task.specs.File
-use Rattle.task.specs.File.{paired, sizes, sizesOf, taskOf, bytes16, fileOf}
+use Rattle.task.specs.File.{paired, sizes, sizesOf, taskOfRows, taskOf, bytes16, fileOf}
 use Rattle.task.specs.Check
 use Rattle.task.specs.Check.{check}
 use Rattle.task.specs.Answers.{answer as checked, asSizes, refusalIn}
@@ -18,7 +21,8 @@ use Rattle.task.specs.declared.Sizes.{Sizes}
 use Rattle.task.specs.declared.Refusal.{Refusal}
 use Rattle.task.specs.declared.Checked.{Checked}
 use Rattle.task.specs.declared.Checked.the-variants.{Accepted, Refused}
-use Rattle.task.proofs.Tests.{tests}
+use Rattle.lists.proofs.Tests.{tests, all-implies}
+use Rattle.task.proofs.RoundTrip.{task-back}
 use Rattle.task.proofs.Bytes.{file-length}
 use Rattle.task.proofs.Spelled.{Spelling, accepted-spelling}
 use Rattle.task.proofs.Checking.{within as limits}
@@ -26,15 +30,17 @@ use Rattle.task.proofs.Answered.{parts-spell}
 use Rattle.classical.specs.Translation.{further, translated, compiled, compiledRows, translatedSizes}
 use Rattle.translation.specs.Further.{furtherRows}
 use Rattle.translation.proofs.FurtherRows.{task-further}
-use Rattle.trackers.specs.Writer.{rowBehind, putRows, Wrote, header}
-use Rattle.translation.specs.Whole.{Fitted, Fits}
+use Rattle.writer.specs.Writer.{rowAfter, putRows, Wrote, header}
+use Rattle.writer.specs.declared.Cursor.{Cursor}
+use Rattle.translation.specs.Parts.{readTask, Source}
+use Rattle.translation.specs.Whole.{Sized, Fitted}
 use Rattle.outcome.specs.Outcome.{written, refused, areaAfter}
 use Rattle.outcome.specs.Answers.{answer}
 use Rattle.outcome.specs.declared.Outcome.{Outcome}
 use Rattle.outcome.proofs.Outcomes.{not-written, same-written}
 use Rattle.translation.specs.Translated.{rowsFitted, smallEnough, outcomeBy, outcome, Delivered}
 use Rattle.classical.specs.Claim.{Faithful}
-use Rattle.trackers.proofs.Putting.{whole-file}
+use Rattle.writer.proofs.Putting.{whole-file}
 use Rattle.classical.proofs.Spellable.{translated-sizes}
 use Rattle.classical.proofs.Written.{Written, written as written-file}
 
@@ -47,7 +53,7 @@ headed b h e l =
 
 -- The area
 
-module _ (m n room : ℕ) (e : n ≡ rowBehind 0 m) where
+module _ (m n room : ℕ) (e : n ≡ rowAfter 0 m) where
   pub too-many : 12000 < n → refused 8 0 ≡ rowsFitted m room
   too-many h = let l : 12000 < m = omega arith in rw (lt-leb m 12000 l)
 
@@ -68,10 +74,10 @@ module _ (m n room : ℕ) (e : n ≡ rowBehind 0 m) where
 pub stays : (t : Task) (b : List ℕ) (r : Outcome) (k : ℕ) → answer r ≡ refused k 0 → refused k 0 ≡ rowsFitted (length (taskRows (translated t))) (length b) → Fitted t b r b
 stays t b r k e f = record { answering = e ∙ f; area = sym (ap (areaAfter (fileOf (translated t)) b) e) }
 
--- written: the file, and then what stood behind it
+-- written: the file, and then what stood after it
 module _ (t : Task) (F A P D : ℕ) (facts : F ≡ t .facts) (acts : A ≡ length (t .actions)) (prefs : P ≡ length (t .preferences)) (more : D ≡ further (t .preferences))
-    (b mid out : List ℕ) (n k : ℕ) (counted : n ≡ rowBehind 0 (length (taskRows (translated t)))) (few : n ≤ 12000) (room : 8 + 5 * n ≤ length b)
-    (sized : mid ≡ sets b 0 (header (F + 3 * P + 2 + D) (A + 2 * P + 1) n)) (w : Wrote mid n 0 (taskRows (translated t)) k out) where
+    (b mid out : List ℕ) (n : ℕ) (k : Cursor) (counted : n ≡ rowAfter 0 (length (taskRows (translated t)))) (few : n ≤ 12000) (room : 8 + 5 * n ≤ length b)
+    (sized : mid ≡ sets b 0 (header (F + 3 * P + 2 + D) (A + 2 * P + 1) 0 n)) (w : Wrote mid (record { rows = n; next = 0 }) (taskRows (translated t)) k out) where
   abbrev xs : List Row
   xs = taskRows (translated t)
 
@@ -111,12 +117,16 @@ module _ (t : Task) (F A P D : ℕ) (facts : F ≡ t .facts) (acts : A ≡ lengt
   pub file-put : out ≡ fileOf (translated t) ++ drop (8 + 5 * n) b
   unfolding top
   file-put =
-      let long : 8 + 5 * length xs ≤ length mid = omega (arith, ap length sized, length-sets b 0 (header (F + 3 * P + 2 + D) (A + 2 * P + 1) n)) in
+      let long : 8 + 5 * length xs ≤ length mid = omega (arith, ap length sized, length-sets b 0 (header (F + 3 * P + 2 + D) (A + 2 * P + 1) 0 n)) in
       w .file
       ∙ ap (λ (m : ℕ). putRows mid m 0 xs) n-is
       ∙ whole-file mid (translated t .facts) (length (translated t .actions)) (length (translated t .preferences)) xs long
       (ap (take 8) mid-is ∙ take-at top (drop 8 b) 8 refl)
       ∙ ap (λ (l : List ℕ). fileOf (translated t) ++ l) behind
+
+-- each preference of a spellable task is spellable
+spelled-preferences : (t : Task) → T (spellable t) → T (all preferenceSpellable (t .preferences))
+spelled-preferences t s = search tests
 
 -- Demand 3
 
@@ -226,12 +236,40 @@ module _ (b area : List ℕ) (x : Checked) (e : checked x ≡ check b) where
           leb→le (z .actions + 2 * z .preferences + 1) 128 (search tests),
         )
 
+    abbrev ms : List ℕ
+    ms = take (8 + z .rows - 8) (drop 8 b)
+
+    abbrev vs : List ℕ
+    vs = take (length b - (8 + z .rows)) (drop (8 + z .rows) b)
+
+    sized : asSizes z ≡ sizesOf (taskOf b)
+    sized = sym (spelling .sized)
+
+    -- the rows are read as the task in b
+    reads : readTask (z .facts) ms vs ≡ taskOf b
+    reads =
+        (λ i. taskOfRows (sized i .facts) (parts-spell b (asSizes z) accepted i))
+        ∙ task-back (taskOf b) (all-implies preferenceSpellable (λ (q : Preference). two-sided (q .kind) || isEmpty (q .second)) (λ q p. search tests) (taskOf b .preferences) (spelled-preferences (taskOf b) (spelling .spelling)))
+
+    pub put-source : (d : ℕ) → Counted d → smallEnough (asSizes z) d ≡ true → Sized ms vs (z .facts) (z .actions) (z .preferences) d
+    put-source d e h =
+        record {
+          source = record {
+            spelled = parts-spell b (asSizes z) accepted ∙ ap taskRows (sym reads);
+            spelling = subst⁻¹ (λ (t : Task). T (spellable t)) reads (spelling .spelling);
+            many = ap (λ (y : File.Sizes). y .preferences) sized ∙ ap (λ (t : Task). length (t .preferences)) (sym reads);
+            some-facts = within .1;
+            few-facts = omega (arith, small d h .0);
+            few-preferences = within .4;
+          };
+          actions-are = ap (λ (y : File.Sizes). y .actions) sized ∙ ap (λ (t : Task). length (t .actions)) (sym reads);
+          further-are = counted-is d e ∙ ap (λ (t : Task). further (t .preferences)) (sym reads);
+          few-facts = small d h .0;
+          few-actions = small d h .1;
+        }
+
     pub put : (d : ℕ) → Counted d → smallEnough (asSizes z) d ≡ true → (r : Outcome) (out : List ℕ)
-        → Fits (take (8 + z .rows - 8) (drop 8 b)) (take (length b - (8 + z .rows)) (drop (8 + z .rows) b)) (z .facts) (z .actions) (z .preferences) d area r out
-        → Promised b area r out
+        → Fitted (readTask (z .facts) ms vs) area r out → Promised b area r out
     put d e h r out fits =
-        let sized : asSizes z ≡ sizesOf (taskOf b) = sym (spelling .sized) in
-        let f : Fitted (taskOf b) area r out =
-        fits (taskOf b) (parts-spell b (asSizes z) accepted) (spelling .spelling) (ap (λ (y : File.Sizes). y .facts) sized) (ap (λ (y : File.Sizes). y .actions) sized) (ap (λ (y : File.Sizes). y .preferences) sized)
-        (counted-is d e) in
+        let f : Fitted (taskOf b) area r out = subst (λ (t : Task). Fitted t area r out) reads fits in
         promised b area r out (f .answering ∙ (rw (test-is d e true h) at on-task)) (f .area)

@@ -1,4 +1,4 @@
--- What translate answers on a task file and an output area, and what it delivers: document 01, 'Refused', and demand 3.
+-- What translate answers on a task file and an output area, and what it delivers: document 01, 'Refused', and faithfulness (demand 3).
 use mathlib.Core.Path.{_≡_}
 use mathlib.Core.Bool.{Bool, cond, _&&_}
 use mathlib.Core.List.{List}
@@ -11,19 +11,21 @@ use Rattle.task.specs.Check.{Answer, check}
 use Rattle.outcome.specs.Outcome.{Outcome, refused, fitted}
 use Rattle.classical.specs.Translation.{further, translatedSizes, compiledRows}
 use Rattle.classical.specs.Claim.{Faithful}
+use Rattle.task.specs.Limits.{MAX-ACTIONS, MAX-FACTS, MAX-ROWS}
+use Rattle.task.specs.Refused.{TOO-MANY, TRANSLATION-ROWS}
 
 -- a translation of n rows, for an area of so many bytes
 abbrev pub rowsFitted : ℕ → ℕ → Outcome
-rowsFitted n room = cond (leb n 12000) (fitted (8 + 5 * n) room) (refused 8 0)
+rowsFitted n room = cond (leb n MAX-ROWS) (fitted (8 + 5 * n) room) (refused TRANSLATION-ROWS 0)
 
 -- the facts and the actions of the translation are few enough, with d facts D
 abbrev pub smallEnough : Sizes → ℕ → Bool
-smallEnough z d = leb (z .facts + 3 * z .preferences + 2 + d) 128 && leb (z .actions + 2 * z .preferences + 1) 128
+smallEnough z d = leb (z .facts + 3 * z .preferences + 2 + d) MAX-FACTS && leb (z .actions + 2 * z .preferences + 1) MAX-ACTIONS
 
 -- the task in b is translated where check has accepted it
 abbrev pub outcomeBy : List ℕ → ℕ → Answer → Outcome
 outcomeBy b room (Check.refused n i) = refused n i
-outcomeBy b room (Check.accepted z) = cond (smallEnough z (further (taskOf b .preferences))) (rowsFitted (compiledRows b) room) (refused 7 0)
+outcomeBy b room (Check.accepted z) = cond (smallEnough z (further (taskOf b .preferences))) (rowsFitted (compiledRows b) room) (refused TOO-MANY 0)
 
 unfoldable pub outcome : List ℕ → ℕ → Outcome
 outcome b room = outcomeBy b room (check b)

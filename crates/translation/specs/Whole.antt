@@ -1,28 +1,31 @@
--- What is counted and what is written where the rows spell a whole task.
+-- What is written where the rows spell a whole task.
 use mathlib.Core.Path.{_≡_}
 use mathlib.Core.List.{List}
-use Prim.Native.Nat.{ℕ}
-use lib.Dec.{T}
+use Prim.Native.Nat.{ℕ, _+_, _*_, _≤_}
 use lib.ListN.{length}
-use Rattle.task.specs.Task.{Task, taskRows}
-use Rattle.task.specs.File.{paired, fileOf}
-use Rattle.task.specs.Spelling.{spellable}
+use Rattle.meaning.specs.Task.{Task}
+use Rattle.task.specs.TaskRows.{Row, taskRows}
+use Rattle.task.specs.File.{fileOf}
 use Rattle.classical.specs.Translation.{further, translated}
-use Rattle.trackers.specs.Writer.{rowBehind}
 use Rattle.outcome.specs.Outcome.{areaAfter}
 use Rattle.outcome.specs.Answers.{answer}
 use Rattle.outcome.specs.declared.Outcome.{Outcome}
+use Rattle.translation.specs.Parts.{readTask, Source}
 use Rattle.translation.specs.Translated.{rowsFitted}
 
-abbrev pub Counts : List ℕ → List ℕ → ℕ → ℕ → ℕ → Type 0
-Counts ms vs F P r =
-    (t : Task) → paired ms vs ≡ taskRows t → T (spellable t) → F ≡ t .facts → P ≡ length (t .preferences) → r ≡ rowBehind 0 (length (taskRows (translated t)))
+-- the rows of the translation of the task that the rows are read as
+abbrev pub translatedRows : List ℕ → List ℕ → ℕ → List Row
+translatedRows ms vs F = taskRows (translated (readTask F ms vs))
 
+-- it has A actions and D facts D1, D2, …, and its translation is not too large
+pub record Sized (ms vs : List ℕ) (F A P D : ℕ) : Type 0 where
+  pub source : Source ms vs F P
+  pub actions-are : A ≡ length (readTask F ms vs .actions)
+  pub further-are : D ≡ further (readTask F ms vs .preferences)
+  pub few-facts : F + 3 * P + 2 + D ≤ 128
+  pub few-actions : A + 2 * P + 1 ≤ 128
+
+-- r is due for the translation of t and an area as long as b, and the area holds what r says
 pub record Fitted (t : Task) (b : List ℕ) (r : Outcome) (out : List ℕ) : Type 0 where
   pub answering : answer r ≡ rowsFitted (length (taskRows (translated t))) (length b)
   pub area : out ≡ areaAfter (fileOf (translated t)) b (answer r)
-
-abbrev pub Fits : List ℕ → List ℕ → ℕ → ℕ → ℕ → ℕ → List ℕ → Outcome → List ℕ → Type 0
-Fits ms vs F A P D b r out =
-    (t : Task) → paired ms vs ≡ taskRows t → T (spellable t) → F ≡ t .facts → A ≡ length (t .actions) → P ≡ length (t .preferences)
-    → D ≡ further (t .preferences) → Fitted t b r out

@@ -1,9 +1,9 @@
 // The facts D1, D2 and so on of all preferences.
 ghost use mathlib.Core.Path.{_≡_};
-ghost use Prim.Native.Nat.{_*_, _≤_};
-ghost use lib.ListN.{length};
-ghost use Rattle.task.specs.Task.{row};
+ghost use Prim.Native.Nat.{_≤_};
+ghost use Rattle.task.specs.TaskRows.{row};
 ghost use Rattle.task.specs.File.{paired};
+ghost use Rattle.task.specs.Rows.{Rows};
 ghost use Rattle.translation.specs.Further.{furtherRow, furtherRows};
 use task::marks;
 use task::rows;
@@ -21,7 +21,7 @@ fn count_row(mark: u8, value: u32) -> u32
 
 // How many there are.
 pub fn count(marks: &[u8], values: &[u8]) -> u32
-    requires { ⌜ (4 * length (now marks) ≤ length (now values)) × (length (now marks) ≤ 12000) ⌝ }
+    requires { ⌜ Rows (now marks) (now values) ⌝ }
     ensures { λ r. ⌜ (r ≡ furtherRows (paired (now (marks .entry)) (now (values .entry)))) × (r ≤ 192000) ⌝ }
 {
     let mut d = 0;

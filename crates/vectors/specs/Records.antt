@@ -6,7 +6,7 @@ use lib.ListN.{length, drop}
 use Rattle.vectors.specs.declared.records.Next.{Next}
 use Rattle.vectors.specs.declared.records.Next.the-variants.{Record, Nothing}
 
--- The buffer that held `was` and now holds `is`: a record lies at its start, and behind the record nothing has changed.
+-- The buffer that held `was` and now holds `is`: a record lies at its start, and after the record nothing has changed.
 -- Where there is no record, any of its bytes may have changed.
 abbrev pub Filled : Next → List ℕ → List ℕ → Type 0
 Filled (Record n) was is = (n ≤ length is) × (drop n is ≡ drop n was)

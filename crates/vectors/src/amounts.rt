@@ -4,7 +4,7 @@
 use super::lines;
 use super::records;
 use super::records::Next;
-use plan::Settled;
+use settling::Settled;
 use task::rows;
 
 // A number of 64 bits, from its halves.
@@ -15,7 +15,7 @@ fn joined(low: u32, high: u32) -> u64 {
 fn settle(file: &[u8], b: &[u8; 16]) -> Settled {
     let cost = joined(rows::value_at(b, 0), rows::value_at(b, 1));
     let met = joined(rows::value_at(b, 2), rows::value_at(b, 3));
-    plan::settle(file, cost, met)
+    settling::settle(file, cost, met)
 }
 
 // Settles the next cost and met preferences, and answers whether there were any.

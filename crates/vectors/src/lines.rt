@@ -1,9 +1,9 @@
 // Parts of the lines that are written about vectors.
 use libc::STDOUT_FILENO;
-use plan::Worth;
+use settling::Worth;
 use task::Refusal;
 
-// Writes words and a number behind them.
+// Writes words and a number after them.
 pub fn write_amount(words: &[u8], n: u64) {
     io::write_all(STDOUT_FILENO, words);
     io::print_decimal(STDOUT_FILENO, n);

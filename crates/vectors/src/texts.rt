@@ -5,14 +5,14 @@ use super::records;
 use super::records::Next;
 use libc::STDOUT_FILENO;
 use outcome::Outcome;
-use plan::Settled;
 use plan::Solution;
 use plan::Verdict;
 use plan::Walked;
+use settling::Settled;
 
 // Writes what a plan that solves costs, its metric and its utility.
 fn write_solution(file: &[u8], s: Solution) {
-    let settled = plan::settle(file, s.cost, s.met);
+    let settled = settling::settle(file, s.cost, s.met);
     match settled {
         Settled::Given(w) => {
             lines::write_amount(b"solved cost ", s.cost);

@@ -1,3 +1,4 @@
+-- The first step that is not known, by the laws of a search (`Seeking` of layout).
 use borrow.Author.Needs.{needs}
 use mathlib.Core.Path.{_≡_, sym, _∙_}
 use Prim.Native.Nat.{_+_, _-_}
@@ -8,7 +9,7 @@ use lib.Dec.{leb}
 use lib.ListN.{length, drop}
 use borrow.Author.Tests.{le-leb, lt-leb}
 use Rattle.plan.specs.Judged.{stepsKnown}
-use Rattle.plan.proofs.Seeking.{upTo-here, upTo-on, upTo-end}
+use Rattle.layout.proofs.Seeking.{takeUntil-here, takeUntil-on, takeUntil-end}
 use Rattle.plan.proofs.steps_known.Statement.{statement}
 use Rattle.plan.proofs.steps_known.Tie as tie
 
@@ -21,51 +22,31 @@ abbrev μ-loop : tie.MeasureT-loop
 loop-holds : tie.Need-loop-holds Inv-loop μ-loop
 loop-holds c = zero-add _
 
-shared-slice-read-wide : tie.Need-shared-slice-read-wide Inv-loop μ-loop
-shared-slice-read-wide c = search needs
-
-wide-requires : tie.Need-wide-requires Inv-loop μ-loop
-wide-requires c κs = search needs
-
 returns : tie.Need-returns Inv-loop μ-loop
 returns c =
     let l = c .before .before .before .before in
     let a = l .before .before .args in
-    sym (upTo-here (leb (a .actions)) (now (a .plan)) (l .loop .i) (search needs)
-    (le-leb (a .actions) _ (omega (arith, c .if1 .taken, c .before .wide .ensures))))
+    sym (takeUntil-here (leb (a .actions)) (now (a .plan)) (l .loop .i) (search needs)
+    (le-leb (a .actions) _ (omega (arith, c .if1 .taken, c .before .step-index .ensures))))
     ∙ l .loop .inv
-
-add-i : tie.Need-add-i Inv-loop μ-loop
-add-i c = search needs
-
-loop-less : tie.Need-loop-less Inv-loop μ-loop
-loop-less c = search needs
 
 loop-again : tie.Need-loop-again Inv-loop μ-loop
 loop-again c =
     let l = c .before .before .before .before in
     let a = l .before .before .args in
-    upTo-on (leb (a .actions)) (now (a .plan)) (l .loop .i) (search needs)
-    (lt-leb (a .actions) _ (omega (arith, c .if1 .left, c .before .wide .ensures)))
+    takeUntil-on (leb (a .actions)) (now (a .plan)) (l .loop .i) (search needs)
+    (lt-leb (a .actions) _ (omega (arith, c .if1 .left, c .before .step-index .ensures)))
     ∙ l .loop .inv
 
 returns-2 : tie.Need-returns-2 Inv-loop μ-loop
 returns-2 c =
     let l = c .before in
     let a = l .before .before .args in
-    sym (upTo-end (leb (a .actions)) (now (a .plan)) (l .loop .i) (search needs)) ∙ l .loop .inv
+    sym (takeUntil-end (leb (a .actions)) (now (a .plan)) (l .loop .i) (search needs)) ∙ l .loop .inv
 
 pub steps-known-spec : {M : Type 1} → statement M
 steps-known-spec =
     tie.close
     (tie.spec
-    Inv-loop
-    μ-loop
-    loop-holds
-    shared-slice-read-wide
-    wide-requires
-    returns
-    add-i
-    loop-less
-    loop-again
-    returns-2)
+    Inv-loop μ-loop loop-holds (λ c. search needs) (λ c κs. search needs) returns (λ c. search needs)
+    (λ c. search needs) loop-again returns-2)

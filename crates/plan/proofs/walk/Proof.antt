@@ -1,14 +1,17 @@
+-- The answer is that of `walked`: a refusal or the run on the two parts of the file, by `Walking`.
 use borrow.Author.Needs.{needs}
 use mathlib.Core.Path.{_≡_, sym, ap, _∙_}
 use Prim.Native.Nat.{_+_, _*_, _≤_}
 use native.Mathlib.Omega.{arith}
 use denote.Ref.{now}
-use lib.ListN.{length, length-take, length-drop}
+use lib.ListN.{length}
+use Rattle.task.specs.File.{taskOf}
 use Rattle.task.specs.Answers.{answer as checked, asSizes}
 use Rattle.task.proofs.Answered.{lengths}
+use Rattle.layout.proofs.Parts.{parts-rows, parts-spelled}
 use Rattle.plan.specs.Answers.{walkedAs}
 use Rattle.plan.specs.Walked.{refused}
-use Rattle.plan.proofs.Walking.{turned-down, too-long, unknown, actions-fit, run-on}
+use Rattle.plan.proofs.Walking.{turned-down, accepted, too-long, unknown, actions-fit, run-on}
 use Rattle.plan.proofs.walk.Statement.{statement}
 use Rattle.plan.proofs.walk.Tie as tie
 
@@ -18,18 +21,6 @@ parts : (c : tie.After-known-told) → let f = now (c .before .before .before .b
 parts c =
     let k = c .before .before .before in
     lengths (now (k .before .before .before .args .file)) (asSizes (c .before .c .given .0 .0)) (sym (k .check .ensures) ∙ ap checked (c .before .c .given .1))
-
-check-requires : tie.Need-check-requires
-check-requires c κs = search needs
-
-enum-known-c : tie.Need-enum-known-c
-enum-known-c c = search needs
-
-enum-told : tie.Need-enum-told
-enum-told c = search needs
-
-refusal-of-requires : tie.Need-refusal-of-requires
-refusal-of-requires c κs = search needs
 
 returns : tie.Need-returns
 returns c =
@@ -48,12 +39,6 @@ returns-2 c =
     let a = k .before .before .before .args in
     c .refuse .ensures
     ∙ too-long (now (a .file)) (now (a .plan)) (k .check .result) (k .check .ensures) (n .before .c .given .0 .0) (n .before .c .given .1) (search needs)
-
-steps-known-requires : tie.Need-steps-known-requires
-steps-known-requires c κs = search needs
-
-cast-refuse : tie.Need-cast-refuse
-cast-refuse c = search needs
 
 refuse-requires-2 : tie.Need-refuse-requires-2
 refuse-requires-2 c κs = search needs
@@ -96,8 +81,9 @@ run-requires c κs =
     let n = s .before .before in
     let k = n .before .before .before in
     let a = k .before .before .before .args in
-    let h = parts n in (
-      simp (length-take, length-drop) (omega arith),
+    let h = accepted (now (a .file)) (now (a .plan)) (k .check .result) (k .check .ensures) (n .before .c .given .0 .0) (n .before .c .given .1) in
+    let z = asSizes (n .before .c .given .0 .0) in (
+      (parts-rows (now (a .file)) z h, search needs, (taskOf (now (a .file)), parts-spelled (now (a .file)) z h)),
       actions-fit (now (a .file)) (now (a .plan)) (k .check .result) (k .check .ensures) (n .before .c .given .0 .0) (n .before .c .given .1) (search needs)
           (omega (arith, c .before .before .before .if2 .left, s .steps-known .ensures)),
     )
@@ -115,15 +101,15 @@ pub walk-spec : {M : Type 1} → statement M
 walk-spec =
     tie.close
     (tie.spec
-    check-requires
-    enum-known-c
-    enum-told
-    refusal-of-requires
+    (λ c κs. search needs)
+    (λ c. search needs)
+    (λ c. search needs)
+    (λ c κs. search needs)
     returns
     refuse-requires
     returns-2
-    steps-known-requires
-    cast-refuse
+    (λ c κs. search needs)
+    (λ c. search needs)
     refuse-requires-2
     returns-3
     add-middle

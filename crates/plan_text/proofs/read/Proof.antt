@@ -1,3 +1,4 @@
+-- By the line and the steps that count finds, each refusal and the plan that fill writes is readOutcome's: laws of Answering.
 use mathlib.Core.Path.{sym, ap, _∙_}
 use Prim.Native.Nat.{_<_}
 use denote.Ref.{now}
@@ -12,20 +13,11 @@ use borrow.Author.Needs.{needs}
 use Rattle.plan_text.proofs.read.Statement.{statement}
 use Rattle.plan_text.proofs.read.Tie as tie
 
-refuse-requires : tie.Need-refuse-requires
-refuse-requires c κs = search needs
-
 returns : tie.Need-returns
 returns c =
     let a = c .before .before .before .before .args in
     turned-down (stepsIn (now (a .text))) (now (a .out)) (readOutcome (now (a .text)) (length (now (a .out)))) (answer (c .refuse .result)) 12 0
     (c .refuse .ensures) (too-long (now (a .text)) (length (now (a .out))) (search needs))
-
-count-requires : tie.Need-count-requires
-count-requires c κs = search needs
-
-between-lines-requires : tie.Need-between-lines-requires
-between-lines-requires c κs = search needs
 
 cast-refuse : tie.Need-cast-refuse
 cast-refuse c =
@@ -35,9 +27,6 @@ cast-refuse c =
     (sym (b .between-lines .ensures) ∙ not-true (b .between-lines .result) (c .before .if2 .taken)) in
     search needs
 
-refuse-requires-2 : tie.Need-refuse-requires-2
-refuse-requires-2 c κs = search needs
-
 returns-2 : tie.Need-returns-2
 returns-2 c =
     let b = c .before .before .before in
@@ -46,9 +35,6 @@ returns-2 c =
     turned-down (stepsIn (now (a .text))) (now (a .out)) (readOutcome (now (a .text)) (length (now (a .out)))) (answer (c .refuse2 .result)) 12 (k .count .result .line)
     (c .refuse2 .ensures) (bad-line (now (a .text)) (length (now (a .out))) (search needs) (k .count .result) (k .count .ensures .0)
     (sym (b .between-lines .ensures) ∙ not-true (b .between-lines .result) (c .before .before .if2 .taken)))
-
-refuse-requires-3 : tie.Need-refuse-requires-3
-refuse-requires-3 c κs = search needs
 
 returns-3 : tie.Need-returns-3
 returns-3 c =
@@ -60,9 +46,6 @@ returns-3 c =
     (c .refuse3 .ensures) (by-size (now (a .text)) (length (now (a .out))) (search needs) (k .count .result) (k .count .ensures .0)
     (sym (b .between-lines .ensures) ∙ not-false (b .between-lines .result) (c .before .before .before .if2 .left)) ∙ too-many n n (length (now (a .out))) (search needs))
 
-refuse-requires-4 : tie.Need-refuse-requires-4
-refuse-requires-4 c κs = search needs
-
 returns-4 : tie.Need-returns-4
 returns-4 c =
     let b = c .before .before .before .before .before .before in
@@ -72,12 +55,6 @@ returns-4 c =
     turned-down (stepsIn (now (a .text))) (now (a .out)) (readOutcome (now (a .text)) (length (now (a .out)))) (answer (c .refuse4 .result)) 9 0
     (c .refuse4 .ensures) (by-size (now (a .text)) (length (now (a .out))) (search needs) (k .count .result) (k .count .ensures .0)
     (sym (b .between-lines .ensures) ∙ not-false (b .between-lines .result) (c .before .before .before .before .before .if2 .left)) ∙ too-small n n (length (now (a .out))) (search needs) (search needs))
-
-fill-requires : tie.Need-fill-requires
-fill-requires c κs = search needs
-
-same-length : tie.Need-same-length
-same-length c = search needs
 
 returns-5 : tie.Need-returns-5
 returns-5 c =
@@ -96,17 +73,6 @@ pub read-spec : {M : Type 1} → statement M
 read-spec =
     tie.close
     (tie.spec
-    refuse-requires
-    returns
-    count-requires
-    between-lines-requires
-    cast-refuse
-    refuse-requires-2
-    returns-2
-    refuse-requires-3
-    returns-3
-    refuse-requires-4
-    returns-4
-    fill-requires
-    same-length
-    returns-5)
+    (λ c κs. search needs) returns (λ c κs. search needs) (λ c κs. search needs) cast-refuse (λ c κs. search needs)
+    returns-2 (λ c κs. search needs) returns-3 (λ c κs. search needs) returns-4 (λ c κs. search needs)
+    (λ c. search needs) returns-5)

@@ -1,3 +1,4 @@
+-- What read leaves at the front is the text's plan, so walk answers for the text; the text's refusal comes after check's: Answering.
 use borrow.Author.Needs.{needs}
 use mathlib.Core.Path.{sym, ap, _∙_}
 use denote.Ref.{now}
@@ -6,30 +7,6 @@ use Rattle.plan.specs.Walked.{walked}
 use Rattle.plan_text.proofs.Answering.{at-front, text-refused, text-walked}
 use Rattle.plan_text.proofs.walk_text.Statement.{statement}
 use Rattle.plan_text.proofs.walk_text.Tie as tie
-
-slice-aggregate-read : tie.Need-slice-aggregate-read
-slice-aggregate-read c = search needs
-
-read-requires : tie.Need-read-requires
-read-requires c κs = search needs
-
-enum-known-l : tie.Need-enum-known-l
-enum-known-l c = search needs
-
-slice-aggregate-front : tie.Need-slice-aggregate-front
-slice-aggregate-front c = search needs
-
-front-requires : tie.Need-front-requires
-front-requires c κs = search needs
-
-walk-requires : tie.Need-walk-requires
-walk-requires c κs = search needs
-
-enum-known-l-2 : tie.Need-enum-known-l-2
-enum-known-l-2 c = search needs
-
-refused-text-requires : tie.Need-refused-text-requires
-refused-text-requires c κs = search needs
 
 returns : tie.Need-returns
 returns c =
@@ -54,13 +31,5 @@ pub walk-text-spec : {M : Type 1} → statement M
 walk-text-spec =
     tie.close
     (tie.spec
-    slice-aggregate-read
-    read-requires
-    enum-known-l
-    slice-aggregate-front
-    front-requires
-    walk-requires
-    enum-known-l-2
-    refused-text-requires
-    returns
-    returns-2)
+    (λ c. search needs) (λ c κs. search needs) (λ c. search needs) (λ c. search needs) (λ c κs. search needs)
+    (λ c κs. search needs) (λ c. search needs) (λ c κs. search needs) returns returns-2)

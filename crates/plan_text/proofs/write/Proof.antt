@@ -1,3 +1,4 @@
+-- Too many steps, too little room, or the whole text written: each is writeOutcome's, by its law of Answering.
 use mathlib.Core.Path.{sym, ap, _∙_}
 use native.Mathlib.Omega.{arith}
 use denote.Ref.{now}
@@ -12,9 +13,6 @@ use borrow.Author.Needs.{needs}
 use Rattle.plan_text.proofs.write.Statement.{statement}
 use Rattle.plan_text.proofs.write.Tie as tie
 
-refuse-requires : tie.Need-refuse-requires
-refuse-requires c κs = search needs
-
 returns : tie.Need-returns
 unfolding writeOutcome
 returns c =
@@ -22,15 +20,6 @@ returns c =
     let p = now (a .plan) in
     turned-down (textOf p) (now (a .out)) (writeOutcome p (length (now (a .out)))) (answer (c .refuse .result)) 10 0
     (c .refuse .ensures) (too-many (length p) (length (textOf p)) (length (now (a .out))) (search needs))
-
-slice-aggregate-put-plan : tie.Need-slice-aggregate-put-plan
-slice-aggregate-put-plan c = search needs
-
-put-plan-requires : tie.Need-put-plan-requires
-put-plan-requires c κs = search needs
-
-refuse-requires-2 : tie.Need-refuse-requires-2
-refuse-requires-2 c κs = search needs
 
 returns-2 : tie.Need-returns-2
 unfolding writeOutcome
@@ -40,12 +29,6 @@ returns-2 c =
     let p = now (a .plan) in
     turned-down (textOf p) (now (a .out)) (writeOutcome p (length (now (a .out)))) (answer (c .refuse2 .result)) 9 0
     (c .refuse2 .ensures) (too-small (length p) (length (textOf p)) (length (now (a .out))) (search needs) (omega (arith, c .before .if2 .taken, w .put-plan .ensures .size)))
-
-put-plan-requires-2 : tie.Need-put-plan-requires-2
-put-plan-requires-2 c κs = search needs
-
-same-length : tie.Need-same-length
-same-length c = search needs
 
 returns-3 : tie.Need-returns-3
 unfolding writeOutcome
@@ -63,12 +46,5 @@ pub write-spec : {M : Type 1} → statement M
 write-spec =
     tie.close
     (tie.spec
-    refuse-requires
-    returns
-    slice-aggregate-put-plan
-    put-plan-requires
-    refuse-requires-2
-    returns-2
-    put-plan-requires-2
-    same-length
-    returns-3)
+    (λ c κs. search needs) returns (λ c. search needs) (λ c κs. search needs) (λ c κs. search needs) returns-2
+    (λ c κs. search needs) (λ c. search needs) returns-3)

@@ -1,20 +1,9 @@
+-- Where settle gave a worth put_worth writes the text; where it refused nothing is written: no-bytes of Writing.
 use denote.Ref.{now}
 use Rattle.text.proofs.Writing.{no-bytes}
 use borrow.Author.Needs.{needs}
 use Rattle.report.proofs.put_settled.Statement.{statement}
 use Rattle.report.proofs.put_settled.Tie as tie
-
-enum-known-settled : tie.Need-enum-known-settled
-enum-known-settled c = search needs
-
-put-worth-requires : tie.Need-put-worth-requires
-put-worth-requires c κs = search needs
-
-enum-told : tie.Need-enum-told
-enum-told c = search needs
-
-same-length : tie.Need-same-length
-same-length c = search needs
 
 returns : tie.Need-returns
 returns c =
@@ -27,4 +16,4 @@ returns-2 c = rw (c .enum-told .given .1) (no-bytes (now (c .before .before .bef
 pub put-settled-spec : {M : Type 1} → statement M
 put-settled-spec =
     tie.close
-    (tie.spec enum-known-settled put-worth-requires enum-told same-length returns returns-2)
+    (tie.spec (λ c. search needs) (λ c κs. search needs) (λ c. search needs) (λ c. search needs) returns returns-2)

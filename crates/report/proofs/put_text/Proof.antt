@@ -1,3 +1,4 @@
+-- A refused file has no text (on-refused of Answering); of an accepted one the two parts give the task's text (on-accepted).
 use mathlib.Core.Path.{_≡_, sym, ap, _∙_}
 use Prim.Native.Nat.{_+_, _*_, _≤_}
 use native.Mathlib.Omega.{arith}
@@ -19,16 +20,7 @@ was-accepted c = sym (c .before .before .check .ensures) ∙ ap checked (c .c .g
 -- the file's length by its rows, of which there are few
 parts : (c : tie.After-c) → (length (now (c .before .before .before .before .before .before .args .file)) ≡ 8 + 5 * c .c .given .0 .0 .rows)
     × (c .c .given .0 .0 .rows ≤ 12000)
-parts c = lengths (now (c .before .before .before .before .before .before .args .file)) (asSizes (c .c .given .0 .0)) (was-accepted c)
-
-check-requires : tie.Need-check-requires
-check-requires c κs = search needs
-
-enum-known-c : tie.Need-enum-known-c
-enum-known-c c = search needs
-
-enum-told : tie.Need-enum-told
-enum-told c = search needs
+parts c = let s = c .before .before .before .before .before .before in lengths (now (s .args .file)) (asSizes (c .c .given .0 .0)) (was-accepted c)
 
 returns : tie.Need-returns
 returns c =
@@ -39,12 +31,6 @@ returns c =
 add-middle : tie.Need-add-middle
 add-middle c = let l = parts (c .before .before) in search needs
 
-sub-put-verdict : tie.Need-sub-put-verdict
-sub-put-verdict c = search needs
-
-part-put-verdict-start : tie.Need-part-put-verdict-start
-part-put-verdict-start c = search needs
-
 part-put-verdict-end : tie.Need-part-put-verdict-end
 part-put-verdict-end c = let l = parts (c .before .before) in search needs
 
@@ -54,16 +40,10 @@ sub-put-verdict-2 c = let l = parts (c .before .before .before) in search needs
 part-put-verdict-start-2 : tie.Need-part-put-verdict-start-2
 part-put-verdict-start-2 c = let l = parts (c .before .before .before) in search needs
 
-part-put-verdict-end-2 : tie.Need-part-put-verdict-end-2
-part-put-verdict-end-2 c = search needs
-
 put-verdict-requires : tie.Need-put-verdict-requires
 put-verdict-requires c κs =
     let l = parts (c .before .before .before .before .before) in
-    (simp (length-take, length-drop) (omega arith), simp (length-take, length-drop) (omega arith))
-
-same-length : tie.Need-same-length
-same-length c = search needs
+    record { few = simp (length-take, length-drop) (omega arith); values = simp (length-take, length-drop) (omega arith) }
 
 returns-2 : tie.Need-returns-2
 returns-2 c =
@@ -78,17 +58,6 @@ pub put-text-spec : {M : Type 1} → statement M
 put-text-spec =
     tie.close
     (tie.spec
-    check-requires
-    enum-known-c
-    enum-told
-    returns
-    add-middle
-    sub-put-verdict
-    part-put-verdict-start
-    part-put-verdict-end
-    sub-put-verdict-2
-    part-put-verdict-start-2
-    part-put-verdict-end-2
-    put-verdict-requires
-    same-length
-    returns-2)
+    (λ c κs. search needs) (λ c. search needs) (λ c. search needs) returns add-middle (λ c. search needs)
+    (λ c. search needs) part-put-verdict-end sub-put-verdict-2 part-put-verdict-start-2 (λ c. search needs)
+    put-verdict-requires (λ c. search needs) returns-2)

@@ -1,3 +1,4 @@
+-- First line, the preferences' lines and last line are written in turn (then of Writing); the utility is the number of its bits.
 use mir.Syntax.{w64}
 use mir.ValLaws.{toZ-ofZ}
 use Rattle.text.proofs.Writing.{then}
@@ -8,18 +9,6 @@ use Rattle.report.specs.Rows.{rowLines}
 use borrow.Author.Needs.{needs}
 use Rattle.report.proofs.put_worth.Statement.{statement}
 use Rattle.report.proofs.put_worth.Tie as tie
-
-put-solved-requires : tie.Need-put-solved-requires
-put-solved-requires c κs = search needs
-
-put-rows-requires : tie.Need-put-rows-requires
-put-rows-requires c κs = search needs
-
-put-amounts-requires : tie.Need-put-amounts-requires
-put-amounts-requires c κs = search needs
-
-same-length : tie.Need-same-length
-same-length c = search needs
 
 returns : tie.Need-returns
 returns c =
@@ -34,4 +23,4 @@ returns c =
 pub put-worth-spec : {M : Type 1} → statement M
 put-worth-spec =
     tie.close
-    (tie.spec put-solved-requires put-rows-requires put-amounts-requires same-length returns)
+    (tie.spec (λ c κs. search needs) (λ c κs. search needs) (λ c κs. search needs) (λ c. search needs) returns)

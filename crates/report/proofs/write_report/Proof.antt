@@ -1,3 +1,4 @@
+-- Where walk refuses, the outcome is that refusal and the area stays (not-walked of Answering); else it is write_verdict's.
 use mathlib.Core.Path.{refl, sym, ap, _∙_}
 use lib.ListN.{length}
 use denote.Ref.{now}
@@ -10,25 +11,13 @@ use borrow.Author.Needs.{needs}
 use Rattle.report.proofs.write_report.Statement.{statement}
 use Rattle.report.proofs.write_report.Tie as tie
 
-walk-requires : tie.Need-walk-requires
-walk-requires c κs = search needs
-
-enum-known-w : tie.Need-enum-known-w
-enum-known-w c = search needs
-
 write-verdict-requires : tie.Need-write-verdict-requires
 write-verdict-requires c κs =
     let w = c .before .before in
     (_, sym (ap walkedAs (w .w .given .1)) ∙ w .before .before .walk .ensures)
 
-enum-known-w-2 : tie.Need-enum-known-w-2
-enum-known-w-2 c = search needs
-
 same-length : tie.Need-same-length
 same-length c = search needs
-
-returns : tie.Need-returns
-returns c = search needs
 
 returns-2 : tie.Need-returns-2
 returns-2 c =
@@ -45,10 +34,10 @@ pub write-report-spec : {M : Type 1} → statement M
 write-report-spec =
     tie.close
     (tie.spec
-    walk-requires
-    enum-known-w
+    (λ c κs. search needs)
+    (λ c. search needs)
     write-verdict-requires
-    enum-known-w-2
+    (λ c. search needs)
     same-length
-    returns
+    (λ c. search needs)
     returns-2)

@@ -1,20 +1,9 @@
+-- The words are put_texts' of what pddl_text::write answers, and the two areas are as it leaves them.
 use mathlib.Core.Path.{ap, _∙_}
-use Rattle.route_rules.specs.Numbers.{ofTexts}
+use Rattle.words.specs.Numbers.{ofTexts}
 use borrow.Author.Needs.{needs}
 use Rattle.route_rules.proofs.route_rules_pddl.Statement.{statement}
 use Rattle.route_rules.proofs.route_rules_pddl.Tie as tie
-
-write-requires : tie.Need-write-requires
-write-requires c κs = search needs
-
-put-texts-requires : tie.Need-put-texts-requires
-put-texts-requires c κs = search needs
-
-same-length : tie.Need-same-length
-same-length c = search needs
-
-same-length-2 : tie.Need-same-length-2
-same-length-2 c = search needs
 
 returns : tie.Need-returns
 returns c =
@@ -23,4 +12,4 @@ returns c =
 
 pub route-rules-pddl-spec : {M : Type 1} → statement M
 route-rules-pddl-spec =
-    tie.close (tie.spec write-requires put-texts-requires same-length same-length-2 returns)
+    tie.close (tie.spec (λ c κs. search needs) (λ c κs. search needs) (λ c. search needs) (λ c. search needs) returns)

@@ -1,20 +1,12 @@
+-- Words, area and faithfulness are translate's; what the planner pays is what walk and settle say: written-paid of Corollary.
 use mathlib.Core.Path.{ap, _∙_}
 use denote.Ref.{now}
 use lib.ListN.{length}
-use Rattle.route_rules.specs.Numbers.{ofOutcome}
+use Rattle.words.specs.Numbers.{ofOutcome}
 use Rattle.route_rules.proofs.Corollary.{written-paid}
 use borrow.Author.Needs.{needs}
 use Rattle.route_rules.proofs.route_rules_translate.Statement.{statement}
 use Rattle.route_rules.proofs.route_rules_translate.Tie as tie
-
-translate-requires : tie.Need-translate-requires
-translate-requires c κs = search needs
-
-put-outcome-requires : tie.Need-put-outcome-requires
-put-outcome-requires c κs = search needs
-
-same-length : tie.Need-same-length
-same-length c = search needs
 
 returns : tie.Need-returns
 returns c =
@@ -32,4 +24,4 @@ returns c =
 
 pub route-rules-translate-spec : {M : Type 1} → statement M
 route-rules-translate-spec =
-    tie.close (tie.spec translate-requires put-outcome-requires same-length returns)
+    tie.close (tie.spec (λ c κs. search needs) (λ c κs. search needs) (λ c. search needs) returns)

@@ -1,3 +1,4 @@
+-- The branches compute; beyond two words there is none, by `Words`.
 use mathlib.Core.Path.{_≡_}
 use Prim.Native.Nat.{ℕ, zero, suc, _/_, _≤_}
 use native.Mathlib.Omega.{arith}

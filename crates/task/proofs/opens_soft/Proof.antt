@@ -1,3 +1,4 @@
+-- Marks in the two ranges open a soft preference, those under, between and over them do not: Values, a law for each.
 use borrow.Author.Needs.{needs}
 use mathlib.Core.Path.{sym}
 use Rattle.task.proofs.Values.{preference, timed, under, between, over}

@@ -1,3 +1,4 @@
+-- By opens_hard's answer: a hard mark is 16 or more, so 16 can be taken off (hard-above of Values); any other mark stays.
 use mathlib.Core.Path.{_≡_, sym, _∙_}
 use mathlib.Core.Bool.{true, false}
 use borrow.Author.Needs.{needs}
@@ -5,9 +6,6 @@ use Rattle.task.specs.File.{opensHard}
 use Rattle.task.proofs.Values.{hard-above}
 use Rattle.task.proofs.soft_mark.Statement.{statement}
 use Rattle.task.proofs.soft_mark.Tie as tie
-
-opens-hard-requires : tie.Need-opens-hard-requires
-opens-hard-requires c κs = search needs
 
 is-hard : (c : tie.Then1) → opensHard (c .before .before .args .mark) ≡ true
 is-hard c = sym (c .before .opens-hard .ensures) ∙ c .if1 .taken
@@ -25,4 +23,4 @@ returns-2 : tie.Need-returns-2
 returns-2 c = rw (no-hard c)
 
 pub soft-mark-spec : {M : Type 1} → statement M
-soft-mark-spec = tie.close (tie.spec opens-hard-requires sub-result returns returns-2)
+soft-mark-spec = tie.close (tie.spec (λ c κs. search needs) sub-result returns returns-2)

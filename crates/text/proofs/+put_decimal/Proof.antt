@@ -1,3 +1,4 @@
+-- By recursion on n: below 10 one digit, else the digits of n / 10 and then the last: one-digit and last-digit of Writing.
 use native.Mathlib.Omega.{arith}
 use denote.Ref.{now}
 use Rattle.text.proofs.Decimal.{nineteen-digits}

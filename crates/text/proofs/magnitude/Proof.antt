@@ -1,3 +1,4 @@
+-- Below 0 the flipped bits are one less than the distance from 0 (below of Signed); from 0 on the number is itself (not-below).
 use mathlib.Core.Path.{sym, ap, _∙_}
 use Prim.Native.Nat.{_+_, _^_, _<_}
 use native.Mathlib.Numerals.{add-one}
@@ -33,8 +34,5 @@ returns c =
     let b = below (c .before .args .n) (c .before .fits .n) (c .if1 .taken) in
     ap (λ (z : ℤ). natAbs z + 1) (b .flipped) ∙ add-one (b .n) ∙ sym (ap natAbs (b .is))
 
-returns-2 : tie.Need-returns-2
-returns-2 c = search needs
-
 pub magnitude-spec : {M : Type 1} → statement M
-magnitude-spec = tie.close (tie.spec cast-result add-result cast-result-2 returns returns-2)
+magnitude-spec = tie.close (tie.spec cast-result add-result cast-result-2 returns (λ c. search needs))

@@ -1,58 +1,48 @@
+-- The trackers by the sides that were located; none where there is no row, or at-end stands before end.
 use mathlib.Core.Path.{sym, ap, _∙_}
 use mathlib.Core.Bool.{not, _&&_}
-use lib.Dec.{eqb}
 use Prim.Native.Nat.{ℕ}
+use lib.Dec.{eqb}
+use lib.ListN.{length, getD}
+use borrow.Author.Tests.{le-leb, lt-leb}
 use denote.Ref.{now}
-use Rattle.trackers.proofs.Putting.{as-rows, wrote-none}
-use Rattle.trackers.proofs.Noting.{no-preference}
-use Rattle.trackers.proofs.TrackerRows.{not-yet, as-located}
+use Rattle.layout.specs.Sides.{sidesAt, part}
+use Rattle.layout.specs.declared.sides.Sides.{Sides}
+use Rattle.task.specs.Rows.{stepsAt}
+use Rattle.trackers.specs.Trackers.{trackersWith}
+use Rattle.trackers.proofs.ByMark.{not-in-end}
+use Rattle.writer.proofs.Putting.{as-rows, wrote-none}
 use borrow.Author.Needs.{needs}
 use Rattle.trackers.proofs.trackers_at.Statement.{statement}
 use Rattle.trackers.proofs.trackers_at.Tie as tie
 
 returns : tie.Need-returns
-returns c = λ q qs e fine. let a = c .before .before .before .before .args in no-preference (now (a .marks)) (now (a .values)) (a .at) q qs e (search needs)
-
-shared-slice-read-soft-mark : tie.Need-shared-slice-read-soft-mark
-shared-slice-read-soft-mark c = search needs
-
-soft-mark-requires : tie.Need-soft-mark-requires
-soft-mark-requires c κs = search needs
+returns c =
+    let a = c .before .before .before .before .args in
+    rw (le-leb (length (now (a .marks))) (a .at) (search needs)) (wrote-none (search needs))
 
 returns-2 : tie.Need-returns-2
-returns-2 c = λ q qs e fine.
+returns-2 c =
     let m = c .before in
     let a = m .before .before .before .before .before .before .args in
-    as-rows (not-yet (now (a .marks)) (now (a .values)) (a .at) (a .last) (a .s) (a .d) q qs e (search needs)
-    (ap (λ (x : ℕ). eqb x 12 && not (a .last)) (sym (m .soft-mark .ensures)) ∙ c .if2 .taken)) (wrote-none (now (a .out)) (a .n) (a .i))
-
-locate-requires : tie.Need-locate-requires
-locate-requires c κs = search needs
-
-trackers-of-requires : tie.Need-trackers-of-requires
-trackers-of-requires c κs = search needs
-
-same-length : tie.Need-same-length
-same-length c = search needs
+    let ms = now (a .marks) in
+    let vs = now (a .values) in
+    let p = sidesAt ms (a .at) in
+    rw (lt-leb (length ms) (a .at) (search needs))
+    (as-rows (not-in-end _ (stepsAt ms vs (a .at)) (a .last) (a .f) (part ms vs (p .first)) (part ms vs (p .second))
+    (ap (λ (x : ℕ). eqb x 12 && not (a .last)) (sym (m .soft-mark .ensures)) ∙ c .if2 .taken)) (wrote-none (search needs)))
 
 returns-3 : tie.Need-returns-3
-returns-3 c = λ q qs e fine.
+returns-3 c =
     let t = c .before .before in
     let p = t .before .before in
     let a = p .before .before .before .before .before .before .before .before .args in
-    as-rows
-    (as-located (now (a .marks)) (now (a .values)) (a .at) (a .last) (a .s) (a .d) q qs e (search needs) fine (p .locate .result) (p .locate .ensures .1 (now (a .values)) q qs e))
-    (t .trackers-of .ensures)
+    rw (lt-leb (length (now (a .marks))) (a .at) (search needs))
+    (as-rows (ap (λ (x : Sides). trackersWith (now (a .marks)) (now (a .values)) (a .at) x (a .f) (a .last)) (p .locate .ensures .1)) (t .trackers-of .ensures))
 
 pub trackers-at-spec : {M : Type 1} → statement M
 trackers-at-spec =
     tie.close
     (tie.spec
-    returns
-    shared-slice-read-soft-mark
-    soft-mark-requires
-    returns-2
-    locate-requires
-    trackers-of-requires
-    same-length
-    returns-3)
+    returns (λ c. search needs) (λ c κs. search needs) returns-2 (λ c κs. search needs) (λ c κs. search needs)
+    (λ c. search needs) returns-3)

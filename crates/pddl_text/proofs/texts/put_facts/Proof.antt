@@ -1,18 +1,19 @@
+-- The facts below i are written when i is reached: each turn is `fact-more`.
 use borrow.Author.Needs.{needs}
 use mathlib.Core.Path.{_≡_, subst}
 use Prim.Native.Nat.{ℕ, _+_, _*_, _-_, _≤_}
 use native.Mathlib.Omega.{arith}
 use denote.Ref.{now}
-use Rattle.task.specs.Lists.{numbers}
+use Rattle.lists.specs.Lists.{range}
 use Rattle.text.specs.Area.{Wrote}
 use Rattle.text.proofs.Writing.{no-bytes, same-size}
-use Rattle.pddl_text.specs.Pddl.{spaced, factText}
+use Rattle.pddl_parts.specs.Pddl.{spaced, factText}
 use Rattle.pddl_text.proofs.TextRows.{fact-more}
 use Rattle.pddl_text.proofs.texts.put_facts.Statement.{statement}
 use Rattle.pddl_text.proofs.texts.put_facts.Tie as tie
 
 abbrev Inv-loop : tie.InvT-loop
-Inv-loop out₀ at facts k₀ i₀ out k i = (i ≤ facts) × (k ≤ at + 24 * i) × Wrote out₀ at (spaced factText (numbers 0 i)) k out
+Inv-loop out₀ at facts k₀ i₀ out k i = (i ≤ facts) × (k ≤ at + 24 * i) × Wrote out₀ at (spaced factText (range 0 i)) k out
 
 abbrev μ-loop : tie.MeasureT-loop
 μ-loop out₀ at facts k₀ i₀ out k i = facts - i
@@ -20,32 +21,15 @@ abbrev μ-loop : tie.MeasureT-loop
 loop-holds : tie.Need-loop-holds Inv-loop μ-loop
 loop-holds c = let a = c .before .args in (search needs, search needs, no-bytes (now (a .out)) (a .at))
 
-put-byte-requires : tie.Need-put-byte-requires Inv-loop μ-loop
-put-byte-requires c κs = search needs
-
 cast-put-fact : tie.Need-cast-put-fact Inv-loop μ-loop
 cast-put-fact c = search needs
-
-put-fact-requires : tie.Need-put-fact-requires Inv-loop μ-loop
-put-fact-requires c κs = search needs
-
-add-i : tie.Need-add-i Inv-loop μ-loop
-add-i c = search needs
-
-loop-less : tie.Need-loop-less Inv-loop μ-loop
-loop-less c = search needs
 
 loop-again : tie.Need-loop-again Inv-loop μ-loop
 loop-again c =
     let f = c .before .before in
     let s = f .before .before .before .before in
     let l = s .before .before .before in
-    let a = l .before .before .args in (
-      search needs,
-      search needs,
-      fact-more (now (a .out)) (a .at) (l .loop .i) (l .loop .k) (l .loop .out) (s .put-byte .result) (s .put-byte .last .0) (f .put-fact .result) (f .put-fact .last .0)
-          (l .loop .inv .2) (s .put-byte .ensures) (f .put-fact .ensures .0),
-    )
+    (search needs, search needs, fact-more (l .loop .i) (l .loop .inv .2) (s .put-byte .ensures) (f .put-fact .ensures .0))
 
 same-length : tie.Need-same-length Inv-loop μ-loop
 same-length c = same-size (c .before .loop .inv .2)
@@ -55,7 +39,7 @@ returns c =
     let l = c .before in
     let a = l .before .before .args in
     let all : l .loop .i ≡ a .facts = omega (arith, l .loop .inv .0, c .loop-test .left) in
-    (subst (λ (n : ℕ). Wrote (now (a .out)) (a .at) (spaced factText (numbers 0 n)) (l .loop .k) (l .loop .out)) all (l .loop .inv .2), search needs)
+    (subst (λ (n : ℕ). Wrote (now (a .out)) (a .at) (spaced factText (range 0 n)) (l .loop .k) (l .loop .out)) all (l .loop .inv .2), search needs)
 
 pub put-facts-spec : {M : Type 1} → statement M
 put-facts-spec =
@@ -64,11 +48,11 @@ put-facts-spec =
     Inv-loop
     μ-loop
     loop-holds
-    put-byte-requires
+    (λ c κs. search needs)
     cast-put-fact
-    put-fact-requires
-    add-i
-    loop-less
+    (λ c κs. search needs)
+    (λ c. search needs)
+    (λ c. search needs)
     loop-again
     same-length
     returns)

@@ -1,3 +1,4 @@
+-- What is read before the first step is the start of the task that the rows spell, by `TaskRead` and `ActionRows`.
 use borrow.Author.Needs.{needs}
 use mathlib.Core.Path.{_≡_, refl, ap, _∙_, subst⁻¹}
 use mathlib.Core.List.{List}
@@ -5,13 +6,15 @@ use Prim.Native.Nat.{ℕ, _+_, _-_, _≤_}
 use native.Mathlib.Nat.{sub-zero}
 use native.Mathlib.Omega.{arith}
 use denote.Ref.{now}
-use lib.ListN.{length, take}
+use lib.ListN.{length, take, getD}
 use Rattle.state.specs.Effects.{Result}
 use Rattle.state.proofs.OpeningRows.{opening-ends}
-use Rattle.plan.specs.Reads.{PreferencesAt}
-use Rattle.plan.specs.Places.{actionsFrom, Noted, AllBelow}
-use Rattle.plan.proofs.Packing.{fresh-at}
-use Rattle.plan.proofs.ActionRows.{within-rows, as-many}
+use Rattle.meaning.specs.Task.{Task}
+use Rattle.layout.specs.Rows.{Spells, PreferencesAt}
+use Rattle.layout.specs.Actions.{actionsFrom, AllBelow}
+use Rattle.monitors.proofs.Packing.{fresh-at}
+use Rattle.layout.proofs.ActionRows.{within-rows, as-many, noted}
+use Rattle.plan.specs.Steps.{Start}
 use Rattle.plan.proofs.TaskRead.{opening-read, preferences-read}
 use Rattle.plan.proofs.steps.run.Statement.{statement}
 use Rattle.plan.proofs.steps.run.Tie as tie
@@ -23,84 +26,61 @@ few c =
     omega (arith, opening-ends (now (a .marks)) (now (a .values)), ap (λ (r : Result). r .next) (c .opening .ensures))
 
 -- the rows that are lent are those of the actions
-lent : (c : tie.After-note-actions) → take (c .note-actions .result - 0) (c .note-actions .last .1 .0)
-    ≡ actionsFrom 0 (now (c .before .before .before .before .before .before .before .before .args .marks))
-lent c = ap (λ (n : ℕ). take n (c .note-actions .last .1 .0)) (sub-zero (c .note-actions .result)) ∙ c .note-actions .ensures .0 .1
-
-opening-requires : tie.Need-opening-requires
-opening-requires c κs = search needs
+lent : (c : tie.After-note-actions) → let b = c .before .before .before .before .before .before .before .before in
+    take (c .note-actions .result - 0) (c .note-actions .last .1 .0) ≡ actionsFrom 0 (now (b .args .marks))
+lent c = ap (λ (n : ℕ). take n (c .note-actions .last .1 .0)) (sub-zero (c .note-actions .result)) ∙ c .note-actions .ensures .1
 
 add-goal : tie.Need-add-goal
 add-goal c = let f = few (c .before) in search needs
 
-preferences-requires : tie.Need-preferences-requires
-preferences-requires c κs = search needs
-
-slice-aggregate-note-actions : tie.Need-slice-aggregate-note-actions
-slice-aggregate-note-actions c = search needs
-
-note-actions-requires : tie.Need-note-actions-requires
-note-actions-requires c κs = search needs
-
-sub-follow : tie.Need-sub-follow
-sub-follow c = search needs
-
-part-follow-start : tie.Need-part-follow-start
-part-follow-start c = search needs
-
-part-follow-end : tie.Need-part-follow-end
-part-follow-end c = search needs
-
-slice-aggregate-follow : tie.Need-slice-aggregate-follow
-slice-aggregate-follow c = search needs
+-- what stands before the first step
+begun : (n : tie.After-note-actions) → let p = n .before .before in
+    let o = p .before .before in
+    let a = o .before .before .before .before .args in
+    (t : Task) → Spells (now (a .marks)) (now (a .values)) t
+    → Start (now (a .marks)) (now (a .values)) (record { preferences = p .first-preference .result; goal = o .opening .result .next + 1 })
+    (take (n .note-actions .result - 0) (n .note-actions .last .1 .0)) (o .opening .result .state) t
+begun n t R =
+    let p = n .before .before in
+    let o = p .before .before in
+    let a = o .before .before .before .before .args in
+    let read = o .opening .ensures ∙ opening-read t (now (a .marks)) (now (a .values)) R in
+    record {
+      placed =
+          record {
+            spells = R;
+            preferences =
+                subst⁻¹ (PreferencesAt t (now (a .marks)) (now (a .values))) (p .first-preference .ensures .0)
+                (preferences-read t (now (a .marks)) (now (a .values)) R);
+            goal = ap (λ (r : Result). r .next + 1) read;
+          };
+      all-actions = ap length (lent n) ∙ as-many t (now (a .marks)) (now (a .values)) R;
+      actions = λ k h. ap (λ (l : List ℕ). getD l k 0) (lent n) ∙ noted t (now (a .marks)) (now (a .values)) R k h;
+      opens = ap (λ (r : Result). r .state) read;
+    }
 
 follow-requires : tie.Need-follow-requires
 follow-requires c κs =
     let n = c .before .before .before .before in
-    let b = n .before .before .before .before .before .before .before .before in (
+    let b = n .before .before .before .before .before .before .before .before in
+    let marks = now (b .args .marks) in (
       search needs,
       (
-        subst⁻¹ (AllBelow (length (now (b .args .marks)))) (lent n) (within-rows (now (b .args .marks))),
-        subst⁻¹ (λ (l : List ℕ). AllBelow (length l) (now (b .args .plan))) (lent n) (b .pre .1 .1),
-        refl,
+        (
+          subst⁻¹ (AllBelow (length marks)) (lent n) (within-rows marks),
+          subst⁻¹ (λ (l : List ℕ). AllBelow (length l) (now (b .args .plan))) (lent n) (b .pre .1 .1),
+          record { sixteen = refl; seen-none = fresh-at 16 },
+        ),
+        (b .pre .0 .2 .0, begun n (b .pre .0 .2 .0) (b .pre .0 .2 .1)),
       ),
     )
 
 returns : tie.Need-returns
-returns c = λ t R.
-    let f = c .before in
-    let n = f .before .before .before .before .before in
-    let p = n .before .before in
-    let o = p .before .before in
-    let b = o .before .before .before .before in
-    let opens = o .opening .ensures ∙ opening-read t (now (b .args .marks)) (now (b .args .values)) R in
-    let counted = sub-zero (n .note-actions .result) in
-    f .follow .ensures t
-    (record {
-      reads = R;
-      preferences =
-          subst⁻¹ (PreferencesAt t (now (b .args .marks)) (now (b .args .values))) (p .preferences .ensures .0)
-          (preferences-read t (now (b .args .marks)) (now (b .args .values)) R);
-      goal-row = ap (λ (r : Result). r .next + 1) opens;
-      all-actions = ap length (lent n) ∙ as-many t (now (b .args .marks)) (now (b .args .values)) R;
-      actions =
-          subst⁻¹ (λ (k : ℕ). Noted t (take k (n .note-actions .last .1 .0))) counted (n .note-actions .ensures .1 t (now (b .args .values)) R);
-    })
-    (ap (λ (r : Result). r .state) opens)
-    (fresh-at 16)
+returns c = λ t R. c .before .follow .ensures t (begun (c .before .before .before .before .before .before) t R)
 
 pub run-spec : {M : Type 1} → statement M
 run-spec =
     tie.close
     (tie.spec
-    opening-requires
-    add-goal
-    preferences-requires
-    slice-aggregate-note-actions
-    note-actions-requires
-    sub-follow
-    part-follow-start
-    part-follow-end
-    slice-aggregate-follow
-    follow-requires
-    returns)
+    (λ c κs. search needs) add-goal (λ c κs. search needs) (λ c. search needs) (λ c κs. search needs)
+    (λ c. search needs) (λ c. search needs) (λ c. search needs) (λ c. search needs) follow-requires returns)

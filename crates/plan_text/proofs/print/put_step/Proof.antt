@@ -1,3 +1,4 @@
+-- The line and its newline are what put_number writes, whose last word is the closing bracket and the newline: append-assoc.
 use mathlib.Core.Path.{_≡_, sym, ap, subst}
 use mathlib.Core.List.{List, [], _∷_, _++_, append-assoc}
 use Prim.Native.Nat.{ℕ}
@@ -10,17 +11,8 @@ use borrow.Author.Needs.{needs}
 use Rattle.plan_text.proofs.print.put_step.Statement.{statement}
 use Rattle.plan_text.proofs.print.put_step.Tie as tie
 
-slice-aggregate-put-number : tie.Need-slice-aggregate-put-number
-slice-aggregate-put-number c = search needs
-
-slice-aggregate-put-number-2 : tie.Need-slice-aggregate-put-number-2
-slice-aggregate-put-number-2 c = search needs
-
 put-number-requires : tie.Need-put-number-requires
 put-number-requires c κs = search needs
-
-same-length : tie.Need-same-length
-same-length c = search needs
 
 -- a step's line with its newline
 ended : (n : ℕ) → ascii "(a" ++ (decimal n ++ ascii ")\n") ≡ stepLine n ++ (10 ∷ [])
@@ -37,8 +29,8 @@ pub put-step-spec : {M : Type 1} → statement M
 put-step-spec =
     tie.close
     (tie.spec
-    slice-aggregate-put-number
-    slice-aggregate-put-number-2
+    (λ c. search needs)
+    (λ c. search needs)
     put-number-requires
-    same-length
+    (λ c. search needs)
     returns)

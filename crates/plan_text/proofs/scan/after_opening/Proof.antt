@@ -1,3 +1,4 @@
+-- A semicolon begins a comment, a bracket a step, any other byte another form: the three cases of follow.
 use borrow.Author.Tests.{ne-eqb}
 use Rattle.plan_text.proofs.scan.after_opening.Statement.{statement}
 use Rattle.plan_text.proofs.scan.after_opening.Tie as tie

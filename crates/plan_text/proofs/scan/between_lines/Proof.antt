@@ -1,3 +1,4 @@
+-- In the form Opening no line is begun; in each other form one is: a-line-begun of Modes.
 use Rattle.plan_text.proofs.Modes.{a-line-begun}
 use borrow.Author.Needs.{needs}
 use Rattle.plan_text.proofs.scan.between_lines.Statement.{statement}

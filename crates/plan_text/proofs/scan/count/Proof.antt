@@ -1,3 +1,4 @@
+-- The count from byte i on is the whole text's, and lines and steps are no more than the bytes passed: Scanning.
 use borrow.Author.Needs.{needs}
 use mathlib.Core.Path.{_≡_, _∙_}
 use Prim.Native.Nat.{_-_, _≤_}
@@ -6,7 +7,7 @@ use denote.Ref.{now}
 use lib.ListN.{length, drop, getD}
 use Rattle.plan_text.specs.PlanText.{linesOf, readLines}
 use Rattle.plan_text.specs.Scan.{count}
-use Rattle.plan_text.proofs.Scanning.{countFrom, Passed, passed-start, passed-on, count-start, count-at, count-behind}
+use Rattle.plan_text.proofs.Scanning.{countFrom, Passed, passed-start, passed-on, count-start, count-at, count-after}
 use Rattle.plan_text.proofs.scan.count.Statement.{statement}
 use Rattle.plan_text.proofs.scan.count.Tie as tie
 
@@ -24,17 +25,8 @@ loop-holds c =
     let t = now (c .before .before .args .text) in
     rw (c .at-line .ensures) (search needs, passed-start, count-start t)
 
-shared-slice-read-advanced : tie.Need-shared-slice-read-advanced Inv-loop μ-loop
-shared-slice-read-advanced c = search needs
-
 advanced-requires : tie.Need-advanced-requires Inv-loop μ-loop
 advanced-requires c κs = let p = c .before .before .loop .inv .1 in (search needs, search needs)
-
-add-i : tie.Need-add-i Inv-loop μ-loop
-add-i c = search needs
-
-loop-less : tie.Need-loop-less Inv-loop μ-loop
-loop-less c = search needs
 
 loop-again : tie.Need-loop-again Inv-loop μ-loop
 loop-again c =
@@ -46,19 +38,11 @@ returns : tie.Need-returns Inv-loop μ-loop
 returns c =
     let l = c .before in
     let t = now (l .before .before .before .args .text) in
-    (count-behind (l .loop .s) t (l .loop .i) (search needs) ∙ l .loop .inv .2, omega (arith, l .loop .inv .1 .lines))
+    (count-after (l .loop .s) t (l .loop .i) (search needs) ∙ l .loop .inv .2, omega (arith, l .loop .inv .1 .lines))
 
 pub count-spec : {M : Type 1} → statement M
 count-spec =
     tie.close
     (tie.spec
-    Inv-loop
-    μ-loop
-    at-line-requires
-    loop-holds
-    shared-slice-read-advanced
-    advanced-requires
-    add-i
-    loop-less
-    loop-again
-    returns)
+    Inv-loop μ-loop at-line-requires loop-holds (λ c. search needs) advanced-requires (λ c. search needs)
+    (λ c. search needs) loop-again returns)

@@ -1,3 +1,4 @@
+-- The steps written and those from byte i on are the whole text's, and no more than its bytes: Passed and write-at of Scanning.
 use borrow.Author.Needs.{needs}
 use mathlib.Core.Path.{_≡_, refl, _∙_}
 use Prim.Native.Nat.{_-_, _≤_}
@@ -5,7 +6,7 @@ use denote.Ref.{now}
 use lib.ListN.{length, drop, getD}
 use Rattle.text.specs.Area.{written}
 use Rattle.plan_text.specs.Scan.{start, stepsFrom}
-use Rattle.plan_text.proofs.Scanning.{Passed, passed-start, passed-on, write-at, write-behind}
+use Rattle.plan_text.proofs.Scanning.{Passed, passed-start, passed-on, write-at, write-after}
 use Rattle.plan_text.proofs.scan.fill.Statement.{statement}
 use Rattle.plan_text.proofs.scan.fill.Tie as tie
 
@@ -21,20 +22,11 @@ at-line-requires c κs = tt
 loop-holds : tie.Need-loop-holds Inv-loop μ-loop
 loop-holds c = rw (c .at-line .ensures) (search needs, passed-start, refl, refl)
 
-shared-slice-read-b : tie.Need-shared-slice-read-b Inv-loop μ-loop
-shared-slice-read-b c = search needs
-
 put-byte-requires : tie.Need-put-byte-requires Inv-loop μ-loop
 put-byte-requires c κs = let p = c .before .before .before .loop .inv .1 in search needs
 
 advanced-requires : tie.Need-advanced-requires Inv-loop μ-loop
 advanced-requires c κs = let p = c .before .before .before .before .before .before .loop .inv .1 in (search needs, search needs)
-
-add-i : tie.Need-add-i Inv-loop μ-loop
-add-i c = search needs
-
-loop-less : tie.Need-loop-less Inv-loop μ-loop
-loop-less c = search needs
 
 loop-again : tie.Need-loop-again Inv-loop μ-loop
 loop-again c =
@@ -55,21 +47,11 @@ returns : tie.Need-returns Inv-loop μ-loop
 returns c =
     let l = c .before in
     let t = now (l .before .before .before .before .args .text) in
-    write-behind (l .loop .s) t (l .loop .i) (l .loop .out) (search needs) ∙ l .loop .inv .3
+    write-after (l .loop .s) t (l .loop .i) (l .loop .out) (search needs) ∙ l .loop .inv .3
 
 pub fill-spec : {M : Type 1} → statement M
 fill-spec =
     tie.close
     (tie.spec
-    Inv-loop
-    μ-loop
-    at-line-requires
-    loop-holds
-    shared-slice-read-b
-    put-byte-requires
-    advanced-requires
-    add-i
-    loop-less
-    loop-again
-    same-length
-    returns)
+    Inv-loop μ-loop at-line-requires loop-holds (λ c. search needs) put-byte-requires advanced-requires
+    (λ c. search needs) (λ c. search needs) loop-again same-length returns)

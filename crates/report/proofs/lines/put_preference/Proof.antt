@@ -1,35 +1,9 @@
+-- Number, kind, weight and outcome are written in turn, a blank after each and a newline at the end: then of Writing.
 use Rattle.text.proofs.Writing.{then}
 use Rattle.report.specs.Report.{preferenceLine}
 use borrow.Author.Needs.{needs}
 use Rattle.report.proofs.lines.put_preference.Statement.{statement}
 use Rattle.report.proofs.lines.put_preference.Tie as tie
-
-put-decimal-requires : tie.Need-put-decimal-requires
-put-decimal-requires c κs = search needs
-
-put-byte-requires : tie.Need-put-byte-requires
-put-byte-requires c κs = search needs
-
-put-kind-requires : tie.Need-put-kind-requires
-put-kind-requires c κs = search needs
-
-put-byte-requires-2 : tie.Need-put-byte-requires-2
-put-byte-requires-2 c κs = search needs
-
-put-decimal-requires-2 : tie.Need-put-decimal-requires-2
-put-decimal-requires-2 c κs = search needs
-
-put-byte-requires-3 : tie.Need-put-byte-requires-3
-put-byte-requires-3 c κs = search needs
-
-put-outcome-requires : tie.Need-put-outcome-requires
-put-outcome-requires c κs = search needs
-
-put-byte-requires-4 : tie.Need-put-byte-requires-4
-put-byte-requires-4 c κs = search needs
-
-same-length : tie.Need-same-length
-same-length c = search needs
 
 returns : tie.Need-returns
 unfolding preferenceLine
@@ -50,13 +24,5 @@ pub put-preference-spec : {M : Type 1} → statement M
 put-preference-spec =
     tie.close
     (tie.spec
-    put-decimal-requires
-    put-byte-requires
-    put-kind-requires
-    put-byte-requires-2
-    put-decimal-requires-2
-    put-byte-requires-3
-    put-outcome-requires
-    put-byte-requires-4
-    same-length
-    returns)
+    (λ c κs. search needs) (λ c κs. search needs) (λ c κs. search needs) (λ c κs. search needs) (λ c κs. search needs)
+    (λ c κs. search needs) (λ c κs. search needs) (λ c κs. search needs) (λ c. search needs) returns)

@@ -1,100 +1,29 @@
+-- By the mark the word that put_bytes writes is its kind's, and the last is left where the mark is no other's.
 use borrow.Author.Tests.{ne-eqb}
 use borrow.Author.Needs.{needs}
 use Rattle.report.proofs.lines.put_soft_kind.Statement.{statement}
 use Rattle.report.proofs.lines.put_soft_kind.Tie as tie
 
-slice-aggregate-put-word : tie.Need-slice-aggregate-put-word
-slice-aggregate-put-word c = search needs
-
-put-word-requires : tie.Need-put-word-requires
-put-word-requires c κs = search needs
-
-slice-aggregate-put-word-2 : tie.Need-slice-aggregate-put-word-2
-slice-aggregate-put-word-2 c = search needs
-
-put-word-requires-2 : tie.Need-put-word-requires-2
-put-word-requires-2 c κs = search needs
-
-slice-aggregate-put-word-3 : tie.Need-slice-aggregate-put-word-3
-slice-aggregate-put-word-3 c = search needs
-
-put-word-requires-3 : tie.Need-put-word-requires-3
-put-word-requires-3 c κs = search needs
-
-slice-aggregate-put-word-4 : tie.Need-slice-aggregate-put-word-4
-slice-aggregate-put-word-4 c = search needs
-
-put-word-requires-4 : tie.Need-put-word-requires-4
-put-word-requires-4 c κs = search needs
-
-slice-aggregate-put-word-5 : tie.Need-slice-aggregate-put-word-5
-slice-aggregate-put-word-5 c = search needs
-
-put-word-requires-5 : tie.Need-put-word-requires-5
-put-word-requires-5 c κs = search needs
-
-slice-aggregate-put-word-6 : tie.Need-slice-aggregate-put-word-6
-slice-aggregate-put-word-6 c = search needs
-
-put-word-requires-6 : tie.Need-put-word-requires-6
-put-word-requires-6 c κs = search needs
-
-slice-aggregate-put-word-7 : tie.Need-slice-aggregate-put-word-7
-slice-aggregate-put-word-7 c = search needs
-
-put-word-requires-7 : tie.Need-put-word-requires-7
-put-word-requires-7 c κs = search needs
-
-slice-aggregate-put-word-8 : tie.Need-slice-aggregate-put-word-8
-slice-aggregate-put-word-8 c = search needs
-
-put-word-requires-8 : tie.Need-put-word-requires-8
-put-word-requires-8 c κs = search needs
-
-same-length : tie.Need-same-length
-same-length c = search needs
-
 returns : tie.Need-returns
-returns c = let p = c .before .before in rw (p .before .before .before .match .keys1) (p .put-word .ensures, search needs)
-
-same-length-2 : tie.Need-same-length-2
-same-length-2 c = search needs
+returns c = let p = c .before .before in rw (p .before .before .before .match .keys1) (p .put-bytes .ensures, search needs)
 
 returns-2 : tie.Need-returns-2
-returns-2 c = let p = c .before .before in rw (p .before .before .before .match .keys2) (p .put-word2 .ensures, search needs)
-
-same-length-3 : tie.Need-same-length-3
-same-length-3 c = search needs
+returns-2 c = let p = c .before .before in rw (p .before .before .before .match .keys2) (p .put-bytes2 .ensures, search needs)
 
 returns-3 : tie.Need-returns-3
-returns-3 c = let p = c .before .before in rw (p .before .before .before .match .keys3) (p .put-word3 .ensures, search needs)
-
-same-length-4 : tie.Need-same-length-4
-same-length-4 c = search needs
+returns-3 c = let p = c .before .before in rw (p .before .before .before .match .keys3) (p .put-bytes3 .ensures, search needs)
 
 returns-4 : tie.Need-returns-4
-returns-4 c = let p = c .before .before in rw (p .before .before .before .match .keys4) (p .put-word4 .ensures, search needs)
-
-same-length-5 : tie.Need-same-length-5
-same-length-5 c = search needs
+returns-4 c = let p = c .before .before in rw (p .before .before .before .match .keys4) (p .put-bytes4 .ensures, search needs)
 
 returns-5 : tie.Need-returns-5
-returns-5 c = let p = c .before .before in rw (p .before .before .before .match .keys5) (p .put-word5 .ensures, search needs)
-
-same-length-6 : tie.Need-same-length-6
-same-length-6 c = search needs
+returns-5 c = let p = c .before .before in rw (p .before .before .before .match .keys5) (p .put-bytes5 .ensures, search needs)
 
 returns-6 : tie.Need-returns-6
-returns-6 c = let p = c .before .before in rw (p .before .before .before .match .keys6) (p .put-word6 .ensures, search needs)
-
-same-length-7 : tie.Need-same-length-7
-same-length-7 c = search needs
+returns-6 c = let p = c .before .before in rw (p .before .before .before .match .keys6) (p .put-bytes6 .ensures, search needs)
 
 returns-7 : tie.Need-returns-7
-returns-7 c = let p = c .before .before in rw (p .before .before .before .match .keys7) (p .put-word7 .ensures, search needs)
-
-same-length-8 : tie.Need-same-length-8
-same-length-8 c = search needs
+returns-7 c = let p = c .before .before in rw (p .before .before .before .match .keys7) (p .put-bytes7 .ensures, search needs)
 
 returns-8 : tie.Need-returns-8
 returns-8 c =
@@ -109,41 +38,15 @@ returns-8 c =
       ne-eqb m 14 (r .0 .0 .1),
       ne-eqb m 15 (r .0 .1),
       ne-eqb m 17 (r .1),
-    ) (p .put-word8 .ensures, search needs)
+    ) (p .put-bytes8 .ensures, search needs)
 
 pub put-soft-kind-spec : {M : Type 1} → statement M
 put-soft-kind-spec =
     tie.close
     (tie.spec
-    slice-aggregate-put-word
-    put-word-requires
-    slice-aggregate-put-word-2
-    put-word-requires-2
-    slice-aggregate-put-word-3
-    put-word-requires-3
-    slice-aggregate-put-word-4
-    put-word-requires-4
-    slice-aggregate-put-word-5
-    put-word-requires-5
-    slice-aggregate-put-word-6
-    put-word-requires-6
-    slice-aggregate-put-word-7
-    put-word-requires-7
-    slice-aggregate-put-word-8
-    put-word-requires-8
-    same-length
-    returns
-    same-length-2
-    returns-2
-    same-length-3
-    returns-3
-    same-length-4
-    returns-4
-    same-length-5
-    returns-5
-    same-length-6
-    returns-6
-    same-length-7
-    returns-7
-    same-length-8
-    returns-8)
+    (λ c. search needs) (λ c κs. search needs) (λ c. search needs) (λ c κs. search needs) (λ c. search needs)
+    (λ c κs. search needs) (λ c. search needs) (λ c κs. search needs) (λ c. search needs) (λ c κs. search needs)
+    (λ c. search needs) (λ c κs. search needs) (λ c. search needs) (λ c κs. search needs) (λ c. search needs)
+    (λ c κs. search needs) (λ c. search needs) returns (λ c. search needs) returns-2 (λ c. search needs) returns-3
+    (λ c. search needs) returns-4 (λ c. search needs) returns-5 (λ c. search needs) returns-6 (λ c. search needs)
+    returns-7 (λ c. search needs) returns-8)

@@ -1,26 +1,9 @@
+-- Words, steps, cost and newline are written in turn: then of Writing.
 use Rattle.text.proofs.Writing.{then}
 use Rattle.report.specs.Report.{solvedLine}
 use borrow.Author.Needs.{needs}
 use Rattle.report.proofs.lines.put_solved.Statement.{statement}
 use Rattle.report.proofs.lines.put_solved.Tie as tie
-
-slice-aggregate-put-number : tie.Need-slice-aggregate-put-number
-slice-aggregate-put-number c = search needs
-
-slice-aggregate-put-number-2 : tie.Need-slice-aggregate-put-number-2
-slice-aggregate-put-number-2 c = search needs
-
-put-number-requires : tie.Need-put-number-requires
-put-number-requires c κs = search needs
-
-put-decimal-requires : tie.Need-put-decimal-requires
-put-decimal-requires c κs = search needs
-
-put-byte-requires : tie.Need-put-byte-requires
-put-byte-requires c κs = search needs
-
-same-length : tie.Need-same-length
-same-length c = search needs
 
 returns : tie.Need-returns
 unfolding solvedLine
@@ -34,10 +17,5 @@ pub put-solved-spec : {M : Type 1} → statement M
 put-solved-spec =
     tie.close
     (tie.spec
-    slice-aggregate-put-number
-    slice-aggregate-put-number-2
-    put-number-requires
-    put-decimal-requires
-    put-byte-requires
-    same-length
-    returns)
+    (λ c. search needs) (λ c. search needs) (λ c κs. search needs) (λ c κs. search needs) (λ c κs. search needs)
+    (λ c. search needs) returns)

@@ -1,3 +1,4 @@
+-- A row that opens a preference has the line that put_preference writes, any other row has none: no-bytes of Writing.
 use mathlib.Core.Path.{sym, _∙_}
 use denote.Ref.{now}
 use borrow.Author.Tests.{not-true, not-false}
@@ -7,30 +8,12 @@ use borrow.Author.Needs.{needs}
 use Rattle.report.proofs.preferences.put_row.Statement.{statement}
 use Rattle.report.proofs.preferences.put_row.Tie as tie
 
-is-preference-requires : tie.Need-is-preference-requires
-is-preference-requires c κs = search needs
-
 returns : tie.Need-returns
 unfolding rowLine
 returns c =
     let i = c .before in
     let a = i .before .before .args in
     rw (sym (i .is-preference .ensures) ∙ not-true _ (c .if1 .taken)) (no-bytes (now (a .out)) (a .next .at), search needs)
-
-cast-is-met : tie.Need-cast-is-met
-cast-is-met c = search needs
-
-is-met-requires : tie.Need-is-met-requires
-is-met-requires c κs = search needs
-
-put-preference-requires : tie.Need-put-preference-requires
-put-preference-requires c κs = search needs
-
-add-t14 : tie.Need-add-t14
-add-t14 c = search needs
-
-same-length : tie.Need-same-length
-same-length c = search needs
 
 returns-2 : tie.Need-returns-2
 unfolding rowLine
@@ -44,11 +27,5 @@ pub put-row-spec : {M : Type 1} → statement M
 put-row-spec =
     tie.close
     (tie.spec
-    is-preference-requires
-    returns
-    cast-is-met
-    is-met-requires
-    put-preference-requires
-    add-t14
-    same-length
-    returns-2)
+    (λ c κs. search needs) returns (λ c. search needs) (λ c κs. search needs) (λ c κs. search needs) (λ c. search needs)
+    (λ c. search needs) returns-2)

@@ -1,10 +1,8 @@
+-- The two branches compute.
 use mathlib.Core.Path.{_≡_, sym, _∙_}
 use borrow.Author.Needs.{needs}
 use Rattle.state.proofs.conditions.false_mark.Statement.{statement}
 use Rattle.state.proofs.conditions.false_mark.Tie as tie
-
-has-requires : tie.Need-has-requires
-has-requires c κs = search needs
 
 returns : tie.Need-returns
 returns c = rw (sym (c .before .has .ensures) ∙ c .if1 .taken)
@@ -13,4 +11,4 @@ returns-2 : tie.Need-returns-2
 returns-2 c = rw (sym (c .before .has .ensures) ∙ c .if1 .left)
 
 pub false-mark-spec : {M : Type 1} → statement M
-false-mark-spec = tie.close (tie.spec has-requires returns returns-2)
+false-mark-spec = tie.close (tie.spec (λ c κs. search needs) returns returns-2)

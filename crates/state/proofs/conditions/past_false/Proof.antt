@@ -1,3 +1,4 @@
+-- False literals are passed one by one, by `Reader`.
 use borrow.Author.Needs.{needs}
 use mathlib.Core.Path.{_≡_, refl, sym, ap, _∙_}
 use mathlib.Core.Bool.{true, false}
@@ -26,15 +27,6 @@ loop-holds c =
     let a = c .before .before .args in
     (search needs, search needs, λ n. none-past (member (record { low = a .low; high = a .high })) (now (a .marks)) (now (a .values)) (a .at) n)
 
-shared-slice-read-if1 : tie.Need-shared-slice-read-if1 Inv-loop μ-loop
-shared-slice-read-if1 c = search needs
-
-value-at-requires : tie.Need-value-at-requires Inv-loop μ-loop
-value-at-requires c κs = search needs
-
-false-mark-requires : tie.Need-false-mark-requires Inv-loop μ-loop
-false-mark-requires c κs = search needs
-
 returns : tie.Need-returns Inv-loop μ-loop
 returns c =
     let l = c .before .before .before .before .before in (
@@ -44,12 +36,6 @@ returns c =
         stops = λ h e. c .if1 .taken (e ∙ sym (c .before .false-mark .ensures ∙ rw (c .before .before .value-at .ensures)));
       },
     )
-
-add-i : tie.Need-add-i Inv-loop μ-loop
-add-i c = search needs
-
-loop-less : tie.Need-loop-less Inv-loop μ-loop
-loop-less c = search needs
 
 loop-again : tie.Need-loop-again Inv-loop μ-loop
 loop-again c =
@@ -69,14 +55,5 @@ pub past-false-spec : {M : Type 1} → statement M
 past-false-spec =
     tie.close
     (tie.spec
-    Inv-loop
-    μ-loop
-    loop-holds
-    shared-slice-read-if1
-    value-at-requires
-    false-mark-requires
-    returns
-    add-i
-    loop-less
-    loop-again
-    returns-2)
+    Inv-loop μ-loop loop-holds (λ c. search needs) (λ c κs. search needs) (λ c κs. search needs) returns
+    (λ c. search needs) (λ c. search needs) loop-again returns-2)

@@ -1,3 +1,4 @@
+-- The loop marks row by row, by the laws of a row automaton (`Reading`).
 use borrow.Author.Needs.{needs}
 use mathlib.Core.Path.{_≡_, refl, sym, ap, _∙_}
 use Prim.Native.Nat.{ℕ, _+_, _-_, _≤_}
@@ -5,7 +6,7 @@ use denote.Ref.{now}
 use borrow.Author.Tests.{eq-eqb, ne-eqb}
 use lib.Dec.{eqb}
 use lib.ListN.{length}
-use Rattle.task.specs.Meaning.{State as Facts}
+use Rattle.meaning.specs.Meaning.{State as Facts}
 use Rattle.task.proofs.Reading.{goes-on, stops-at, ends-at}
 use Rattle.state.specs.Member.{member}
 use Rattle.state.specs.Effects.{ending, markRow, markAt}
@@ -22,9 +23,6 @@ abbrev μ-loop : tie.MeasureT-loop
 loop-holds : tie.Need-loop-holds Inv-loop μ-loop
 loop-holds c = (search needs, search needs, refl)
 
-shared-slice-read-if1 : tie.Need-shared-slice-read-if1 Inv-loop μ-loop
-shared-slice-read-if1 c = search needs
-
 returns : tie.Need-returns Inv-loop μ-loop
 returns c =
     let l = c .before .before .before in
@@ -35,18 +33,6 @@ returns c =
       search needs,
     )
 
-value-at-requires : tie.Need-value-at-requires Inv-loop μ-loop
-value-at-requires c κs = search needs
-
-marked-if-requires : tie.Need-marked-if-requires Inv-loop μ-loop
-marked-if-requires c κs = search needs
-
-add-i : tie.Need-add-i Inv-loop μ-loop
-add-i c = search needs
-
-loop-less : tie.Need-loop-less Inv-loop μ-loop
-loop-less c = search needs
-
 loop-again : tie.Need-loop-again Inv-loop μ-loop
 loop-again c =
     let l = c .before .before .before .before .before in
@@ -54,7 +40,7 @@ loop-again c =
       search needs,
       search needs,
       ap (λ (g : Facts). markAt (a .mark) (a .fires) g (now (a .marks)) (now (a .values)) (l .loop .i + 1))
-          (c .marked-if .ensures ∙ rw (c .before .value-at .ensures))
+          (c .with-if .ensures ∙ rw (c .before .value-at .ensures))
           ∙ sym (goes-on (markRow (a .fires)) (λ (n : ℕ). eqb n (a .mark)) ending (member (l .loop .f)) (now (a .marks)) (now (a .values)) (l .loop .i) (search needs)
           (eq-eqb _ _ (c .before .before .if1 .left)))
           ∙ l .loop .inv .2,
@@ -73,14 +59,5 @@ pub mark-all-spec : {M : Type 1} → statement M
 mark-all-spec =
     tie.close
     (tie.spec
-    Inv-loop
-    μ-loop
-    loop-holds
-    shared-slice-read-if1
-    returns
-    value-at-requires
-    marked-if-requires
-    add-i
-    loop-less
-    loop-again
-    returns-2)
+    Inv-loop μ-loop loop-holds (λ c. search needs) returns (λ c κs. search needs) (λ c κs. search needs)
+    (λ c. search needs) (λ c. search needs) loop-again returns-2)

@@ -1,3 +1,4 @@
+-- The condition, the ADD rows and the DELETE rows make one effect more: gathered-with of EffectRows; all lie within the rows.
 use Prim.Native.Nat.{_+_, _<_, _≤_}
 use native.Mathlib.Omega.{arith}
 use mathlib.Core.Path.{_≡_, refl}
@@ -12,12 +13,6 @@ use Rattle.state.proofs.EffectRows.{gathered-with}
 use Rattle.state.proofs.effects.one_effect.Statement.{statement}
 use Rattle.state.proofs.effects.one_effect.Tie as tie
 
-add-condition : tie.Need-add-condition
-add-condition c = search needs
-
-condition-requires : tie.Need-condition-requires
-condition-requires c κs = search needs
-
 -- the condition ends within the rows
 ends : (c : tie.After-condition) → c .condition .result .next ≤ length (now (c .before .before .before .before .before .args .marks))
 ends c =
@@ -28,9 +23,6 @@ ends c =
 mark-all-requires : tie.Need-mark-all-requires
 mark-all-requires c κs = let h = ends c in search needs
 
-mark-all-requires-2 : tie.Need-mark-all-requires-2
-mark-all-requires-2 c κs = search needs
-
 -- no more literals were looked at than rows were read
 few : (d : tie.After-mark-all2)
     → d .before .before .before .before .before .before .before .args .g .looked + d .before .before .condition .result .looked ≤ d .mark-all2 .result .next
@@ -38,7 +30,7 @@ few d =
     let n = d .before .before in
     omega (
       arith,
-      n .before .before .before .before .before .pre .2,
+      n .before .before .before .before .before .pre .0 .2,
       n .condition .ensures .1,
       d .before .mark-all .ensures .1,
       d .mark-all2 .ensures .1,
@@ -63,8 +55,8 @@ gathered d r added deleted looks next =
         omega (arith, looks, next, few d),
         omega (arith, next, d .mark-all2 .ensures .1),
       ),
-      λ e xs h stop. gathered-with (member (b .s)) (now (b .marks)) (now (b .values)) (b .i) (b .g) (n .condition .result) (n .condition .ensures .0)
-          (a .mark-all .result) (d .mark-all2 .result) (a .mark-all .ensures .0) (d .mark-all2 .ensures .0) e xs h stop r added deleted looks next,
+      λ e E. gathered-with (member (b .s)) (now (b .marks)) (now (b .values)) (b .i) (b .g) (n .condition .result) (n .condition .ensures .0)
+          (a .mark-all .result) (d .mark-all2 .result) (a .mark-all .ensures .0) (d .mark-all2 .ensures .0) e (E .rest) (E .spelled) (E .stops) r added deleted looks next,
     )
 
 returns : tie.Need-returns
@@ -74,9 +66,9 @@ pub one-effect-spec : {M : Type 1} → statement M
 one-effect-spec =
     tie.close
     (tie.spec
-    add-condition
-    condition-requires
+    (λ c. search needs)
+    (λ c κs. search needs)
     mark-all-requires
-    mark-all-requires-2
+    (λ c κs. search needs)
     add-looked
     returns)

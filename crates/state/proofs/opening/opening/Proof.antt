@@ -1,3 +1,4 @@
+-- The START rows are read one by one, by the laws of a row automaton (`Reading`).
 use borrow.Author.Needs.{needs}
 use borrow.Author.Tests.{eq-eqb, ne-eqb}
 use mathlib.Core.Path.{_≡_, sym, ap, _∙_}
@@ -5,7 +6,7 @@ use Prim.Native.Nat.{_+_, _-_}
 use denote.Ref.{now}
 use lib.ListN.{length, getD}
 use Rattle.task.specs.Marks.{START}
-use Rattle.task.specs.Meaning.{State as Facts}
+use Rattle.meaning.specs.Meaning.{State as Facts}
 use Rattle.task.proofs.Reading.{goes-on, stops-at, ends-at}
 use Rattle.state.specs.Member.{member, empty}
 use Rattle.state.specs.Opening.{openRow, opened, openAt}
@@ -19,14 +20,8 @@ Inv-loop marks values s₀ i₀ s i = openAt (member s) marks values i ≡ openA
 abbrev μ-loop : tie.MeasureT-loop
 μ-loop marks values s₀ i₀ s i = length marks - i
 
-none-requires : tie.Need-none-requires Inv-loop μ-loop
-none-requires c κs = search needs
-
 loop-holds : tie.Need-loop-holds Inv-loop μ-loop
 loop-holds c = let a = c .before .before .before .args in ap (λ (f : Facts). openAt f (now (a .marks)) (now (a .values)) 0) (c .none .ensures)
-
-shared-slice-read-if1 : tie.Need-shared-slice-read-if1 Inv-loop μ-loop
-shared-slice-read-if1 c = search needs
 
 returns : tie.Need-returns Inv-loop μ-loop
 returns c =
@@ -35,18 +30,6 @@ returns c =
     sym (stops-at openRow isStart opened (member (l .loop .s)) (now (a .marks)) (now (a .values)) (l .loop .i) (search needs)
     (ne-eqb (getD (now (a .marks)) (l .loop .i) 0) START (c .if1 .taken)))
     ∙ l .loop .inv
-
-value-at-requires : tie.Need-value-at-requires Inv-loop μ-loop
-value-at-requires c κs = search needs
-
-with-requires : tie.Need-with-requires Inv-loop μ-loop
-with-requires c κs = search needs
-
-add-i : tie.Need-add-i Inv-loop μ-loop
-add-i c = search needs
-
-loop-less : tie.Need-loop-less Inv-loop μ-loop
-loop-less c = search needs
 
 loop-again : tie.Need-loop-again Inv-loop μ-loop
 loop-again c =
@@ -68,15 +51,5 @@ pub opening-spec : {M : Type 1} → statement M
 opening-spec =
     tie.close
     (tie.spec
-    Inv-loop
-    μ-loop
-    none-requires
-    loop-holds
-    shared-slice-read-if1
-    returns
-    value-at-requires
-    with-requires
-    add-i
-    loop-less
-    loop-again
-    returns-2)
+    Inv-loop μ-loop (λ c κs. search needs) loop-holds (λ c. search needs) returns (λ c κs. search needs)
+    (λ c κs. search needs) (λ c. search needs) (λ c. search needs) loop-again returns-2)

@@ -1,28 +1,16 @@
--- By the mark: each kind computes, and the last is left where the mark is no other's.
+-- By the soft mark each kind computes, and the last is left where the mark is no other's: last-kind of Steps.
 use mathlib.Core.Path.{sym}
 use Prim.Native.Nat.{ℕ, _<_}
 use native.Mathlib.Omega.{arith}
 use lib.Dec.{T, leb, le→leb}
 use borrow.Author.Needs.{needs}
-use Rattle.task.specs.Check.{mostSteps}
 use Rattle.task.proofs.Steps.{last-kind}
 use Rattle.task.proofs.kinds.kind_at.Statement.{statement}
 use Rattle.task.proofs.kinds.kind_at.Tie as tie
+use Rattle.task.specs.Limits.{MAX-DEADLINE}
 
-few : (t : ℕ) → t < 16 → T (leb t mostSteps)
-few t h = le→leb t mostSteps (omega arith)
-
-shared-slice-read-soft-mark : tie.Need-shared-slice-read-soft-mark
-shared-slice-read-soft-mark c = search needs
-
-soft-mark-requires : tie.Need-soft-mark-requires
-soft-mark-requires c κs = search needs
-
-steps-at-requires : tie.Need-steps-at-requires
-steps-at-requires c κs = search needs
-
-steps-at-requires-2 : tie.Need-steps-at-requires-2
-steps-at-requires-2 c κs = search needs
+few : (t : ℕ) → t < 16 → T (leb t MAX-DEADLINE)
+few t h = le→leb t MAX-DEADLINE (omega arith)
 
 returns : tie.Need-returns
 returns c = (rw (← c .before .soft-mark .ensures, c .match .keys1), tt)
@@ -59,15 +47,5 @@ pub kind-at-spec : {M : Type 1} → statement M
 kind-at-spec =
     tie.close
     (tie.spec
-    shared-slice-read-soft-mark
-    soft-mark-requires
-    steps-at-requires
-    steps-at-requires-2
-    returns
-    returns-2
-    returns-3
-    returns-4
-    returns-5
-    returns-6
-    returns-7
-    returns-8)
+    (λ c. search needs) (λ c κs. search needs) (λ c κs. search needs) (λ c κs. search needs) returns returns-2 returns-3
+    returns-4 returns-5 returns-6 returns-7 returns-8)

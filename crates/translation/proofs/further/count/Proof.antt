@@ -1,8 +1,9 @@
+-- A loop over the rows, by `one-more`.
 use mathlib.Core.Path.{refl, ap, _∙_}
 use Prim.Native.Nat.{ℕ, _-_}
 use denote.Ref.{now}
 use lib.ListN.{length, getD}
-use Rattle.task.specs.Task.{row}
+use Rattle.task.specs.TaskRows.{row}
 use Rattle.translation.specs.Further.{furtherRow, furtherRows}
 use Rattle.translation.proofs.FurtherRows.{Counting, one-more, all-rows}
 use native.Mathlib.Nat.{zero-add}
@@ -20,24 +21,6 @@ abbrev μ-loop : tie.MeasureT-loop
 
 loop-holds : tie.Need-loop-holds Inv-loop μ-loop
 loop-holds c = let a = c .before .before .args in record { rows-left = search needs; few = search needs; so-far = zero-add (furtherRows (paired (now (a .marks)) (now (a .values)))) }
-
-shared-slice-read-count-row : tie.Need-shared-slice-read-count-row Inv-loop μ-loop
-shared-slice-read-count-row c = search needs
-
-value-at-requires : tie.Need-value-at-requires Inv-loop μ-loop
-value-at-requires c κs = search needs
-
-count-row-requires : tie.Need-count-row-requires Inv-loop μ-loop
-count-row-requires c κs = search needs
-
-add-d : tie.Need-add-d Inv-loop μ-loop
-add-d c = search needs
-
-add-i : tie.Need-add-i Inv-loop μ-loop
-add-i c = search needs
-
-loop-less : tie.Need-loop-less Inv-loop μ-loop
-loop-less c = search needs
 
 loop-again : tie.Need-loop-again Inv-loop μ-loop
 loop-again c =
@@ -57,14 +40,5 @@ pub count-spec : {M : Type 1} → statement M
 count-spec =
     tie.close
     (tie.spec
-    Inv-loop
-    μ-loop
-    loop-holds
-    shared-slice-read-count-row
-    value-at-requires
-    count-row-requires
-    add-d
-    add-i
-    loop-less
-    loop-again
-    returns)
+    Inv-loop μ-loop loop-holds (λ c. search needs) (λ c κs. search needs) (λ c κs. search needs) (λ c. search needs)
+    (λ c. search needs) (λ c. search needs) loop-again returns)

@@ -1,3 +1,4 @@
+-- By the mark.
 use borrow.Author.Tests.{ne-eqb}
 use Rattle.task.specs.Marks.{WITHIN, STEPS}
 use borrow.Author.Needs.{needs}

@@ -1,93 +1,65 @@
-use mathlib.Core.Path.{sym, ap}
-use Prim.Native.Nat.{_+_}
-use Rattle.task.specs.Task.{clauseRows}
-use Rattle.trackers.proofs.Putting.{then, as-rows}
-use Rattle.translation.proofs.PartRows.{met-lacks}
+-- The literals of each kind, after the row of the clause.
+use Rattle.writer.proofs.Putting.{then}
 use borrow.Author.Needs.{needs}
 use Rattle.translation.proofs.parts.put_met.Statement.{statement}
 use Rattle.translation.proofs.parts.put_met.Tie as tie
 
-put-row-requires : tie.Need-put-row-requires
-put-row-requires c κs = search needs
-
-put-row-requires-2 : tie.Need-put-row-requires-2
-put-row-requires-2 c κs = search needs
-
-put-row-requires-3 : tie.Need-put-row-requires-3
-put-row-requires-3 c κs = search needs
-
-put-row-requires-4 : tie.Need-put-row-requires-4
-put-row-requires-4 c κs = search needs
-
-put-row-requires-5 : tie.Need-put-row-requires-5
-put-row-requires-5 c κs = search needs
-
-add-put-row : tie.Need-add-put-row
-add-put-row c = search needs
-
-put-row-requires-6 : tie.Need-put-row-requires-6
-put-row-requires-6 c κs = search needs
-
-add-put-row-2 : tie.Need-add-put-row-2
-add-put-row-2 c = search needs
-
-put-row-requires-7 : tie.Need-put-row-requires-7
-put-row-requires-7 c κs = search needs
-
-same-length : tie.Need-same-length
-same-length c = search needs
-
 returns : tie.Need-returns
-returns c = λ t. rw (c .before .before .before .before .match .keys1) (then (search needs) (c .before .before .before .before .before .before .before .put-row .ensures) (c .before .before .put-row2 .ensures))
-
-same-length-2 : tie.Need-same-length-2
-same-length-2 c = search needs
+returns c =
+    let p = c .before .before in
+    let e = p .before .before in
+    rw (e .enum-told .given .1) (then (e .before .before .before .before .put-row .ensures) (p .put-row2 .ensures))
 
 returns-2 : tie.Need-returns-2
-returns-2 c = λ t. rw (c .before .before .before .before .match .keys2) (then (search needs) (c .before .before .before .before .before .before .before .put-row .ensures) (c .before .before .put-row3 .ensures))
-
-same-length-3 : tie.Need-same-length-3
-same-length-3 c = search needs
+returns-2 c =
+    let p = c .before .before in
+    let e = p .before .before in
+    rw (e .enum-told2 .given .1) (then (e .before .before .before .before .put-row .ensures) (p .put-row3 .ensures))
 
 returns-3 : tie.Need-returns-3
-returns-3 c = λ t. rw (c .before .before .before .before .match .keys3) (then (search needs) (c .before .before .before .before .before .before .before .put-row .ensures) (c .before .before .put-row4 .ensures))
-
-same-length-4 : tie.Need-same-length-4
-same-length-4 c = search needs
+returns-3 c =
+    let p = c .before .before in
+    let e = p .before .before in
+    rw (e .enum-told3 .given .1) (then (e .before .before .before .before .put-row .ensures) (p .put-row4 .ensures))
 
 returns-4 : tie.Need-returns-4
-returns-4 c = λ t. rw (c .before .before .before .before .before .before .before .before .match .keys4) (then (search needs) (c .before .before .before .before .before .before .before .before .before .before .before .put-row .ensures) (then (search needs) (c .before .before .before .before .before .before .put-row5 .ensures) (c .before .before .put-row6 .ensures)))
-
-same-length-5 : tie.Need-same-length-5
-same-length-5 c = search needs
+returns-4 c =
+    let q = c .before .before in
+    let p = q .before .before .before .before in
+    let e = p .before .before in
+    rw (e .enum-told4 .given .1) (then (e .before .before .before .before .put-row .ensures) (then (p .put-row5 .ensures) (q .put-row6 .ensures)))
 
 returns-5 : tie.Need-returns-5
-returns-5 c = λ t.
-    let a = c .before .before .before .before .before .before .before .before .before .before .args in
-    let r = c .before .before .before .before .match .rest in
-    as-rows (ap clauseRows (sym (met-lacks (a .mark) t (a .s) (a .s + 1) (r .0 .0 .0 .1) (r .0 .0 .1) (r .1) (r .0 .1))))
-    (then (search needs) (c .before .before .before .before .before .before .before .put-row .ensures) (c .before .before .put-row7 .ensures))
+returns-5 c =
+    let p = c .before .before in
+    let e = p .before .before in
+    rw (e .enum-told5 .given .1) (then (e .before .before .before .before .put-row .ensures) (p .put-row7 .ensures))
+
+returns-6 : tie.Need-returns-6
+returns-6 c =
+    let p = c .before .before in
+    let e = p .before .before in
+    rw (e .enum-told6 .given .1) (then (e .before .before .before .before .put-row .ensures) (p .put-row8 .ensures))
+
+returns-7 : tie.Need-returns-7
+returns-7 c =
+    let p = c .before .before in
+    let e = p .before .before in
+    rw (e .enum-told7 .given .1) (then (e .before .before .before .before .put-row .ensures) (p .put-row9 .ensures))
+
+returns-8 : tie.Need-returns-8
+returns-8 c =
+    let p = c .before .before in
+    let e = p .before .before in
+    rw (e .enum-told8 .given .1) (then (e .before .before .before .before .put-row .ensures) (p .put-row10 .ensures))
 
 pub put-met-spec : {M : Type 1} → statement M
 put-met-spec =
     tie.close
     (tie.spec
-    put-row-requires
-    put-row-requires-2
-    put-row-requires-3
-    put-row-requires-4
-    put-row-requires-5
-    add-put-row
-    put-row-requires-6
-    add-put-row-2
-    put-row-requires-7
-    same-length
-    returns
-    same-length-2
-    returns-2
-    same-length-3
-    returns-3
-    same-length-4
-    returns-4
-    same-length-5
-    returns-5)
+    (λ c. search needs) (λ c κs. search needs) (λ c. search needs) (λ c κs. search needs) (λ c. search needs)
+    (λ c κs. search needs) (λ c. search needs) (λ c κs. search needs) (λ c. search needs) (λ c κs. search needs)
+    (λ c κs. search needs) (λ c. search needs) (λ c κs. search needs) (λ c. search needs) (λ c κs. search needs)
+    (λ c. search needs) (λ c κs. search needs) (λ c. search needs) (λ c κs. search needs) (λ c. search needs) returns
+    (λ c. search needs) returns-2 (λ c. search needs) returns-3 (λ c. search needs) returns-4 (λ c. search needs)
+    returns-5 (λ c. search needs) returns-6 (λ c. search needs) returns-7 (λ c. search needs) returns-8)

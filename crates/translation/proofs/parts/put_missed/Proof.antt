@@ -1,91 +1,43 @@
-use mathlib.Core.Path.{sym, ap}
-use mathlib.Core.List.{map}
-use Prim.Native.Nat.{_+_}
-use Rattle.task.specs.Task.{Clause, conditionRows}
-use Rattle.classical.specs.Translation.{deny, alone}
-use Rattle.trackers.proofs.Putting.{then, as-rows}
-use Rattle.translation.proofs.PartRows.{met-lacks}
+-- The denied literals of each kind.
+use Rattle.writer.proofs.Putting.{then}
 use borrow.Author.Needs.{needs}
 use Rattle.translation.proofs.parts.put_missed.Statement.{statement}
 use Rattle.translation.proofs.parts.put_missed.Tie as tie
 
-put-single-requires : tie.Need-put-single-requires
-put-single-requires c κs = search needs
-
-put-single-requires-2 : tie.Need-put-single-requires-2
-put-single-requires-2 c κs = search needs
-
-put-single-requires-3 : tie.Need-put-single-requires-3
-put-single-requires-3 c κs = search needs
-
-put-single-requires-4 : tie.Need-put-single-requires-4
-put-single-requires-4 c κs = search needs
-
-add-put-single : tie.Need-add-put-single
-add-put-single c = search needs
-
-put-single-requires-5 : tie.Need-put-single-requires-5
-put-single-requires-5 c κs = search needs
-
-add-put-single-2 : tie.Need-add-put-single-2
-add-put-single-2 c = search needs
-
-put-single-requires-6 : tie.Need-put-single-requires-6
-put-single-requires-6 c κs = search needs
-
-same-length : tie.Need-same-length
-same-length c = search needs
-
 returns : tie.Need-returns
-returns c = λ t. rw (c .before .before .before .before .match .keys1) (c .before .before .put-single .ensures)
-
-same-length-2 : tie.Need-same-length-2
-same-length-2 c = search needs
+returns c = let p = c .before .before in rw (p .before .before .enum-told .given .1) (p .put-single .ensures)
 
 returns-2 : tie.Need-returns-2
-returns-2 c = λ t. rw (c .before .before .before .before .match .keys2) (c .before .before .put-single2 .ensures)
-
-same-length-3 : tie.Need-same-length-3
-same-length-3 c = search needs
+returns-2 c = let p = c .before .before in rw (p .before .before .enum-told2 .given .1) (p .put-single2 .ensures)
 
 returns-3 : tie.Need-returns-3
-returns-3 c = λ t. rw (c .before .before .before .before .match .keys3) (c .before .before .put-single3 .ensures)
-
-same-length-4 : tie.Need-same-length-4
-same-length-4 c = search needs
+returns-3 c = let p = c .before .before in rw (p .before .before .enum-told3 .given .1) (p .put-single3 .ensures)
 
 returns-4 : tie.Need-returns-4
-returns-4 c = λ t. rw (c .before .before .before .before .before .before .before .before .match .keys4) (then (search needs) (c .before .before .before .before .before .before .put-single4 .ensures) (c .before .before .put-single5 .ensures))
-
-same-length-5 : tie.Need-same-length-5
-same-length-5 c = search needs
+returns-4 c =
+    let q = c .before .before in
+    let p = q .before .before .before .before in
+    rw (p .before .before .enum-told4 .given .1) (then (p .put-single4 .ensures) (q .put-single5 .ensures))
 
 returns-5 : tie.Need-returns-5
-returns-5 c = λ t.
-    let a = c .before .before .before .before .before .before .args in
-    let r = c .before .before .before .before .match .rest in
-    as-rows (ap (λ (k : Clause). conditionRows (alone (map deny k))) (sym (met-lacks (a .mark) t (a .s) (a .s + 1) (r .0 .0 .0 .1) (r .0 .0 .1) (r .1) (r .0 .1))))
-    (c .before .before .put-single6 .ensures)
+returns-5 c = let p = c .before .before in rw (p .before .before .enum-told5 .given .1) (p .put-single6 .ensures)
+
+returns-6 : tie.Need-returns-6
+returns-6 c = let p = c .before .before in rw (p .before .before .enum-told6 .given .1) (p .put-single7 .ensures)
+
+returns-7 : tie.Need-returns-7
+returns-7 c = let p = c .before .before in rw (p .before .before .enum-told7 .given .1) (p .put-single8 .ensures)
+
+returns-8 : tie.Need-returns-8
+returns-8 c = let p = c .before .before in rw (p .before .before .enum-told8 .given .1) (p .put-single9 .ensures)
 
 pub put-missed-spec : {M : Type 1} → statement M
 put-missed-spec =
     tie.close
     (tie.spec
-    put-single-requires
-    put-single-requires-2
-    put-single-requires-3
-    put-single-requires-4
-    add-put-single
-    put-single-requires-5
-    add-put-single-2
-    put-single-requires-6
-    same-length
-    returns
-    same-length-2
-    returns-2
-    same-length-3
-    returns-3
-    same-length-4
-    returns-4
-    same-length-5
-    returns-5)
+    (λ c. search needs) (λ c. search needs) (λ c κs. search needs) (λ c. search needs) (λ c κs. search needs)
+    (λ c. search needs) (λ c κs. search needs) (λ c. search needs) (λ c κs. search needs) (λ c κs. search needs)
+    (λ c. search needs) (λ c κs. search needs) (λ c. search needs) (λ c κs. search needs) (λ c. search needs)
+    (λ c κs. search needs) (λ c. search needs) (λ c κs. search needs) (λ c. search needs) returns (λ c. search needs)
+    returns-2 (λ c. search needs) returns-3 (λ c. search needs) returns-4 (λ c. search needs) returns-5
+    (λ c. search needs) returns-6 (λ c. search needs) returns-7 (λ c. search needs) returns-8)

@@ -1,15 +1,10 @@
+-- What put_task counts.
 use borrow.Author.Needs.{needs}
 use Rattle.translation.proofs.whole.count_rows.Statement.{statement}
 use Rattle.translation.proofs.whole.count_rows.Tie as tie
 
-slice-aggregate-put-task : tie.Need-slice-aggregate-put-task
-slice-aggregate-put-task c = search needs
-
-put-task-requires : tie.Need-put-task-requires
-put-task-requires c κs = search needs
-
 returns : tie.Need-returns
-returns c = λ t s k f p. c .before .put-task .ensures t s k f p .behind
+returns c = c .before .put-task .ensures .next
 
 pub count-rows-spec : {M : Type 1} → statement M
-count-rows-spec = tie.close (tie.spec slice-aggregate-put-task put-task-requires returns)
+count-rows-spec = tie.close (tie.spec (λ c. search needs) (λ c κs. search needs) returns)

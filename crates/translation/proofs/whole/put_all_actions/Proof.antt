@@ -1,42 +1,34 @@
+-- The three kinds of actions in turn, by `then`.
 use mathlib.Core.Path.{ap}
 use Prim.Native.Nat.{ℕ, _+_}
+use denote.Ref.{now}
 use lib.ListN.{length}
-use Rattle.trackers.proofs.Putting.{then}
+use Rattle.writer.proofs.Putting.{then, as-rows}
+use Rattle.translation.specs.Parts.{readTask}
+use Rattle.translation.proofs.PartRows.{end-is, closings-all}
 use borrow.Author.Needs.{needs}
 use Rattle.translation.proofs.whole.put_all_actions.Statement.{statement}
 use Rattle.translation.proofs.whole.put_all_actions.Tie as tie
 
-put-actions-requires : tie.Need-put-actions-requires
-put-actions-requires c κs = search needs
-
-put-end-requires : tie.Need-put-end-requires
-put-end-requires c κs = search needs
-
-add-put-closings : tie.Need-add-put-closings
-add-put-closings c = search needs
-
-put-closings-requires : tie.Need-put-closings-requires
-put-closings-requires c κs = search needs
-
-same-length : tie.Need-same-length
-same-length c = search needs
-
 returns : tie.Need-returns
-returns c = λ l qs e p s q.
+returns c =
     let z = c .before .before in
     let y = z .before .before .before .before in
     let x = y .before .before .before .before in
-    let few = x .before .before .before .before .before .before .pre .0 in
-    then few (x .put-actions .ensures l qs e p s q)
-    (then few (y .put-end .ensures qs s) (z .put-closings .ensures qs (length qs) s (ap (λ (m : ℕ). m + 1) q)))
+    let st = x .before .before .before .before .before .before in
+    let a = st .args in
+    let p = st .pre .2 in
+    let ms = now (a .marks) in
+    let vs = now (a .values) in
+    let qs = readTask (a .facts) ms vs .preferences in
+    then (x .put-actions .ensures)
+    (then (as-rows (end-is ms vs (a .facts) (a .s .from) (a .s .to) (a .normal) (now (a .starts)) p) (y .put-end .ensures))
+    (as-rows (closings-all ms vs (a .facts) (length qs) (a .normal + 1) (ap (λ (m : ℕ). m + 1) (p .normal-is)) qs (p .timed) (a .s .to) (p .prefs) (now (a .starts)) (p .begun))
+    (z .put-closings .ensures)))
 
 pub put-all-actions-spec : {M : Type 1} → statement M
 put-all-actions-spec =
     tie.close
     (tie.spec
-    put-actions-requires
-    put-end-requires
-    add-put-closings
-    put-closings-requires
-    same-length
+    (λ c. search needs) (λ c κs. search needs) (λ c κs. search needs) (λ c κs. search needs) (λ c. search needs)
     returns)

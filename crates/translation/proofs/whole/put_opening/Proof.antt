@@ -1,49 +1,41 @@
-use Rattle.trackers.proofs.Putting.{then}
+-- The parts in turn, by `then`.
+use mathlib.Core.Path.{_∙_}
+use native.Mathlib.Omega.{arith}
+use Rattle.writer.proofs.Putting.{then}
 use borrow.Author.Needs.{needs}
 use Rattle.translation.proofs.whole.put_opening.Statement.{statement}
 use Rattle.translation.proofs.whole.put_opening.Tie as tie
 
-copy-rows-requires : tie.Need-copy-rows-requires
-copy-rows-requires c κs = search needs
-
-put-row-requires : tie.Need-put-row-requires
-put-row-requires c κs = search needs
-
-copy-rows-requires-2 : tie.Need-copy-rows-requires-2
-copy-rows-requires-2 c κs = search needs
-
-add-ended : tie.Need-add-ended
-add-ended c = search needs
-
-put-single-requires : tie.Need-put-single-requires
-put-single-requires c κs = search needs
-
 put-all-closed-requires : tie.Need-put-all-closed-requires
-put-all-closed-requires c κs = search needs
-
-same-length : tie.Need-same-length
-same-length c = search needs
-
-returns : tie.Need-returns
-returns c =
-    let z = c .before .before in
-    let y = z .before .before .before .before in
+put-all-closed-requires c κs =
+    let y = c .before .before .before in
     let x = y .before .before .before .before in
     let w = x .before .before .before .before in
     let v = w .before .before .before .before in
-    let few = v .before .before .before .before .before .pre .0 in
-    then few (v .copy-rows .ensures) (then few (w .put-row .ensures) (then few (x .copy-rows2 .ensures)
-    (then few (y .put-single .ensures) (z .put-all-closed .ensures))))
+    let st = v .before .before .before .before .before in
+    (y .put-single .ensures .room, st .pre .4, omega (arith, st .pre .5))
+
+same-length : tie.Need-same-length
+same-length c =
+    let v = c .before .before in
+    let w = v .before .before .before .before in
+    let z = w .before .before .before .before in
+    let y = z .before .before .before .before in
+    let x = y .before .before .before .before in
+    v .put-all-closed .kept .0 ∙ w .put-single .kept .0 ∙ z .copy-rows2 .kept .0 ∙ y .put-row .kept .0 ∙ x .copy-rows .kept .0
+
+returns : tie.Need-returns
+returns c =
+    let v = c .before .before in
+    let w = v .before .before .before .before in
+    let z = w .before .before .before .before in
+    let y = z .before .before .before .before in
+    let x = y .before .before .before .before in
+    then (x .copy-rows .ensures) (then (y .put-row .ensures) (then (z .copy-rows2 .ensures) (then (w .put-single .ensures) (v .put-all-closed .ensures))))
 
 pub put-opening-spec : {M : Type 1} → statement M
 put-opening-spec =
     tie.close
     (tie.spec
-    copy-rows-requires
-    put-row-requires
-    copy-rows-requires-2
-    add-ended
-    put-single-requires
-    put-all-closed-requires
-    same-length
-    returns)
+    (λ c. search needs) (λ c κs. search needs) (λ c κs. search needs) (λ c κs. search needs) (λ c κs. search needs)
+    put-all-closed-requires same-length returns)

@@ -1,0 +1,2 @@
+pub mod FalseRows
+pub mod EffectRows

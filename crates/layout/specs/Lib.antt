@@ -1,0 +1,4 @@
+pub mod Rows
+pub mod Actions
+pub mod Counting
+pub mod Sides

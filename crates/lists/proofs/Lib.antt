@@ -1,0 +1,3 @@
+pub mod Tests
+pub mod First
+pub mod Entries

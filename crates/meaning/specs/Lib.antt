@@ -1,0 +1,5 @@
+pub mod Task
+pub mod Meaning
+pub mod Verdict
+pub mod Literals
+pub mod Monitor

@@ -1,0 +1,96 @@
+// What a solution is worth, from its cost and the preferences that it meets.
+ghost use mathlib.Core.Path.{_≡_};
+ghost use Prim.Native.Nat.{ℕ, _+_, _≤_, _<_};
+ghost use lib.IntN.{pos, _-ℤ_};
+ghost use Rattle.task.specs.TaskRows.{row};
+ghost use Rattle.task.specs.Rows.{Rows};
+ghost use Rattle.state.specs.Member.{bit};
+ghost use Rattle.settling.specs.Settled.{argumentsAllowed};
+ghost use Rattle.layout.specs.Counting.{counting, countAt};
+ghost use Rattle.settling.specs.Amounts.{AMPLE, Room, nothing, weighed, asWeights};
+use super::Worth;
+use task::rows;
+
+// No plan of 2,048 steps costs more.
+const MOST: u64 = 2048000000;
+
+// So many preferences: the weights of those that are met, and of the others.
+pub struct Weights {
+    pub number: u32,
+    pub met: u64,
+    pub missed: u64,
+}
+
+// Whether the cost is small enough, and each met preference one of so many.
+pub fn arguments_allowed(preferences: usize, cost: u64, met: u64) -> bool
+    requires { ⌜ preferences ≤ 16 ⌝ }
+    ensures { λ r. ⌜ r ≡ argumentsAllowed preferences cost (bit met) ⌝ }
+{
+    (cost <= MOST) & (met >> preferences == 0)
+}
+
+// One preference more.
+fn weigh_one(t: Weights, weight: u32, met: u64) -> Weights
+    requires { ⌜ Room t ⌝ }
+    ensures { λ r. ⌜ ((m : ℕ) → asWeights r ≡ weighed (bit met) (asWeights t) (row m weight)) ⌝ }
+    ensures { λ r. ⌜ (r .number ≤ t .number + 1) × (r .met ≤ t .met + weight) × (r .missed ≤ t .missed + weight) ⌝ }
+{
+    let k = t.number;
+    let w = weight as u64;
+    if super::is_met(met, k) {
+        Weights {
+            number: k + 1,
+            met: t.met + w,
+            missed: t.missed,
+        }
+    } else {
+        Weights {
+            number: k + 1,
+            met: t.met,
+            missed: t.missed + w,
+        }
+    }
+}
+
+// One row more: each that opens a preference counts.
+fn weigh_row(t: Weights, mark: u8, value: u32, met: u64) -> Weights
+    requires { ⌜ Room t ⌝ }
+    ensures { λ r. ⌜ asWeights r ≡ counting (weighed (bit met)) (asWeights t) (row mark value) ⌝ }
+    ensures { λ r. ⌜ (r .number ≤ t .number + 1) × (r .met ≤ t .met + value) × (r .missed ≤ t .missed + value) ⌝ }
+{
+    if task::is_preference(mark) {
+        weigh_one(t, value, met)
+    } else {
+        t
+    }
+}
+
+// The preferences of a task, by the met ones.
+pub fn weigh(marks: &[u8], values: &[u8], met: u64) -> Weights
+    requires { ⌜ Rows (now marks) (now values) ⌝ }
+    ensures { λ r. ⌜ asWeights r ≡ countAt (weighed (bit met)) nothing (now (marks .entry)) (now (values .entry)) 0 ⌝ }
+    ensures { λ r. ⌜ (r .met < AMPLE) × (r .missed < AMPLE) ⌝ }
+{
+    let mut t = Weights {
+        number: 0,
+        met: 0,
+        missed: 0,
+    };
+    let mut i = 0;
+    while i < marks.len() {
+        t = weigh_row(t, marks[i], rows::value_at(values, i), met);
+        i += 1;
+    }
+    t
+}
+
+// The amounts of a solution.
+pub fn worth(cost: u64, t: Weights) -> Worth
+    requires { ⌜ (cost < AMPLE) × (t .met < AMPLE) × (t .missed < AMPLE) ⌝ }
+    ensures { λ r. ⌜ (r .metric ≡ cost + t .missed) × (r .utility ≡ pos (t .met) -ℤ pos cost) ⌝ }
+{
+    Worth {
+        metric: cost + t.missed,
+        utility: (t.met as i64) - (cost as i64),
+    }
+}

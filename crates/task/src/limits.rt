@@ -1,0 +1,24 @@
+// What is allowed: sizes, amounts, steps and texts.
+
+pub const MAX_FACTS: usize = 128;
+
+pub const MAX_ACTIONS: usize = 128;
+
+pub const MAX_PREFERENCES: usize = 16;
+
+pub const MAX_ROWS: usize = 12000;
+
+// A cost, or a soft preference's weight.
+pub const MAX_AMOUNT: usize = 1000000;
+
+// The steps of within and always-within.
+pub const MAX_DEADLINE: usize = 15;
+
+// Of a plan.
+pub const MAX_STEPS: usize = 2048;
+
+// Bytes of a plan's text.
+pub const MAX_TEXT: usize = 65536;
+
+// Of a plan: so many steps of the largest amount.
+pub const MAX_COST: u64 = 2048000000;

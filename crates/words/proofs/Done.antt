@@ -1,0 +1,246 @@
+-- 0 means done: a call returns 0 exactly where its answer is no refusal, since no refusal of any operation has number 0.
+use mathlib.Core.Path.{_≡_, refl}
+use mathlib.Core.Bool.{Bool, true, false, not, cond, _&&_}
+use mathlib.Core.List.{List, [], _∷_}
+use Prim.Native.Nat.{ℕ, _+_, _*_}
+use lib.Dec.{eqb, leb, ltb}
+use lib.ListN.{length}
+use mathlib.Core.Option.{Option, none, some}
+use Rattle.lists.specs.Lists.{all}
+use Rattle.task.specs.TaskRows.{Row}
+use Rattle.task.specs.File.{Sizes, sizes, rows, taskOf}
+use Rattle.task.specs.Check
+use Rattle.task.specs.Check.{Answer, Context, Progress, accepted, mayEnd, follow, valueAllowed, nextProgress, firstProgress, checkOn, sizesAllowed, checkRows, check}
+use Rattle.meaning.specs.Verdict.{verdict}
+use Rattle.meaning.specs.Literals.{literals}
+use Rattle.plan.specs.Judged
+use Rattle.plan.specs.Judged.{Judged, stepsKnown, judgedBy, judged}
+use Rattle.plan.specs.Walked
+use Rattle.plan.specs.Walked.{Walked, given, withoutAmounts, withoutWorth, walked}
+use Rattle.settling.specs.Settled
+use Rattle.settling.specs.Settled.{Settled, worth, worthOf, argumentsAllowed, settledBy, settled}
+use Rattle.outcome.specs.Outcome
+use Rattle.outcome.specs.Outcome.{Outcome, written, fitted}
+use Rattle.classical.specs.Translation.{further, compiledRows}
+use Rattle.translation.specs.Translated.{rowsFitted, smallEnough, outcomeBy, outcome}
+use Rattle.plan_text.specs.PlanText.{textOf, Read, plan, faulty, readPlan}
+use Rattle.plan_text.specs.Outcomes.{planFitted, readBy, readOutcome, writeOutcome, refusedAfter, textWalkedBy, textWalked}
+use Rattle.pddl_text.specs.Pddl.{domainText, problemText}
+use Rattle.pddl_text.specs.Outcomes
+use Rattle.pddl_text.specs.Outcomes.{outcomeBy as textsBy, outcome as texts}
+use Rattle.report.specs.Report.{reportOn, reportBy, reportOutcome}
+use Rattle.words.specs.Numbers.{Call, call, ofCheck, ofOutcome, ofTexts, ofWalk, ofSettle}
+
+-- The number that a call returns, and which answers are no refusals
+
+abbrev pub returnsZero : Call → Bool
+returnsZero (call n words) = eqb n 0
+
+abbrev pub isAccepted : Answer → Bool
+isAccepted (Check.accepted z) = true
+isAccepted (Check.refused n i) = false
+
+abbrev pub isWritten : Outcome → Bool
+isWritten (written n) = true
+isWritten (Outcome.refused n i) = false
+
+abbrev pub areWritten : Outcomes.Outcome → Bool
+areWritten (Outcomes.written d p) = true
+areWritten (Outcomes.refused n i) = false
+
+abbrev pub isGiven : Walked → Bool
+isGiven (given v looked) = true
+isGiven (Walked.refused n i) = false
+
+abbrev pub isWorth : Settled → Bool
+isWorth (worth metric utility) = true
+isWorth (Settled.refused n i) = false
+
+-- Check
+
+abbrev CheckDone : Answer → Type 0
+CheckDone a = returnsZero (ofCheck a) ≡ isAccepted a
+
+walk-done : (z : Sizes) (i : ℕ) (xs : List Row) (w : Progress) → CheckDone (checkRows z i xs w)
+unfolding checkRows
+walk-done z i [] w = go (mayEnd (w .context)) (eqb (w .actions) (z .actions) && eqb (w .preferences) (z .preferences))
+  where
+    go : (x y : Bool) → CheckDone (cond x (cond y (accepted z) (Check.refused 6 i)) (Check.refused 4 i))
+    go true true = refl
+    go true false = refl
+    go false y = refl
+walk-done z i (x ∷ xs) w = go (follow (w .context) (x .mark)) (walk-done z (i + 1) xs)
+  where
+    allowed : (b : Bool) (a : Answer) → CheckDone a → CheckDone (cond b a (Check.refused 5 i))
+    allowed true a e = e
+    allowed false a e = refl
+
+    go : (c : Option Context) → ((v : Progress) → CheckDone (checkRows z (i + 1) xs v)) → CheckDone (checkOn z i x w (checkRows z (i + 1) xs) c)
+    go none rest = refl
+    go (some c) rest = allowed (valueAllowed (z .facts) (w .floor) x) (checkRows z (i + 1) xs (nextProgress w c x)) (rest (nextProgress w c x))
+
+check-done : (b : List ℕ) → CheckDone (check b)
+unfolding check
+check-done b =
+    go (ltb (length b) 8) (not (sizesAllowed (sizes b))) (not (eqb (length b) (8 + 5 * sizes b .rows)))
+  where
+    go : (x y z : Bool)
+        → CheckDone (cond x (Check.refused 1 0) (cond y (Check.refused 2 0) (cond z (Check.refused 3 0) (checkRows (sizes b) 0 (rows b) firstProgress))))
+    go true y z = refl
+    go false true z = refl
+    go false false true = refl
+    go false false false = walk-done (sizes b) 0 (rows b) firstProgress
+
+-- Areas
+
+abbrev OutcomeDone : Outcome → Type 0
+OutcomeDone o = returnsZero (ofOutcome o) ≡ isWritten o
+
+fitted-done : (bytes room : ℕ) → OutcomeDone (fitted bytes room)
+fitted-done bytes room = go (leb bytes room)
+  where
+    go : (x : Bool) → OutcomeDone (cond x (written bytes) (Outcome.refused 9 0))
+    go true = refl
+    go false = refl
+
+-- an outcome, where another test has not refused
+outcome-else : (x : Bool) (o : Outcome) (n i : ℕ) → OutcomeDone o → eqb n 0 ≡ false → OutcomeDone (cond x o (Outcome.refused n i))
+outcome-else true o n i e h = e
+outcome-else false o n i e h = h
+
+translate-done : (b : List ℕ) (room : ℕ) → OutcomeDone (outcome b room)
+unfolding outcome
+translate-done b room = go (check b) (check-done b)
+  where
+    go : (a : Answer) → CheckDone a → OutcomeDone (outcomeBy b room a)
+    go (Check.refused n i) e = e
+    go (Check.accepted z) e =
+        outcome-else (smallEnough z (further (taskOf b .preferences))) (rowsFitted (compiledRows b) room) 7 0
+        (outcome-else (leb (compiledRows b) 12000) (fitted (8 + 5 * compiledRows b) room) 8 0 (fitted-done (8 + 5 * compiledRows b) room) refl) refl
+
+plan-done : (steps bytes room : ℕ) → OutcomeDone (planFitted steps bytes room)
+plan-done steps bytes room = outcome-else (leb steps 2048) (fitted bytes room) 10 0 (fitted-done bytes room) refl
+
+read-done : (t : List ℕ) (room : ℕ) → OutcomeDone (readOutcome t room)
+unfolding readOutcome
+read-done t room = go (readPlan t)
+  where
+    go : (r : Read) → OutcomeDone (readBy room r)
+    go (plan p) = plan-done (length p) (length p) room
+    go (faulty i) = refl
+
+write-done : (p : List ℕ) (room : ℕ) → OutcomeDone (writeOutcome p room)
+unfolding writeOutcome
+write-done p room = plan-done (length p) (length (textOf p)) room
+
+texts-done : (b : List ℕ) (domain problem : ℕ) → returnsZero (ofTexts (texts b domain problem)) ≡ areWritten (texts b domain problem)
+unfolding texts
+texts-done b domain problem = go (check b) (check-done b)
+  where
+    areas : (x y : Bool) (d p : ℕ) → let o = cond x (cond y (Outcomes.written d p) (Outcomes.refused 14 0)) (Outcomes.refused 13 0) in returnsZero (ofTexts o) ≡ areWritten o
+    areas true true d p = refl
+    areas true false d p = refl
+    areas false y d p = refl
+
+    go : (a : Answer) → CheckDone a → returnsZero (ofTexts (textsBy b domain problem a)) ≡ areWritten (textsBy b domain problem a)
+    go (Check.refused n i) e = e
+    go (Check.accepted z) e =
+        areas (eqb (z .preferences) 0) (leb (length (domainText (taskOf b))) domain && leb (length (problemText (taskOf b))) problem)
+        (length (domainText (taskOf b))) (length (problemText (taskOf b)))
+
+-- Plans
+
+abbrev WalkDone : Walked → Type 0
+WalkDone w = returnsZero (ofWalk w) ≡ isGiven w
+
+verdict-done : (v : Walked.Walk) (looked : ℕ) → WalkDone (given v looked)
+verdict-done (Walked.solved cost met) looked = refl
+verdict-done (Walked.stopped i) looked = refl
+verdict-done Walked.goal-missed looked = refl
+verdict-done (Walked.rule-missed i) looked = refl
+
+-- a judged plan, whose refusal has another number than 0
+abbrev Numbered : Judged → Type 0
+Numbered (Judged.given v) = Unit {0}
+Numbered (Judged.refused n i) = eqb n 0 ≡ false
+
+judged-numbered : (b p : List ℕ) → Numbered (judged b p)
+unfolding judged
+judged-numbered b p = go (check b) (check-done b)
+  where
+    steps : (x y : Bool) (z : Sizes)
+        → Numbered (cond x (cond y (Judged.given (verdict (taskOf b) p)) (Judged.refused 11 (stepsKnown (z .actions) p))) (Judged.refused 10 0))
+    steps true true z = tt
+    steps true false z = refl
+    steps false y z = refl
+
+    go : (a : Answer) → CheckDone a → Numbered (judgedBy b p a)
+    go (Check.refused n i) e = e
+    go (Check.accepted z) e = steps (leb (length p) 2048) (all (λ (k : ℕ). ltb k (z .actions)) p) z
+
+walked-done : (b p : List ℕ) → WalkDone (walked b p)
+unfolding walked
+walked-done b p = go (judged b p) (judged-numbered b p)
+  where
+    go : (j : Judged) → Numbered j → WalkDone (withoutWorth (literals (taskOf b) p) j)
+    go (Judged.given v) e = verdict-done (withoutAmounts v) (literals (taskOf b) p)
+    go (Judged.refused n i) e = e
+
+text-done : (b t : List ℕ) → WalkDone (textWalked b t)
+unfolding textWalked
+text-done b t = go (readPlan t)
+  where
+    after : (a : Answer) (i : ℕ) → CheckDone a → WalkDone (refusedAfter a 12 i)
+    after (Check.refused n k) i e = e
+    after (Check.accepted z) i e = refl
+
+    go : (r : Read) → WalkDone (textWalkedBy b r)
+    go (plan p) = walked-done b p
+    go (faulty i) = after (check b) i (check-done b)
+
+report-done : (b p : List ℕ) (room : ℕ) → OutcomeDone (reportOutcome b p room)
+unfolding reportOutcome
+report-done b p room = go (judged b p) (judged-numbered b p)
+  where
+    go : (j : Judged) → Numbered j → OutcomeDone (reportBy (length (reportOn b p)) room j)
+    go (Judged.given v) e = fitted-done (length (reportOn b p)) room
+    go (Judged.refused n i) e = e
+
+settled-done : (b : List ℕ) (cost : ℕ) (met : ℕ → Bool) → returnsZero (ofSettle (settled b cost met)) ≡ isWorth (settled b cost met)
+unfolding settled
+settled-done b cost met = go (check b) (check-done b)
+  where
+    allowed : (x : Bool) → let s = cond x (worthOf (taskOf b) cost met) (Settled.refused 15 0) in returnsZero (ofSettle s) ≡ isWorth s
+    allowed true = refl
+    allowed false = refl
+
+    go : (a : Answer) → CheckDone a → returnsZero (ofSettle (settledBy b cost met a)) ≡ isWorth (settledBy b cost met a)
+    go (Check.refused n i) e = e
+    go (Check.accepted z) e = allowed (argumentsAllowed (z .preferences) cost met)
+
+-- Every operation: on the file b, the plan p, the text t, a cost and met preferences, with areas of so many bytes
+
+pub record ZeroMeansDone (b p t : List ℕ) (cost : ℕ) (met : ℕ → Bool) (room more : ℕ) : Type 0 where
+  pub checking : returnsZero (ofCheck (check b)) ≡ isAccepted (check b)
+  pub translating : returnsZero (ofOutcome (outcome b room)) ≡ isWritten (outcome b room)
+  pub walking : returnsZero (ofWalk (walked b p)) ≡ isGiven (walked b p)
+  pub settling : returnsZero (ofSettle (settled b cost met)) ≡ isWorth (settled b cost met)
+  pub reading : returnsZero (ofOutcome (readOutcome t room)) ≡ isWritten (readOutcome t room)
+  pub writing : returnsZero (ofOutcome (writeOutcome p room)) ≡ isWritten (writeOutcome p room)
+  pub walking-text : returnsZero (ofWalk (textWalked b t)) ≡ isGiven (textWalked b t)
+  pub writing-pddl : returnsZero (ofTexts (texts b room more)) ≡ areWritten (texts b room more)
+  pub reporting : returnsZero (ofOutcome (reportOutcome b p room)) ≡ isWritten (reportOutcome b p room)
+
+pub zero-means-done : (b p t : List ℕ) (cost : ℕ) (met : ℕ → Bool) (room more : ℕ) → ZeroMeansDone b p t cost met room more
+zero-means-done b p t cost met room more =
+    record {
+      checking = check-done b;
+      translating = translate-done b room;
+      walking = walked-done b p;
+      settling = settled-done b cost met;
+      reading = read-done t room;
+      writing = write-done p room;
+      walking-text = text-done b t;
+      writing-pddl = texts-done b room more;
+      reporting = report-done b p room;
+    }

@@ -1,0 +1,50 @@
+-- The words of answers on the belt: what the definitions give, and what they should.
+use mathlib.Core.Path.{_≡_, refl}
+use mathlib.Core.List.{List, [], _∷_, map}
+use Prim.Native.Nat.{ℕ, _-_, _^_}
+use Rattle.task.specs.Check.{check, checkRows}
+use Rattle.meaning.specs.Literals.{literals}
+use Rattle.meaning.specs.Verdict.{verdict}
+use Rattle.task.proofs.Belt.{belt}
+use Rattle.state.specs.Member.{bit}
+use Rattle.plan.specs.Judged.{judged}
+use Rattle.plan.specs.Walked.{given, stopped, rule-missed, walked}
+use Rattle.settling.specs.Settled.{settled}
+use Rattle.classical.specs.Translation.{translated}
+use Rattle.translation.specs.Translated.{outcome}
+use Rattle.words.specs.Numbers.{Call, call, bits, ofCheck, ofOutcome, ofWalk, ofSettle}
+
+pub record Example : Type 0 where
+  pub given : Call
+  pub number : ℕ
+  pub words : List ℕ
+
+abbrev example : Call → ℕ → List ℕ → Example
+example c n ws = record { given = c; number = n; words = ws }
+
+abbrev examples : List Example
+examples =
+    example (ofCheck (check belt)) 0 (0 ∷ 2 ∷ 2 ∷ 2 ∷ 18 ∷ 0 ∷ 0 ∷ 0 ∷ [])
+    ∷ example (ofCheck (check [])) 1 (0 ∷ 0 ∷ 0 ∷ 0 ∷ 0 ∷ 0 ∷ 0 ∷ 0 ∷ [])
+    ∷ example (ofOutcome (outcome belt 473)) 0 (0 ∷ 473 ∷ 0 ∷ 0 ∷ 0 ∷ 0 ∷ 0 ∷ 0 ∷ [])
+    ∷ example (ofOutcome (outcome belt 472)) 9 (0 ∷ 0 ∷ 0 ∷ 0 ∷ 0 ∷ 0 ∷ 0 ∷ 0 ∷ [])
+    -- preference 1 is met, so bit 1 is set; 5 literals are looked at
+    ∷ example (ofWalk (walked belt (0 ∷ []))) 0 (0 ∷ 1 ∷ 0 ∷ 3 ∷ 2 ∷ 5 ∷ 0 ∷ 0 ∷ [])
+    ∷ example (ofSettle (settled belt 3 (bit 2))) 0 (0 ∷ 8 ∷ 4 ∷ 0 ∷ 0 ∷ 0 ∷ 0 ∷ 0 ∷ [])
+    -- a utility of -2
+    ∷ example (ofWalk (walked belt (0 ∷ 0 ∷ 0 ∷ []))) 0 (0 ∷ 1 ∷ 0 ∷ 9 ∷ 2 ∷ 9 ∷ 0 ∷ 0 ∷ [])
+    ∷ example (ofSettle (settled belt 9 (bit 2))) 0 (0 ∷ 14 ∷ (2 ^ 64 - 2) ∷ 0 ∷ 0 ∷ 0 ∷ 0 ∷ 0 ∷ [])
+    ∷ example (ofWalk (given (stopped 10) 77)) 0 (0 ∷ 2 ∷ 10 ∷ 0 ∷ 0 ∷ 77 ∷ 0 ∷ 0 ∷ [])
+    ∷ example (ofWalk (given (rule-missed 3) 77)) 0 (0 ∷ 4 ∷ 3 ∷ 0 ∷ 0 ∷ 77 ∷ 0 ∷ 0 ∷ [])
+    ∷ example (ofWalk (walked belt [])) 0 (0 ∷ 3 ∷ 0 ∷ 0 ∷ 0 ∷ 3 ∷ 0 ∷ 0 ∷ [])
+    ∷ example (ofWalk (walked belt (0 ∷ 2 ∷ []))) 11 (1 ∷ 0 ∷ 0 ∷ 0 ∷ 0 ∷ 0 ∷ 0 ∷ 0 ∷ [])
+    -- the largest cost, and one more; a preference that is not there
+    ∷ example (ofSettle (settled belt 2048000000 (bit 3))) 0 (0 ∷ 2048000000 ∷ (2 ^ 64 - 2047999988) ∷ 0 ∷ 0 ∷ 0 ∷ 0 ∷ 0 ∷ [])
+    ∷ example (ofSettle (settled belt 2048000001 (bit 0))) 15 (0 ∷ 0 ∷ 0 ∷ 0 ∷ 0 ∷ 0 ∷ 0 ∷ 0 ∷ [])
+    ∷ example (ofSettle (settled belt 0 (bit 4))) 15 (0 ∷ 0 ∷ 0 ∷ 0 ∷ 0 ∷ 0 ∷ 0 ∷ 0 ∷ [])
+    ∷ example (ofSettle (settled [] 2048000001 (bit 0))) 1 (0 ∷ 0 ∷ 0 ∷ 0 ∷ 0 ∷ 0 ∷ 0 ∷ 0 ∷ [])
+    ∷ []
+
+pub as-said : map (λ (e : Example). e .given) examples ≡ map (λ (e : Example). call (e .number) (e .words)) examples
+unfolding check checkRows judged verdict literals walked settled bit translated outcome bits
+as-said = refl

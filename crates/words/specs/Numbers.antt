@@ -1,0 +1,69 @@
+-- Answers as numbers, for callers in C and Rust: the number that a function returns, and the words that it leaves in the
+-- answer area.
+use mathlib.Core.Bool.{Bool, cond}
+use mathlib.Core.List.{List, [], _∷_}
+use Prim.Native.Nat.{ℕ, zero, suc, _+_, _*_, _-_, _^_}
+use lib.IntN.{ℤ, pos, negsuc}
+use Rattle.task.specs.Check
+use Rattle.task.specs.Check.{Answer}
+use Rattle.plan.specs.Walked
+use Rattle.plan.specs.Walked.{Walk, solved, stopped, goal-missed, rule-missed, Walked, given}
+use Rattle.settling.specs.Settled
+use Rattle.settling.specs.Settled.{Settled, worth}
+use Rattle.pddl_text.specs.Outcomes
+use Rattle.outcome.specs.Outcome
+use Rattle.outcome.specs.Outcome.{Outcome, written}
+
+pub data Call : Type 0 where
+  call : ℕ → List ℕ → Call
+
+-- an answer that is no refusal: 0 is returned, and word 0 is 0
+abbrev pub answered : ℕ → ℕ → ℕ → ℕ → ℕ → ℕ → ℕ → Call
+answered a b c d e f g = call 0 (0 ∷ a ∷ b ∷ c ∷ d ∷ e ∷ f ∷ g ∷ [])
+
+-- a refusal: its number is returned, word 0 is its place, and the other words are 0
+abbrev pub refusal : ℕ → ℕ → Call
+refusal n i = call n (i ∷ 0 ∷ 0 ∷ 0 ∷ 0 ∷ 0 ∷ 0 ∷ 0 ∷ [])
+
+-- words 1 to 4 are the sizes
+abbrev pub ofCheck : Answer → Call
+ofCheck (Check.accepted z) = answered (z .facts) (z .actions) (z .preferences) (z .rows) 0 0 0
+ofCheck (Check.refused n i) = refusal n i
+
+-- word 1 is the length written
+abbrev pub ofOutcome : Outcome → Call
+ofOutcome (written n) = answered n 0 0 0 0 0 0
+ofOutcome (Outcome.refused n i) = refusal n i
+
+-- words 1 and 2 are the lengths of the domain and of the problem
+abbrev pub ofTexts : Outcomes.Outcome → Call
+ofTexts (Outcomes.written d p) = answered d p 0 0 0 0 0
+ofTexts (Outcomes.refused n i) = refusal n i
+
+-- a signed number in 64 bits, by two's complement
+abbrev pub signed : ℤ → ℕ
+signed (pos n) = n
+signed (negsuc n) = 2 ^ 64 - 1 - n
+
+-- the numbers below n of a set, as bits
+unfoldable pub bits : ℕ → (ℕ → Bool) → ℕ
+bits zero f = 0
+bits (suc n) f = cond (f 0) 1 0 + 2 * bits n (λ (k : ℕ). f (suc k))
+
+-- word 1 is the verdict: 1 solved, 2 stopped, 3 goal missed, 4 rule missed. Word 2 is the step at which a plan stopped, or the
+-- rule that it missed, words 3 and 4 are cost and the met preferences of a plan that solves; word 5 is how many literals were
+-- looked at, with every verdict
+abbrev pub ofVerdict : Walk → ℕ → Call
+ofVerdict (solved cost met) looked = answered 1 0 cost (bits 64 met) looked 0 0
+ofVerdict (stopped step) looked = answered 2 step 0 0 looked 0 0
+ofVerdict goal-missed looked = answered 3 0 0 0 looked 0 0
+ofVerdict (rule-missed rule) looked = answered 4 rule 0 0 looked 0 0
+
+abbrev pub ofWalk : Walked → Call
+ofWalk (given v looked) = ofVerdict v looked
+ofWalk (Walked.refused n i) = refusal n i
+
+-- words 1 and 2 are metric and utility
+abbrev pub ofSettle : Settled → Call
+ofSettle (worth metric utility) = answered metric (signed utility) 0 0 0 0 0
+ofSettle (Settled.refused n i) = refusal n i

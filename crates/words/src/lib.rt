@@ -1,0 +1,129 @@
+// What each operation answers to callers in C and Rust: the number that a function returns, and eight words.
+ghost use mathlib.Core.Path.{_≡_};
+ghost use Rattle.task.specs.Answers.{answer as ofChecked};
+ghost use Rattle.plan.specs.Answers.{asVerdict, walkedAs};
+ghost use Rattle.settling.specs.Answers.{settledAs};
+ghost use Rattle.plan.specs.declared.Verdict.the-variants.{Solved};
+ghost use Rattle.settling.specs.declared.Settled.the-variants.{Given};
+ghost use Rattle.outcome.specs.Answers.{answer as asOutcome};
+ghost use Rattle.pddl_text.specs.Answers.{answer as asTexts};
+ghost use Rattle.words.specs.Numbers.{call, refusal, answered, ofCheck, ofOutcome, ofTexts, ofVerdict, ofWalk, ofSettle, signed};
+use outcome::Outcome;
+use plan::Solution;
+use plan::Verdict;
+use plan::Walked;
+use settling::Settled;
+use settling::Worth;
+use task::Checked;
+use task::Refusal;
+
+// Word 1 of a verdict.
+const SOLVED: u64 = 1;
+
+const STOPPED: u64 = 2;
+
+const GOAL_MISSED: u64 = 3;
+
+const RULE_MISSED: u64 = 4;
+
+// Writes a refusal, and returns its number.
+fn put_refusal(f: Refusal, answer: &mut [u64; 8]) -> u32
+    ensures { λ r. ⌜ call r (now (answer .exit)) ≡ refusal (f .number) (f .place) ⌝ }
+{
+    *answer = [f.place as u64, 0, 0, 0, 0, 0, 0, 0];
+    f.number as u32
+}
+
+// Writes up to six values of an answer that is no refusal.
+fn put_values(answer: &mut [u64; 8], a: u64, b: u64, c: u64, d: u64, e: u64, f: u64) -> u32
+    ensures { λ r. ⌜ call r (now (answer .exit)) ≡ answered a b c d e f 0 ⌝ }
+{
+    *answer = [0, a, b, c, d, e, f, 0];
+    0
+}
+
+pub fn put_checked(c: Checked, answer: &mut [u64; 8]) -> u32
+    ensures { λ r. ⌜ call r (now (answer .exit)) ≡ ofCheck (ofChecked c) ⌝ }
+{
+    match c {
+        Checked::Accepted(z) => put_values(
+            answer,
+            z.facts as u64,
+            z.actions as u64,
+            z.preferences as u64,
+            z.rows as u64,
+            0,
+            0,
+        ),
+        Checked::Refused(f) => put_refusal(f, answer),
+    }
+}
+
+pub fn put_outcome(o: Outcome, answer: &mut [u64; 8]) -> u32
+    ensures { λ r. ⌜ call r (now (answer .exit)) ≡ ofOutcome (asOutcome o) ⌝ }
+{
+    match o {
+        Outcome::Written(n) => put_values(answer, n as u64, 0, 0, 0, 0, 0),
+        Outcome::Refused(f) => put_refusal(f, answer),
+    }
+}
+
+pub fn put_texts(o: pddl_text::Outcome, answer: &mut [u64; 8]) -> u32
+    ensures { λ r. ⌜ call r (now (answer .exit)) ≡ ofTexts (asTexts o) ⌝ }
+{
+    match o {
+        pddl_text::Outcome::Written(n) => {
+            put_values(answer, n.domain as u64, n.problem as u64, 0, 0, 0, 0)
+        }
+        pddl_text::Outcome::Refused(f) => put_refusal(f, answer),
+    }
+}
+
+// A signed number by two's complement.
+fn as_word(n: i64) -> u64
+    ensures { λ r. ⌜ r ≡ signed n ⌝ }
+{
+    if n < 0 { !((!n) as u64) } else { n as u64 }
+}
+
+fn put_solution(s: Solution, looked: u64, answer: &mut [u64; 8]) -> u32
+    ensures { λ r. ⌜ call r (now (answer .exit)) ≡ ofVerdict (asVerdict (Solved s)) looked ⌝ }
+{
+    put_values(answer, SOLVED, 0, s.cost, s.met, looked, 0)
+}
+
+// Writes a verdict, and how many literals were looked at.
+fn put_verdict(v: Verdict, looked: u64, answer: &mut [u64; 8]) -> u32
+    ensures { λ r. ⌜ call r (now (answer .exit)) ≡ ofVerdict (asVerdict v) looked ⌝ }
+{
+    match v {
+        Verdict::Solved(s) => put_solution(s, looked, answer),
+        Verdict::Stopped(step) => put_values(answer, STOPPED, step as u64, 0, 0, looked, 0),
+        Verdict::GoalMissed => put_values(answer, GOAL_MISSED, 0, 0, 0, looked, 0),
+        Verdict::RuleMissed(rule) => put_values(answer, RULE_MISSED, rule as u64, 0, 0, looked, 0),
+    }
+}
+
+pub fn put_walked(w: Walked, answer: &mut [u64; 8]) -> u32
+    ensures { λ r. ⌜ call r (now (answer .exit)) ≡ ofWalk (walkedAs w) ⌝ }
+{
+    match w {
+        Walked::Given(v, looked) => put_verdict(v, looked, answer),
+        Walked::Refused(f) => put_refusal(f, answer),
+    }
+}
+
+fn put_worth(w: Worth, answer: &mut [u64; 8]) -> u32
+    ensures { λ r. ⌜ call r (now (answer .exit)) ≡ ofSettle (settledAs (Given w)) ⌝ }
+{
+    put_values(answer, w.metric, as_word(w.utility), 0, 0, 0, 0)
+}
+
+pub fn put_settled(s: Settled, answer: &mut [u64; 8]) -> u32
+    ensures { λ r. ⌜ call r (now (answer .exit)) ≡ ofSettle (settledAs s) ⌝ }
+{
+    match s {
+        Settled::Given(w) => put_worth(w, answer),
+        Settled::Refused(f) => put_refusal(f, answer),
+    }
+}
