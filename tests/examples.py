@@ -8,11 +8,14 @@ import os
 import runpy
 import sys
 
+from shared import stored
+from shared.expected import expect
+
 ROOT = os.path.dirname(os.path.dirname(os.path.abspath(__file__)))
 HOUSE = os.path.join(ROOT, 'examples/batch_house')
-RUN = runpy.run_path(os.path.join(HOUSE, 'run'))
-ACCOUNT = runpy.run_path(os.path.join(ROOT, 'tests/check/vectors.py'))
-Text, Wrong, show, read, text_of = (RUN['TOOL'][name] for name in ('Text', 'Wrong', 'show', 'read', 'text_of'))
+RUN = runpy.run_path(os.path.join(HOUSE, 'run'))  # the example, which is a program and no module
+TOOL = RUN['task']
+Text, Wrong, show, read, text_of = TOOL.Text, TOOL.Wrong, TOOL.show, TOOL.read, TOOL.text_of
 
 # Texts that the tool turns down, and what it says.
 WRONG = [
@@ -38,11 +41,6 @@ SOURCES = [
 ]
 
 
-def expect(what, got, wanted):
-    if got != wanted:
-        sys.exit(f'{what}: {got!r}, and not {wanted!r}')
-
-
 def answered(call):
     """What the tool answers, or why it turns a text down."""
     try:
@@ -53,7 +51,7 @@ def answered(call):
 
 def round_trips():
     """Every accepted vector of check is its own text's file; a text with names shows them again."""
-    accepted = [data for _, data, line in ACCOUNT['vectors']() if line.startswith('accepted')]
+    accepted = stored.accepted()
     for data in accepted:
         expect('a vector of check', Text(show(data)).file(), data)
     for example in ('belt', 'batch_house'):

@@ -1,5 +1,6 @@
 #!/usr/bin/env python3
-"""Random task files, good and damaged, through the program check_vectors; each line is held to the account in vectors.py.
+"""Random task files, good and damaged, through the program check_vectors; each line is held to the account in
+shared/account.py.
 
 tests/check/compare.py PROGRAM [COUNT [SEED]]     PROGRAM is target/bin/check_vectors
 """
@@ -10,9 +11,11 @@ import subprocess
 import sys
 import tempfile
 
-sys.dont_write_bytecode = True
-from vectors import MARKS, PREFERENCES, check, file, record, spelled
-from vectors import preference as preference_of
+sys.path.insert(0, os.path.dirname(os.path.dirname(os.path.abspath(__file__))))
+from shared import files
+from shared.account import check
+from shared.files import PREFERENCES, TRIED, file, spelled
+from shared.stored import record
 
 ANSWERS = ['accepted', *(f'refused {number}' for number in range(1, 7))]
 BATCH = 1000
@@ -40,7 +43,7 @@ def action(r, f):
 
 
 def preference(r, f):
-    return preference_of(r.choice(PREFERENCES), r.randint(0, 1000000), condition(r, f), condition(r, f), r.randint(0, 15))
+    return files.preference(r.choice(PREFERENCES), r.randint(0, 1000000), condition(r, f), condition(r, f), r.randint(0, 15))
 
 
 def good_rows(r, f):
@@ -57,7 +60,7 @@ def damage_rows(r, rows):
     mark, value = rows[i]
     how = r.choice(['mark', 'value', 'swap', 'drop', 'repeat', 'cut'])
     if how == 'mark':
-        rows[i] = r.choice(MARKS), value
+        rows[i] = r.choice(TRIED), value
     elif how == 'value':
         rows[i] = mark, r.choice([0, 1, value + 1, 15, 16, 127, 128, 255, 256, 1000000, 1000001, 2 ** 24, 2 ** 32 - 1])
     elif how == 'swap':

@@ -1,168 +1,24 @@
 #!/usr/bin/env python3
-"""The test vectors of check: the task file of document 01 and of document 02's sixth and eighth requests, and its refusals 1 to 6, in
-an account of their own.
+"""The test vectors of check: files, and the lines that document 01 and requests 6 and 8 of document 02 want for them.
 
 tests/check/vectors.py           writes crates/check_vectors/data/vectors and crates/check_vectors/stdout
 tests/check/vectors.py --check   writes nothing, and fails where these two files are not what it makes
 tests/check/vectors.py --list    says what each vector is for, and which line it must get
+
+A vector is one record (shared/stored.py), the file. Its line is that of the account in shared/account.py. Where an answer stands beside a
+vector, it was written by hand, and has to agree with the line.
 """
 import os
-import struct
 import sys
 
-HERE = os.path.dirname(os.path.abspath(__file__))
-
-# The documents' names of the marks 1 to 19; a hard rule's is its kind with `hard-` before it.
-NAMES = ['ACTION', 'EFFECT', 'CLAUSE', 'HOLDS', 'LACKS', 'ADD', 'DELETE', 'GOAL', 'START', 'always', 'sometime', 'at-end',
-         'at-most-once', 'sometime-before', 'sometime-after', 'SECOND', 'within', 'always-within', 'STEPS']
-SOFT = NAMES[9:15] + NAMES[16:18]
-HARD = [f'hard-{kind}' for kind in SOFT]
-NAME = {**dict(enumerate(NAMES, 1)), **dict(zip([26, 27, 28, 29, 30, 31, 33, 34], HARD))}
-MARK = {name: mark for mark, name in NAME.items()}
-PREFERENCES = SOFT + HARD
-DEADLINES = ['within', 'always-within']
-WITH_STEPS = [hard + kind for hard in ('', 'hard-') for kind in DEADLINES]
-WITH_SECOND = [hard + kind for hard in ('', 'hard-') for kind in ('sometime-before', 'sometime-after', 'always-within')]
-OF_FACTS = ['HOLDS', 'LACKS', 'ADD', 'DELETE']
-
-
-# ---- the account: the answer to a file, read from the documents sentence by sentence
-
-class Refused(Exception):
-    """Number and place."""
-
-
-class Rows:
-    """The rows of a file, taken from the first to the last."""
-    def __init__(self, facts, marks, values):
-        self.facts, self.marks, self.values = facts, marks, values
-        self.next, self.last_start = 0, -1
-
-    def comes(self, *names):
-        return self.next < len(self.marks) and self.marks[self.next] in names
-
-    def allows(self, name, value):
-        if name == 'ACTION' or name in SOFT:
-            return value <= 1000000
-        if name == 'STEPS':
-            return value <= 15
-        if name == 'START':
-            return self.last_start < value < self.facts
-        return value < self.facts if name in OF_FACTS else value == 0
-
-    def take(self, *names):
-        """Takes a row that has to come, with one of these marks and a value that the mark allows."""
-        if not self.comes(*names):
-            raise Refused(4, self.next)  # N where the rows have ended
-        name, value = self.marks[self.next], self.values[self.next]
-        if not self.allows(name, value):
-            raise Refused(5, self.next)
-        if name == 'START':
-            self.last_start = value
-        self.next += 1
-        return name
-
-    def take_any(self, *names):
-        while self.comes(*names):
-            self.take(*names)
-
-    def condition(self):
-        while self.comes('CLAUSE'):
-            self.take('CLAUSE')
-            self.take('HOLDS', 'LACKS')
-            self.take_any('HOLDS', 'LACKS')
-
-    def action(self):
-        self.take('ACTION')
-        self.condition()
-        while self.comes('EFFECT'):
-            self.take('EFFECT')
-            self.condition()
-            self.take_any('ADD')
-            self.take_any('DELETE')
-
-    def preference(self):
-        kind = self.take(*PREFERENCES)
-        if kind in WITH_STEPS:
-            self.take('STEPS')
-        self.condition()
-        if kind in WITH_SECOND:
-            self.take('SECOND')
-            self.condition()
-
-    def task(self):
-        """Takes all rows, and answers how many actions and preferences they have."""
-        actions, preferences = 0, 0
-        self.take_any('START')
-        self.take('GOAL')
-        self.condition()
-        while self.comes('ACTION'):
-            self.action()
-            actions += 1
-        while self.comes(*PREFERENCES):
-            self.preference()
-            preferences += 1
-        if self.next < len(self.marks):
-            raise Refused(4, self.next)
-        return actions, preferences
-
-
-def check(data):
-    """The line that the program has to write."""
-    if len(data) < 8:
-        return 'refused 1 0'
-    f, a, p, n = struct.unpack('<4H', data[:8])
-    if not (1 <= f <= 128 and a <= 128 and p <= 16 and n <= 12000):
-        return 'refused 2 0'
-    if len(data) != 8 + 5 * n:
-        return 'refused 3 0'
-    marks = [NAME.get(mark, 'none') for mark in data[8:8 + n]]
-    try:
-        counted = Rows(f, marks, struct.unpack(f'<{n}I', data[8 + n:])).task()
-    except Refused as refusal:
-        return 'refused %d %d' % refusal.args
-    return f'accepted {f} {a} {p} {n}' if counted == (a, p) else f'refused 6 {n}'
-
-
-# ---- making files
-
-def spelled(text):
-    """Rows in the documents' words, 'GOAL CLAUSE HOLDS 1': a value left out is 0, and '#17' is the mark 17."""
-    rows = []
-    for word in text.split():
-        if word.isdigit():
-            rows[-1] = (rows[-1][0], int(word))
-        else:
-            rows.append((int(word[1:]) if word[0] == '#' else MARK[word], 0))
-    return rows
-
-
-def file(text, F=4, A=None, P=None, N=None):
-    """A task file of rows, or of rows in words. The sizes that are left out are those that the rows have."""
-    rows = spelled(text) if isinstance(text, str) else text
-    names = [NAME.get(mark) for mark, _ in rows]
-    actions = names.count('ACTION') if A is None else A
-    preferences = sum(name in PREFERENCES for name in names) if P is None else P
-    header = struct.pack('<4H', F, actions, preferences, len(rows) if N is None else N)
-    return header + bytes(mark for mark, _ in rows) + b''.join(struct.pack('<I', value) for _, value in rows)
-
-
-def goal(n):
-    """A goal of n rows, three or more."""
-    return 'GOAL CLAUSE' + ' HOLDS 3' * (n - 2)
-
-
-def preference(kind, weight, phi='', psi='', steps=0):
-    """The rows of a preference in words. ψ and the steps are left out where the kind has none, and the weight where it is hard."""
-    opening = kind if kind in HARD else f'{kind} {weight}'
-    deadline = f' STEPS {steps}' if kind in WITH_STEPS else ''
-    return f' {opening}{deadline} {phi}' + (f' SECOND {psi}' if kind in WITH_SECOND else '')
+sys.path.insert(0, os.path.dirname(os.path.dirname(os.path.abspath(__file__))))
+from shared import stored
+from shared.account import check
+from shared.files import BELT, HARD, NAME, OF_FACTS, PREFERENCES, SOFT, TRIED, WITH_SECOND, WITH_STEPS, file, goal, preference, spelled
 
 
 # ---- the vectors: what each is for, how its line begins where that is written down here too, and the file
 
-BELT = ('START 1  GOAL CLAUSE LACKS 1  ACTION 3 EFFECT ADD 0 DELETE 1  ACTION 1 EFFECT ADD 1 DELETE 0 '
-        'always 5 CLAUSE LACKS 1  sometime 7 CLAUSE HOLDS 0')
 LONG = ' CLAUSE HOLDS 0 LACKS 3 CLAUSE LACKS 1 '
 ALL_KINDS = f'START 0 START 3 GOAL {LONG}' + 2 * f'ACTION 9 {LONG} EFFECT {LONG} ADD 0 ADD 1 DELETE 2 DELETE 3 EFFECT {LONG}' + (
     ''.join(preference(kind, 7, LONG, LONG, 15) for kind in PREFERENCES))
@@ -253,9 +109,6 @@ def values():
     yield 'START of all 128 facts, the last again', 'refused 5 128', file(every + ' START 127 GOAL', F=128)
 
 
-MARKS = [*range(37), 48, 49, 50, 128 + 10, 128 + 26, 255]
-
-
 def limit(mark):
     """The greatest value that a mark allows, F being 4."""
     name = NAME.get(mark)
@@ -274,14 +127,14 @@ def contexts():
               *(f'GOAL {kind} 5 SECOND' for kind in without if kind in WITH_SECOND)]
     conditions = [before for owner in owners for before in with_condition(owner)]
     for before in ['', 'START 0', *conditions, 'GOAL ACTION 5 EFFECT ADD 1', 'GOAL ACTION 5 EFFECT DELETE 1']:
-        for mark in MARKS:
+        for mark in TRIED:
             for value in [limit(mark), limit(mark) + 1]:
                 yield f'{before}, then mark {mark} with {value}', '', file(f'{before} #{mark} {value}')
 
 
 def too_great(contexts):
     for before in contexts:
-        for mark in MARKS:
+        for mark in TRIED:
             yield f'{before}, then mark {mark}, too great', '', file(f'{before} #{mark} {limit(mark) + 1}')
 
 
@@ -371,37 +224,10 @@ def vectors():
             yield what, data, line
 
 
-# ---- the two stored files
-
-def record(data):
-    return struct.pack('<I', len(data)) + data
-
-
-def store(crate, option, lines, files):
-    """Writes a crate's files, or with an option only holds them to what they would be. Each vector has a part in each file, and a
-    line that says what it is, which --list prints."""
-    for name, parts in files.items():
-        path, at = os.path.normpath(os.path.join(HERE, '../../crates', crate, name)), 0
-        if option is None:
-            open(path, 'wb').write(b''.join(parts))
-        stored = open(path, 'rb').read()
-        for part, line in zip(parts, lines):
-            if not stored.startswith(part, at):
-                sys.exit(f'{path}: differs from byte {at} on, at the vector "{line}"')
-            at += len(part)
-        if at < len(stored):
-            sys.exit(f'{path}: goes on behind the last vector, from byte {at} on')
-    if option == '--list':
-        print(*lines, sep='\n')
-
-
-def main(option=None):
-    made = list(vectors())
-    store('check_vectors', option, [f'{what}: {line}' for what, _, line in made],
-          {'data/vectors': [record(data) for _, data, _ in made], 'stdout': [line.encode() + b'\n' for _, _, line in made]})
+def parts():
+    for what, data, line in vectors():
+        yield f'{what}: {line}', stored.record(data), line.encode() + b'\n'
 
 
 if __name__ == '__main__':
-    if sys.argv[1:] not in ([], ['--check'], ['--list']):
-        sys.exit(__doc__)
-    main(*sys.argv[1:])
+    stored.main('check_vectors', parts, __doc__)

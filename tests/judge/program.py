@@ -5,14 +5,11 @@ that can't be read to its end.
 tests/judge/program.py PROGRAM     PROGRAM is target/bin/judge
 """
 import os
-import runpy
 import sys
 
-HERE = os.path.dirname(os.path.abspath(__file__))
-ACCOUNT = runpy.run_path(os.path.join(HERE, '../check/vectors.py'))
-file, goal, BELT = ACCOUNT['file'], ACCOUNT['goal'], ACCOUNT['BELT']
-PROGRAMS = runpy.run_path(os.path.join(HERE, '../programs.py'))
-FOLDER, run, faults = PROGRAMS['FOLDER'], PROGRAMS['run'], PROGRAMS['faults']
+sys.path.insert(0, os.path.dirname(os.path.dirname(os.path.abspath(__file__))))
+from shared.files import BELT, file, goal
+from shared.programs import FOLDER, faults, run
 
 belt = file(BELT, F=2)
 longest = file(goal(12000))
@@ -43,7 +40,7 @@ CASES = [
     ('a size out of range, and a million bytes', dict(task=bytes(1000000), plan=b''), 'refused 2 0\n'),
     ('2,049 steps', dict(task=belt, plan=bytes(2049)), 'refused 10 0\n'),
     ('100,000 steps', dict(task=belt, plan=bytes(100000)), 'refused 10 0\n'),
-    ('an unknown step behind the 2,048th', dict(task=belt, plan=bytes(2048) + b'\7'), 'refused 10 0\n'),
+    ('an unknown step after the 2,048th', dict(task=belt, plan=bytes(2048) + b'\7'), 'refused 10 0\n'),
     ('the longest report', dict(task=file('GOAL ACTION 1000000' + ' sometime-before 1000000 SECOND' * 16), plan=bytes(2048)), LONGEST),
 ]
 

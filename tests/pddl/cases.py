@@ -4,13 +4,12 @@
 tests/pddl/cases.py     needs gringo and clasp
 """
 import os
-import runpy
 import sys
 
-HERE = os.path.dirname(os.path.abspath(__file__))
-PARSER = runpy.run_path(os.path.join(HERE, 'parser.py'))
-read, Wrong, Task, Action, Effect = (PARSER[name] for name in ['read', 'Wrong', 'Task', 'Action', 'Effect'])
-planned = runpy.run_path(os.path.join(HERE, 'planner.py'))['planned']
+sys.path.insert(0, os.path.dirname(os.path.dirname(os.path.abspath(__file__))))
+from shared.expected import expect
+from shared.pddl import Action, Effect, Task, Wrong, read
+from shared.planning import planned
 
 ALL = ':negative-preconditions :disjunctive-preconditions :conditional-effects :action-costs'
 DOMAIN = f'''(define (domain belt) (:requirements {ALL}) (:predicates (swept) (amber)) (:functions (total-cost))
@@ -39,7 +38,7 @@ OTHER = [
     (':adl for its parts', ALL, ':strips :adl :action-costs', 'facts', TASK.facts),
     ('the type of a function', '(:functions (total-cost))', '(:functions (total-cost) - number)', 'facts', TASK.facts),
     ('no fact opens', '0) (amber))', '0))', 'init', []),
-    ('the cost behind the facts', '(= (total-cost) 0) (amber)', '(amber) (swept) (= (total-cost) 0)', 'init', ['amber', 'swept']),
+    ('the cost after the facts', '(= (total-cost) 0) (amber)', '(amber) (swept) (= (total-cost) 0)', 'init', ['amber', 'swept']),
     ('an empty goal', '(:goal (not (amber)))', '(:goal (and))', 'goal', ('and', ())),
     ('an empty or', '(:goal (not (amber)))', '(:goal (or))', 'goal', ('or', ())),
     ('a fact as goal', '(:goal (not (amber)))', '(:goal (swept))', 'goal', SWEPT),
@@ -158,11 +157,6 @@ PLANNED = [
     ('(and (swept) (not (amber)))', act('one', 1, '(and)', '(swept)') + act('two', 1, '(swept)', '(not (amber))'),
      (2, '(one)\n(two)\n; cost = 2\n')),
 ]
-
-
-def expect(what, got, wanted):
-    if got != wanted:
-        sys.exit(f'{what}: {got}, and not {wanted}')
 
 
 def edited(*places):

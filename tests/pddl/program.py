@@ -7,14 +7,12 @@ tests/pddl/program.py PROGRAM     PROGRAM is target/bin/pddl
 The texts are written out here, letter by letter: the lines of document 02's request 4, the shortest texts, and the longest.
 """
 import os
-import runpy
 import sys
 
-HERE = os.path.dirname(os.path.abspath(__file__))
-ACCOUNT = runpy.run_path(os.path.join(HERE, '../check/vectors.py'))
-file, goal, BELT = ACCOUNT['file'], ACCOUNT['goal'], ACCOUNT['BELT']
-PROGRAMS = runpy.run_path(os.path.join(HERE, '../programs.py'))
-FOLDER, Link, run, faults = PROGRAMS['FOLDER'], PROGRAMS['Link'], PROGRAMS['run'], PROGRAMS['faults']
+sys.path.insert(0, os.path.dirname(os.path.dirname(os.path.abspath(__file__))))
+from shared.files import BELT, file, goal
+from shared.programs import FOLDER, Link, faults, run
+from shared.tasks import LONGEST_DOMAIN, LONGEST_PROBLEM
 
 belt = file(BELT, F=2)
 small = file('GOAL')
@@ -71,14 +69,10 @@ REQUEST_TEXTS = (
               '(:action a2 :parameters () :precondition (and) :effect (and (increase (total-cost) 0) (when (and) (and))))\n'),
     problem(' (f1)', '(and (f2) (or (f0) (not (f1))))'))
 
-# The longest domain has 128 actions of the largest cost and an EFFECT in each row that is left: it gives 19 bytes, more than any row
-# but an ACTION. The longest problem has a goal of one clause, and a literal in each row that is left, which gives 13.
-LONGEST_DOMAIN = file('GOAL' + ' ACTION 1000000' * 128 + ' EFFECT' * 11871, F=128)
 LONGEST_DOMAIN_TEXTS = (
     domain(128, ''.join(f'(:action a{n} :parameters () :precondition (and) :effect (and (increase (total-cost) 1000000)'
                         + ' (when (and) (and))' * (11871 if n == 127 else 0) + '))\n' for n in range(128))),
     problem('', '(and)'))
-LONGEST_PROBLEM = file('GOAL CLAUSE' + ' LACKS 127' * 11998, F=128)
 LONGEST_PROBLEM_TEXTS = domain(128, ''), problem('', '(and (or' + ' (not (f127))' * 11998 + '))')
 
 WRITTEN = [

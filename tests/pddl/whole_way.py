@@ -3,10 +3,10 @@
 
 tests/pddl/whole_way.py PDDL TRANSLATE JUDGE TEXT_VECTORS [COUNT [SEED]]     the four programs of these names in target/bin
 
-The planner is planner.py, over gringo and clasp (Debian packages of these names).
+The planner is that of shared/planning.py, over gringo and clasp (Debian packages of these names).
 Each task goes by its translation, and one without preferences also as it stands. Then, for the cheapest list and for the dearest:
 - the task read back from the texts is the one in the rows of the file;
-- the cost that the planner finds is the one that tests/translate/planner.py finds on the file, or neither has a solution;
+- the cost that the planner finds is the one that it finds on the file's rows, or neither has a solution;
 - the plan is printed as planners do, a line for each step and a comment with the cost. Program text_vectors reads it and its source
   part, which are the lines with numbers below the source's A: their metric on the file and on the source is that cost, and their
   utility what is left of all weights;
@@ -18,33 +18,20 @@ import itertools
 import os
 import random
 import re
-import runpy
 import sys
 
-HERE = os.path.dirname(os.path.abspath(__file__))
-ACCOUNT = runpy.run_path(os.path.join(HERE, '../check/vectors.py'))
-file, record, vectors, SOFT, HARD, PREFERENCES = (
-    ACCOUNT[name] for name in ['file', 'record', 'vectors', 'SOFT', 'HARD', 'PREFERENCES'])
-rows = runpy.run_path(os.path.join(HERE, '../judge/vectors.py'))['rows']
-run = runpy.run_path(os.path.join(HERE, '../programs.py'))['run']
-FILES = runpy.run_path(os.path.join(HERE, '../translate/planner.py'))
-random_task, words, plan, HORIZON, SIGNS = (FILES[name] for name in ['random_task', 'words', 'plan', 'HORIZON', 'SIGNS'])
-PARSER = runpy.run_path(os.path.join(HERE, 'parser.py'))
-read, Task, Action, Effect = (PARSER[name] for name in ['read', 'Task', 'Action', 'Effect'])
-planned = runpy.run_path(os.path.join(HERE, 'planner.py'))['planned']
-PROGRAM = runpy.run_path(os.path.join(HERE, 'program.py'))
+sys.path.insert(0, os.path.dirname(os.path.dirname(os.path.abspath(__file__))))
+from shared import stored
+from shared.account import check
+from shared.expected import Different, expect
+from shared.files import HARD, PREFERENCES, SOFT, file, preferences, rows, spelled, words
+from shared.pddl import Action, Effect, Task, Wrong, read
+from shared.planning import HORIZON, SIGNS, plan, planned, random_task
+from shared.programs import run
+from shared.tasks import LONGEST_DOMAIN, LONGEST_PROBLEM
 
 WAYS = ['with preferences', 'without preferences', 'as it stands']
 Programs = collections.namedtuple('Programs', 'pddl translate judge text_vectors')
-
-
-class Different(Exception):
-    """What differs from what it should be."""
-
-
-def expect(what, got, wanted):
-    if got != wanted:
-        raise Different(f'{what}: {str(got)[:2000]}, and not {str(wanted)[:2000]}')
 
 
 # ---- a file, its texts, and the task in them
@@ -84,7 +71,7 @@ def read_back(program, files):
     expect('pddl prints', printed + errors, '')
     try:
         task = read(domain.decode(), problem.decode())
-    except PARSER['Wrong'] as why:
+    except Wrong as why:
         raise Different(f'the texts are not understood: {why}') from why
     expect('the task in the texts', task, task_of(files['compiled']))
     return task
@@ -105,16 +92,15 @@ def heaviest():
         return ' EFFECT' + condition(n) + some(n % 5, 'ADD') + some(n % 7, 'DELETE')
 
     actions = ''.join(f' ACTION {1000000 - 7 * n}' + condition(n) + ''.join(effect(n + m) for m in range(5)) for n in range(128))
-    left = 12000 - len(ACCOUNT['spelled'](starts + ' GOAL CLAUSE' + actions))
+    left = 12000 - len(spelled(starts + ' GOAL CLAUSE' + actions))
     return file(starts + ' GOAL CLAUSE' + some(left, 'LACKS', 'HOLDS') + actions, F=128)
 
 
 def stored_files(program):
     """Reads back the files that are not random, and answers how many they are."""
-    accepted = [(what, data) for what, data, line in vectors() if line.startswith('accepted') and data[4] == 0]
-    heavy = [('the heaviest task', heaviest()), ('the longest domain', PROGRAM['LONGEST_DOMAIN']),
-             ('the longest problem', PROGRAM['LONGEST_PROBLEM'])]
-    assert [ACCOUNT['check'](data) for _, data in heavy] == [f'accepted 128 {actions} 0 12000' for actions in (128, 128, 0)]
+    accepted = [(f'file {number} that check accepts', data) for number, data in enumerate(stored.accepted()) if not preferences(data)]
+    heavy = [('the heaviest task', heaviest()), ('the longest domain', LONGEST_DOMAIN), ('the longest problem', LONGEST_PROBLEM)]
+    assert [check(data) for _, data in heavy] == [f'accepted 128 {actions} 0 12000' for actions in (128, 128, 0)]
     for what, data in accepted + heavy:
         try:
             read_back(program, dict(compiled=data))
@@ -133,8 +119,8 @@ def judged(programs, data, text, metric):
     steps = [int(number) for number in STEP.findall(text)]
     costs = [value for name, value in rows(data) if name == 'ACTION']
     cost = sum(costs[step] for step in steps)
-    worth = f'metric {metric} utility {sum(value for name, value in rows(data) if name in PREFERENCES) - metric}'
-    lines, errors, _ = run(programs.text_vectors, dict(vectors=record(data) + record(text.encode())))
+    worth = f'metric {metric} utility {sum(weight for _, weight in preferences(data)) - metric}'
+    lines, errors, _ = run(programs.text_vectors, dict(vectors=stored.record(data) + stored.record(text.encode())))
     expect('the text is worth', lines + errors, f'read {len(steps)}\n' + ''.join(f'(a{step})\n' for step in steps)
            + f'solved cost {cost} {worth}\n')
     in_bytes = bytes(int(number) for number in STEP.findall(lines))
@@ -149,7 +135,7 @@ def both_lists(programs, data, files, horizon):
     The files have `compiled`, which is data itself or its translation."""
     task, compiled, outcomes = read_back(programs.pddl, files), files['compiled'], {}
     for name, sign in SIGNS.items():
-        found, on_file = planned(task, horizon, sign), plan('classical.lp', compiled, horizon, sign)
+        found, on_file = planned(task, horizon, sign), plan('classical', compiled, horizon, sign)
         expect(f'the cost of the {name} list', found and found[0], on_file and on_file.total)
         if found:
             cost, text = found

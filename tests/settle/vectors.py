@@ -5,29 +5,28 @@ tests/settle/vectors.py           writes crates/settle_vectors/data/vectors and 
 tests/settle/vectors.py --check   writes nothing, and fails where these two files are not what it makes
 tests/settle/vectors.py --list    says what each vector is for, and its line
 
-The vectors stand in data/vectors one after the other, each as two records (tests/judge/vectors.py): the task file, then 16 bytes, the
-cost and the met preferences as bits, little-endian numbers of 64 bits each. The lines stand in stdout in the same order.
+A vector is two records (shared/stored.py): the task file, then 16 bytes, the cost and the met preferences as bits, little-endian numbers
+of 64 bits each.
 
 Each line is made twice, and both have to agree:
-- by the function `settle` below, over the account of 1 to 6 in tests/check/vectors.py;
-- of an accepted file, by the outside engine, which is the logic program amounts.lp run by gringo and clasp (Debian packages of these
-  names). It takes costs of up to 31 bits, so refusals of greater ones are by `settle` alone.
+- by the function `settle` below, over the account in shared/account.py;
+- of an accepted file, by the outside engine (shared/engine.py), by the rules of amounts.lp. It takes costs of up to 31 bits, so refusals
+  of greater ones are by `settle` alone.
 Where an answer stands beside a vector, it was written by hand, or it is the last line that program judge has to write about a plan of
 this cost that meets these preferences; it has to agree with the line.
 """
 import os
-import random
 import re
-import runpy
 import struct
 import sys
 
-HERE = os.path.dirname(os.path.abspath(__file__))
-ACCOUNT = runpy.run_path(os.path.join(HERE, '../check/vectors.py'))
-check, file, goal, record, store = (ACCOUNT[name] for name in ['check', 'file', 'goal', 'record', 'store'])
-SOFT, HARD, PREFERENCES, DEADLINES, BELT = (ACCOUNT[name] for name in ['SOFT', 'HARD', 'PREFERENCES', 'DEADLINES', 'BELT'])
-JUDGE = runpy.run_path(os.path.join(HERE, '../judge/vectors.py'))
-rows, derived = JUDGE['rows'], JUDGE['derived']
+sys.path.insert(0, os.path.dirname(os.path.dirname(os.path.abspath(__file__))))
+from shared import files, stored, tasks
+from shared.account import check
+from shared.chance import Chance
+from shared.engine import derived
+from shared.files import BELT, DEADLINES, HARD, SOFT, file, goal
+from shared.stored import record
 
 MOST, WEIGHT = 2048000000, 1000000  # the greatest cost that is settled, and the greatest weight
 
@@ -36,7 +35,7 @@ MOST, WEIGHT = 2048000000, 1000000  # the greatest cost that is settled, and the
 
 def weights(data):
     """The weights of an accepted file's preferences, in their order."""
-    return [value for name, value in rows(data) if name in PREFERENCES]
+    return [weight for _, weight in files.preferences(data)]
 
 
 def settle(data, cost, met):
@@ -62,7 +61,7 @@ def outside(made):
     given = [t for t, (_, data, cost, _, _) in enumerate(made) if cost < 2 ** 31 and check(data).startswith('accepted')]
     said = {t: {} for t in given}
     program = '\n'.join(fact for t in given for fact in facts(t, *made[t][1:4]))
-    for predicate, t, *value in derived(program, os.path.join(HERE, 'amounts.lp')):
+    for predicate, t, *value in derived(program, 'settle/amounts.lp'):
         said[t][predicate] = value
     for t, atoms in said.items():
         if atoms.keys() == {'refused'}:
@@ -79,7 +78,7 @@ ACTIONS = f'ACTION 1000000 {LONG} EFFECT {LONG} ADD 1 DELETE 2 ACTION 9'  # thei
 
 
 def preference(kind, weight, condition=LONG):
-    return ACCOUNT['preference'](kind, weight, condition, condition, 15)  # its steps are no weight
+    return files.preference(kind, weight, condition, condition, 15)  # its steps are no weight
 
 
 def task(each, condition=LONG, kinds=SOFT):
@@ -230,12 +229,8 @@ def refused():
 
 def random_amounts(count=120, seed=15):
     """On random tasks: sets of met preferences, some with a bit too many, and costs, some too great."""
-    r = random.Random(seed)
-
-    def below(n):  # by random() alone, which gives the same numbers in every version of Python
-        return int(r.random() * n)
-
-    for number, (_, data, _, _) in enumerate(JUDGE['random_tasks'](count, seed)):
+    below = Chance(seed).below
+    for number, (_, data, _, _) in enumerate(tasks.random_tasks(count, seed)):
         met = below(2 ** data[4]) | (0 if below(8) else 2 ** (data[4] + below(48)))
         cost = [below(100), below(MOST), below(MOST), MOST - below(3), MOST + below(3), below(2 ** 40)][below(6)]
         yield f'random {number}', data, cost, met, ''
@@ -246,22 +241,15 @@ TEXT = re.compile(r'solved steps \d+ cost (\d+)\n((?:\d.*\n)*)(metric .*)\n|.*\n
 
 def judged():
     """What program judge has to write about plans that solve, each text once: its last line, from the cost and the outcomes before."""
-    crate = os.path.join(HERE, '../../crates/judge_vectors')
-    stored, at, seen = open(os.path.join(crate, 'data/vectors'), 'rb').read(), 0, set()
-
-    def take():
-        nonlocal at
-        length, = struct.unpack_from('<I', stored, at)
-        at += 4 + length
-        return stored[at - length:at]
-
-    for number, text in enumerate(TEXT.finditer(open(os.path.join(crate, 'stdout')).read())):
-        (data, _), (cost, outcomes, last) = (take(), take()), text.groups()
+    records, texts, seen = [*stored.records('judge_vectors')], [*TEXT.finditer(stored.written('judge_vectors'))], set()
+    assert len(records) == 2 * len(texts), 'program judge has other vectors'
+    for number, (data, text) in enumerate(zip(records[::2], texts)):
+        cost, outcomes, last = text.groups()
         if last and text.groups() not in seen:
             seen.add(text.groups())
             met = sum(2 ** k for k, line in enumerate(outcomes.splitlines()) if line.endswith(' met'))
             yield f'vector {number} of program judge', data, int(cost), met, last
-    assert at == len(stored) and len(seen) > 300, 'program judge has other vectors'
+    assert len(seen) > 300, 'program judge has few texts'
 
 
 def vectors():
@@ -276,16 +264,10 @@ def vectors():
         yield what, data, cost, met, line
 
 
-# ---- the two stored files
-
-def main(option=None):
-    made = list(vectors())
-    store('settle_vectors', option, [f'{what}: {line}' for what, *_, line in made],
-          {'data/vectors': [record(data) + record(struct.pack('<2Q', cost, met)) for _, data, cost, met, _ in made],
-           'stdout': [line.encode() + b'\n' for *_, line in made]})
+def parts():
+    for what, data, cost, met, line in vectors():
+        yield f'{what}: {line}', record(data) + record(struct.pack('<2Q', cost, met)), line.encode() + b'\n'
 
 
 if __name__ == '__main__':
-    if sys.argv[1:] not in ([], ['--check'], ['--list']):
-        sys.exit(__doc__)
-    main(*sys.argv[1:])
+    stored.main('settle_vectors', parts, __doc__)

@@ -5,28 +5,26 @@ tests/text/vectors.py           writes crates/text_vectors/data/vectors and crat
 tests/text/vectors.py --check   writes nothing, and fails where these two files are not what it makes
 tests/text/vectors.py --list    says what each vector is for, and its lines with | between them, those of a long plan left out
 
-The vectors stand in data/vectors one after the other, each as two records (tests/judge/vectors.py): the task file, then the text. In
-stdout each has a line with what reading the text into an area of 2,048 bytes answers, the lines of the plan read, and a line with
-what the text is worth on the task.
+A vector is two records (shared/stored.py): the task file, then the text. In stdout it has a line with what reading the text into an area
+of 2,048 bytes answers, the lines of the plan read, and a line with what the text is worth on the task.
 
 Where the lines come from:
 - The first, and the plan's: the function `read` below, which splits a text at its newlines and holds each line to a regular
   expression.
-- The last: refused 1 to 6 by the account in tests/check/vectors.py, then 12 by `read`, then 10 and 11 and the verdict by the account
-  and the outside engine of tests/judge/vectors.py.
+- The last: refused 1 to 6 by the account in shared/account.py, then 12 by `read`, then 10 and 11 by the account and the verdict by the
+  outside engine (shared/engine.py), by the rules of tests/judge/meaning.lp.
 Where an answer stands beside a vector, it was written by hand, and has to agree with the lines.
 """
 import os
-import random
 import re
-import runpy
 import sys
 
-HERE = os.path.dirname(os.path.abspath(__file__))
-ACCOUNT = runpy.run_path(os.path.join(HERE, '../check/vectors.py'))
-check, file, record, store, BELT = (ACCOUNT[name] for name in ['check', 'file', 'record', 'store', 'BELT'])
-JUDGE = runpy.run_path(os.path.join(HERE, '../judge/vectors.py'))
-refusal, facts, derived, verdict = (JUDGE[name] for name in ['refusal', 'facts', 'derived', 'verdict'])
+sys.path.insert(0, os.path.dirname(os.path.dirname(os.path.abspath(__file__))))
+from shared import engine, stored
+from shared.account import check, refusal
+from shared.chance import Chance
+from shared.files import BELT, file
+from shared.stored import record
 
 LINE = re.compile(rb';.*|\(a(0|[1-9][0-9]*)\)')  # a dot is every byte but a newline
 
@@ -89,7 +87,7 @@ def empty_and_comments():
             ('a comment with carriage returns', b';\r\n; \r a\r\n'), ('300 comments', b';\n' * 300)]:
         yield what, belt, text, 'read 0|goal missed'
         yield f'{what}, before a step', belt, text + b'(a0)\n', 'read 1|(a0)|solved cost 3 metric 8 utility 4'
-        yield f'{what}, behind a step', belt, b'(a0)\n' + text, 'read 1|(a0)|solved cost 3 metric 8 utility 4'
+        yield f'{what}, after a step', belt, b'(a0)\n' + text, 'read 1|(a0)|solved cost 3 metric 8 utility 4'
         yield f'{what}, between steps', belt, b'(a0)\n' + text + b'(a1)\n', 'read 2|(a0)|(a1)|goal missed'
 
 
@@ -97,9 +95,9 @@ def last_newline():
     for what, rest in [('a step', b'(a0)'), ('a comment', b';'), ('a longer comment', b'; (a0)'), ('a step begun', b'(a'),
                        ('a space', b' '), ('a NUL byte', b'\0'), ('a carriage return', b'\r'), ('a step and a carriage return', b'(a0)\r')]:
         yield f'{what} without newline', belt, rest, 'refused 12 0'
-        yield f'{what} without newline behind a step', belt, b'(a0)\n' + rest, 'refused 12 1'
-        yield f'{what} without newline behind a comment', belt, b';\n' + rest, 'refused 12 1'
-        yield f'{what} without newline behind four lines', belt, b'; plan\n(a0)\n(a1)\n(a0)\n' + rest, 'refused 12 4'
+        yield f'{what} without newline after a step', belt, b'(a0)\n' + rest, 'refused 12 1'
+        yield f'{what} without newline after a comment', belt, b';\n' + rest, 'refused 12 1'
+        yield f'{what} without newline after four lines', belt, b'; plan\n(a0)\n(a1)\n(a0)\n' + rest, 'refused 12 4'
 
 
 def numbers():
@@ -112,34 +110,34 @@ def numbers():
         yield f'step {number}, read as 255', many, b'(a%d)\n' % number, 'read 1|(a255)|refused 11 0'
     for what, digits in [('ones', b'1' * 5000), ('nines', b'9' * 5000), ('a one and zeros', b'1' + b'0' * 4999)]:
         yield f'5,000 digits, {what}', many, b'(a%s)\n' % digits, 'read 1|(a255)|refused 11 0'
-        yield f'5,000 digits, {what}, behind a step', many, b'(a7)\n(a%s)\n(a3)\n' % digits, 'read 3|(a7)|(a255)|(a3)|refused 11 1'
+        yield f'5,000 digits, {what}, after a step', many, b'(a7)\n(a%s)\n(a3)\n' % digits, 'read 3|(a7)|(a255)|(a3)|refused 11 1'
     for digits in [b'00', b'01', b'000', b'007', b'0255', b'0256', b'00000001', b'0' * 5000]:
         yield f'{len(digits)} digits {digits[:8].decode()}', many, b'(a%s)\n' % digits, 'refused 12 0'
     yield 'steps 0 to 300', many, b''.join(b'(a%d)\n' % n for n in range(301)), 'read 301|refused 11 128'
 
 
 FAULTY = [
-    ('a space first', b' (a1)'), ('a space inside the brackets', b'( a1)'), ('a space behind the letter', b'(a 1)'),
-    ('a space behind the number', b'(a1 )'), ('a space behind', b'(a1) '), ('a space between digits', b'(a1 0)'),
-    ('a tab first', b'\t(a1)'), ('a tab inside', b'(a\t1)'), ('a tab behind', b'(a1)\t'), ('a tab alone', b'\t'),
-    ('a carriage return behind', b'(a1)\r'), ('a carriage return first', b'\r(a1)'), ('a carriage return alone', b'\r'),
-    ('carriage returns for newlines', b'(a1)\r(a1)\r'), ('a form feed behind', b'(a1)\f'), ('a vertical tab behind', b'(a1)\v'),
+    ('a space first', b' (a1)'), ('a space inside the brackets', b'( a1)'), ('a space after the letter', b'(a 1)'),
+    ('a space after the number', b'(a1 )'), ('a space last', b'(a1) '), ('a space between digits', b'(a1 0)'),
+    ('a tab first', b'\t(a1)'), ('a tab inside', b'(a\t1)'), ('a tab last', b'(a1)\t'), ('a tab alone', b'\t'),
+    ('a carriage return last', b'(a1)\r'), ('a carriage return first', b'\r(a1)'), ('a carriage return alone', b'\r'),
+    ('carriage returns for newlines', b'(a1)\r(a1)\r'), ('a form feed last', b'(a1)\f'), ('a vertical tab last', b'(a1)\v'),
     ('upper case', b'(A1)'), ('no letter', b'(1)'), ('another letter', b'(b1)'), ('two letters', b'(aa1)'), ('the letter last', b'(1a)'),
     ('no number', b'(a)'), ('no letter and no number', b'()'), ('an opening bracket alone', b'('), ('a closing bracket alone', b')'),
     ('no opening bracket', b'a1)'), ('no closing bracket', b'(a1'), ('no brackets', b'a1'), ('two opening brackets', b'((a1)'),
     ('two closing brackets', b'(a1))'), ('brackets in brackets', b'((a1))'), ('square brackets', b'[a1]'), ('brackets exchanged', b')a1('),
     ('plus', b'(a+1)'), ('minus', b'(a-1)'), ('minus zero', b'(a-0)'), ('a point', b'(a1.0)'), ('a comma', b'(a1,000)'),
-    ('hexadecimal', b'(a0x1)'), ('an exponent', b'(a1e1)'), ('an underscore', b'(a_1)'), ('a letter behind the number', b'(a1b)'),
-    ('letters for a number', b'(aone)'), ('the byte before the digits', b'(a/)'), ('the byte behind the digits', b'(a:)'),
-    ('the byte behind the digits in a number', b'(a1:)'), ('a leading zero', b'(a01)'),
+    ('hexadecimal', b'(a0x1)'), ('an exponent', b'(a1e1)'), ('an underscore', b'(a_1)'), ('a letter after the number', b'(a1b)'),
+    ('letters for a number', b'(aone)'), ('the byte before the digits', b'(a/)'), ('the byte after the digits', b'(a:)'),
+    ('the byte after the digits in a number', b'(a1:)'), ('a leading zero', b'(a01)'),
     ('two steps in a line', b'(a1)(a1)'), ('two steps with a space between', b'(a1) (a1)'), ('two steps in a bracket', b'(a1 a1)'),
     ('a step with an argument', b'(a1 hopper)'), ('a time before the step', b'0: (a1)'), ('words', b'solution found'),
-    ('a comment behind a step', b'(a1);'), ('a comment behind a step and a space', b'(a1) ; first'), ('a comment inside a step', b'(a;1)'),
-    ('a semicolon behind a space', b' ;'), ('a semicolon behind a tab', b'\t; comment'), ('a semicolon behind NUL', b'\0;'),
+    ('a comment after a step', b'(a1);'), ('a comment after a step and a space', b'(a1) ; first'), ('a comment inside a step', b'(a;1)'),
+    ('a semicolon after a space', b' ;'), ('a semicolon after a tab', b'\t; comment'), ('a semicolon after NUL', b'\0;'),
     ('another mark for a comment', b'# comment'), ('NUL alone', b'\0'), ('NUL first', b'\0(a1)'), ('NUL before the number', b'(a\x001)'),
-    ('NUL behind the number', b'(a1\0)'), ('NUL behind', b'(a1)\0'), ('a byte above 127 in a number', b'(a1\xb2)'),
+    ('NUL after the number', b'(a1\0)'), ('NUL last', b'(a1)\0'), ('a byte above 127 in a number', b'(a1\xb2)'),
     ('a digit with its high bit', b'(a\xb1)'), ('the letter with its high bit', b'(\xe11)'), ('a bracket with its high bit', b'\xa8a1)'),
-    ('a semicolon with its high bit', b'\xbb'), ('a no-break space behind', b'(a1)\xa0'), ('a letter of two bytes', '(ä1)'.encode()),
+    ('a semicolon with its high bit', b'\xbb'), ('a no-break space last', b'(a1)\xa0'), ('a letter of two bytes', '(ä1)'.encode()),
     ('a digit of two bytes', '(a\u0661)'.encode()), ('brackets of three bytes', '\uff08a1\uff09'.encode()),
     ('a byte order mark', b'\xef\xbb\xbf(a1)'), ('bytes of 255', b'\xff\xff'),
     ('a blank line', b''), ('a space alone', b' '), ('many spaces', b' ' * 300)]
@@ -149,7 +147,7 @@ def faulty_lines():
     for what, line in FAULTY:
         yield f'{what}, alone', one, line + b'\n', 'refused 12 0'
         yield f'{what}, first of three lines', one, line + b'\n(a0)\n(a0)\n', 'refused 12 0'
-        yield f'{what}, behind a comment and a step', one, b'; plan\n(a0)\n' + line + b'\n(a0)\n', 'refused 12 2'
+        yield f'{what}, after a comment and a step', one, b'; plan\n(a0)\n' + line + b'\n(a0)\n', 'refused 12 2'
         yield f'{what}, the last line', one, b'(a0)\n(a0)\n(a0)\n' + line + b'\n', 'refused 12 3'
 
 
@@ -161,15 +159,15 @@ def places():
             ('a blank line and a faulty one', b'(a0)\n\n(a)\n', 1), ('two blank lines', b'(a0)\n\n\n', 1),
             ('a blank line first', b'\n(a0)\n', 0), ('a blank line in the middle', b'(a0)\n\n(a0)\n', 1),
             ('a blank line last', b'(a0)\n(a0)\n\n', 2), ('blank lines alone', b'\n\n\n', 0),
-            ('behind one comment', b';\nx\n', 1), ('behind three comments', b';\n;\n;\nx\n', 3),
-            ('behind comments and steps', b';\n(a0)\n;\n(a0)\n;\nx\n', 5), ('before a step and a comment', b'x\n(a0)\n;\n', 0),
+            ('after one comment', b';\nx\n', 1), ('after three comments', b';\n;\n;\nx\n', 3),
+            ('after comments and steps', b';\n(a0)\n;\n(a0)\n;\nx\n', 5), ('before a step and a comment', b'x\n(a0)\n;\n', 0),
             ('newlines of two bytes', b'(a0)\r\n(a0)\r\n', 0), ('one newline of two bytes', b'(a0)\n(a0)\r\n', 1),
-            ('newlines of two bytes behind comments', b'; plan\r\n; cost\r\n(a0)\r\n', 2),
-            ('behind unknown steps', b'(a9)\n(a300)\n(a)\n', 2)]:
+            ('newlines of two bytes after comments', b'; plan\r\n; cost\r\n(a0)\r\n', 2),
+            ('after unknown steps', b'(a9)\n(a300)\n(a)\n', 2)]:
         yield f'place: {what}', one, text, f'refused 12 {place}'
     for lines in [255, 256, 257, 300, 1000]:
-        yield f'place: behind {lines} comments', one, b';\n' * lines + b'x\n', f'refused 12 {lines}'
-        yield f'place: behind {lines} steps', one, b'(a0)\n' * lines + b'x\n', f'refused 12 {lines}'
+        yield f'place: after {lines} comments', one, b';\n' * lines + b'x\n', f'refused 12 {lines}'
+        yield f'place: after {lines} steps', one, b'(a0)\n' * lines + b'x\n', f'refused 12 {lines}'
 
 
 def every_byte():
@@ -179,12 +177,12 @@ def every_byte():
             line = bytearray(b'(a1)\n')
             line[place] = byte
             yield f'byte {byte} in place {place}', one, bytes(line), ''
-        yield f'byte {byte} behind the number', one, b'(a1%c)\n' % byte, ''
+        yield f'byte {byte} after the number', one, b'(a1%c)\n' % byte, ''
 
 
-def filled(before, behind, size):
+def filled(before, after, size):
     """A text of so many bytes: lines, a long comment, lines."""
-    return before + b';' + b'-' * (size - len(before + behind) - 2) + b'\n' + behind
+    return before + b';' + b'-' * (size - len(before + after) - 2) + b'\n' + after
 
 
 def long_texts():
@@ -215,7 +213,7 @@ def long_plans():
             ('2,049 steps, the first unknown', b'(a9)\n' + pairs, 'refused 10 0'),
             ('2,048 steps and a faulty line', pairs + b'x\n', 'refused 12 2048'),
             ('2,049 steps and a faulty line', pairs + b'(a0)\nx\n', 'refused 12 2049'),
-            ('2,049 steps behind a faulty line', b'x\n' + pairs + b'(a0)\n', 'refused 12 0'),
+            ('2,049 steps after a faulty line', b'x\n' + pairs + b'(a0)\n', 'refused 12 0'),
             ('2,049 steps, the last without newline', pairs + b'(a0)', 'refused 12 2048')]:
         yield what, belt, text, answer
 
@@ -251,13 +249,13 @@ def verdicts():
             ('no step, goal missed', ladder, b'; none\n', 'read 0|goal missed'),
             ('goal missed', ladder, b'(a0)\n', 'read 1|goal missed'), ('goal undone', ladder, b'(a0)\n(a1)\n(a2)\n', 'read 3|goal missed'),
             ('stopped at the first step', ladder, b'(a1)\n(a0)\n', 'read 2|stopped 0'),
-            ('stopped at the first step, behind comments', ladder, b';\n;\n(a1)\n', 'read 1|stopped 0'),
+            ('stopped at the first step, after comments', ladder, b';\n;\n(a1)\n', 'read 1|stopped 0'),
             ('stopped at the second step', ladder, b'(a0)\n(a0)\n', 'read 2|stopped 1'),
             ('stopped at the second step, among comments', ladder, b';\n(a0)\n;\n;\n(a0)\n;\n(a1)\n', 'read 3|stopped 1'),
             ('an unknown step', ladder, b'(a3)\n', 'read 1|(a3)|refused 11 0'),
-            ('an unknown step behind comments', ladder, b';\n;\n(a3)\n', 'read 1|(a3)|refused 11 0'),
+            ('an unknown step after comments', ladder, b';\n;\n(a3)\n', 'read 1|(a3)|refused 11 0'),
             ('two unknown steps among comments', ladder, b';\n(a0)\n;\n(a9)\n(a3)\n', 'read 3|(a0)|(a9)|(a3)|refused 11 1'),
-            ('an unknown step behind one that would stop', ladder, b'(a1)\n;\n(a0)\n(a256)\n', 'read 3|(a1)|(a0)|(a255)|refused 11 2'),
+            ('an unknown step after one that would stop', ladder, b'(a1)\n;\n(a0)\n(a256)\n', 'read 3|(a1)|(a0)|(a255)|refused 11 2'),
             ('44 is known, 300 is not', many, b'(a44)\n(a300)\n', 'read 2|(a44)|(a255)|refused 11 1'),
             ('0 is known, 256 is not', one, b'(a0)\n(a256)\n', 'read 2|(a0)|(a255)|refused 11 1'),
             ('A 0, a step', file('GOAL'), b'(a0)\n', 'read 1|(a0)|refused 11 0'),
@@ -276,10 +274,8 @@ def verdicts():
 
 def random_texts(count=400, seed=64):
     """Lines of steps and comments, in half of the texts with a byte put in, left out or changed."""
-    r = random.Random(seed)
-
-    def one_of(choices):  # by random() alone, which gives the same numbers in every version of Python
-        return choices[int(r.random() * len(choices))]
+    r = Chance(seed)
+    one_of = r.one_of
 
     def line():
         step = b'(a%d)' % one_of([0, 0, 0, 0, 1, 1, 1, 2, r.random() * 400])
@@ -288,7 +284,7 @@ def random_texts(count=400, seed=64):
     for number in range(count):
         text = b''.join(line() for _ in range(one_of([1, 2, 3, 5, 8, 13])))
         if number % 2:
-            at = int(r.random() * len(text))
+            at = r.below(len(text))
             text = text[:at] + one_of([b'', b'0', b'(', b')', b'a', b';', b'\n', b' ', b'\r', b'\0', b'9']) + text[at + one_of([0, 1]):]
         yield f'random {number}', one_of([ladder, belt]), text, ''
 
@@ -299,32 +295,24 @@ def vectors():
                 verdicts, random_texts]
     made = [(*vector, *read(vector[2])) for family in families for vector in family()]
     lasts = {t: last_refusal(data, plan, fault) for t, (_, data, _, _, plan, fault) in enumerate(made)}
-    atoms = {t: {} for t in lasts if not lasts[t]}
-    for predicate, t, *said in derived('\n'.join(fact for t in atoms for fact in facts(t, made[t][1], made[t][4]))):
-        atoms[t].setdefault(predicate, []).extend(said)
+    atoms = engine.walked({t: (made[t][1], made[t][4]) for t in lasts if not lasts[t]})
     for t, (what, data, text, answer, plan, fault) in enumerate(made):
-        lines = first_lines(plan, fault) + (lasts[t] or worth(verdict(atoms[t], data, plan)))
+        lines = first_lines(plan, fault) + (lasts[t] or worth(engine.text(atoms[t], data, plan)))
         first, *_, last = lines.splitlines()
         forms = ['', '|'.join(lines.splitlines()), f'{first}|{last}', first if first == last else '']
         assert answer in forms, f'{what}: {answer}, but the lines are {lines}'
         yield what, data, text, lines
 
 
-# ---- the two stored files
-
 def shown(lines):
     first, *steps, last = lines.splitlines()
     return '|'.join([first, *(steps if len(steps) < 9 else ['..']), last])
 
 
-def main(option=None):
-    made = list(vectors())
-    store('text_vectors', option, [f'{what}: {shown(lines)}' for what, _, _, lines in made],
-          {'data/vectors': [record(data) + record(text) for _, data, text, _ in made],
-           'stdout': [lines.encode() for _, _, _, lines in made]})
+def parts():
+    for what, data, text, lines in vectors():
+        yield f'{what}: {shown(lines)}', record(data) + record(text), lines.encode()
 
 
 if __name__ == '__main__':
-    if sys.argv[1:] not in ([], ['--check'], ['--list']):
-        sys.exit(__doc__)
-    main(*sys.argv[1:])
+    stored.main('text_vectors', parts, __doc__)

@@ -3,9 +3,10 @@
 
 tests/translate/planner.py PROGRAM [COUNT [SEED]]     PROGRAM is target/bin/translate
 
-The planner is two logic programs run by gringo and clasp (Debian packages of these names). source.lp plans on the task, by the
-documents' meanings of the preferences, with at most HORIZON steps. classical.lp knows nothing of preferences, and plans on the bytes that
-translate wrote, with 1 + P steps more: end, and one to close each preference. Then, for the cheapest list and for the dearest:
+The planner (shared/planning.py) is two logic programs run by gringo and clasp (Debian packages of these names). source.lp plans on the
+task, by the documents' meanings of the preferences, with at most HORIZON steps. classical.lp knows nothing of preferences, and plans on
+the bytes that translate wrote, with 1 + P steps more: end, and one to close each preference. Then, for the cheapest list and for the
+dearest:
 - the least (greatest) cost of the translation is the least (greatest) metric of the task, or neither has a solution;
 - the list on the translation is source steps, then end, then collect or forgo of each preference in order;
 - its source steps solve the task, its cost is their metric, and it forgoes the preferences that they miss.
@@ -13,69 +14,19 @@ The dearest list shows what the cheapest hides: a forgo that is open beside its 
 Some tasks have hard rules, and some of these no solution for that alone: with the same rules soft they have one.
 """
 import collections
-import json
 import os
 import random
-import re
-import runpy
 import struct
-import subprocess
 import sys
 
-HERE = os.path.dirname(os.path.abspath(__file__))
-ACCOUNT = runpy.run_path(os.path.join(HERE, '../check/vectors.py'))
-check, file, preference, BELT, MARK = (ACCOUNT[name] for name in ['check', 'file', 'preference', 'BELT', 'MARK'])
-SOFT, HARD, PREFERENCES = (ACCOUNT[name] for name in ['SOFT', 'HARD', 'PREFERENCES'])
-JUDGE = runpy.run_path(os.path.join(HERE, '../judge/vectors.py'))
-rows, task_facts = JUDGE['rows'], JUDGE['task_facts']
-run = runpy.run_path(os.path.join(HERE, '../programs.py'))['run']
-
-HORIZON = 5
-SIGNS = {'cheapest': 1, 'dearest': -1}
+sys.path.insert(0, os.path.dirname(os.path.dirname(os.path.abspath(__file__))))
+from shared.account import check
+from shared.files import BELT, HARD, MARK, PREFERENCES, file, preferences, rows, words
+from shared.planning import HORIZON, SIGNS, Solution, plan, random_task
+from shared.programs import run
 
 
 # ---- the tasks
-
-def random_task(r):
-    """2 to 4 facts, 1 to 3 actions, 0 to 3 preferences. Action g changes fact g once fact g - 1 is changed, or changes it and changes
-    it back; the goal mostly asks for such changes. So most tasks have a solution, and preferences see facts come and go."""
-    f, a = r.choice([(2, 1), (2, 2), (3, 2), (3, 3), (4, 2), (4, 3)])
-    opening = [fact for fact in range(f) if r.random() < 0.4]
-
-    def some(counts, part):
-        return ''.join(part() for _ in range(r.choice(counts)))
-
-    def fact(*names):
-        return f' {r.choice(names)} {r.randrange(f)}'
-
-    def condition(*clauses):
-        return some(clauses, lambda: ' CLAUSE' + some([1, 1, 1, 2], lambda: fact('HOLDS', 'LACKS')))
-
-    def ask(g, changed):
-        return f' CLAUSE {"HOLDS" if (g in opening) != changed else "LACKS"} {g}'
-
-    def give(g, changed):
-        return f' {"ADD" if (g in opening) != changed else "DELETE"} {g}'
-
-    def change(g):
-        after_another = ' EFFECT' + (ask(g - 1, True) if g else '') + give(g, True)
-        and_back = ''.join(' EFFECT' + ask(g, changed) + give(g, not changed) for changed in (True, False))
-        return r.choice([after_another, and_back])
-
-    def effect():
-        return ' EFFECT' + condition(0, 1, 1, 2) + some([0, 1, 1, 2], lambda: fact('ADD')) + some([0, 1, 1], lambda: fact('DELETE'))
-
-    def action(g):
-        return f' ACTION {r.choice([0, 1, 1, 2, 3])}' + condition(0, 0, 0, 1) + change(g) + some([0, 1, 2, 2], effect)
-
-    def rule():
-        phi, psi = (condition(0, 1, 1, 1, 1, 2) for _ in range(2))
-        return preference(r.choice(SOFT + SOFT + HARD), r.randint(0, 9), phi, psi, r.choice([0, 1, 1, 2, 2, 3, 4, 15]))
-
-    starts = ''.join(f' START {fact}' for fact in opening)
-    goal = ' GOAL' + some([0, 1, 1, 2], lambda: ask(r.randrange(a), True) if r.random() < 0.8 else condition(1))
-    return file(starts + goal + ''.join(map(action, range(a))) + some([0, 1, 2, 3, 3], rule), F=f)
-
 
 def softened(data):
     """A task with its hard rules made soft."""
@@ -86,50 +37,15 @@ def softened(data):
 NONE = file('GOAL CLAUSE HOLDS 0 ACTION 1 EFFECT ADD 0 hard-always CLAUSE LACKS 0', F=1)
 ROUND = file('GOAL CLAUSE HOLDS 0 ACTION 1 EFFECT ADD 0 ACTION 2 EFFECT ADD 1 always 5 CLAUSE LACKS 1 '
              'hard-sometime-before CLAUSE HOLDS 0 SECOND CLAUSE HOLDS 1', F=2)
-HAND = [('the belt', file(BELT, F=2), (8, [0, 2, 4, 5], [])), ('no list keeps the rule', NONE, None), ('a way round', ROUND, (8, [1, 0, 2, 4, 5], []))]
-
-
-def words(data):
-    """A task for reading. It is made again by file(rows in words, F)."""
-    return f'F {data[0]}: ' + ' '.join(f'{name} {value}' for name, value in rows(data))
-
-
-# ---- the planner
-
-Solution = collections.namedtuple('Solution', 'total steps missed')
-
-
-def best(program, facts, horizon, sign):
-    """The cheapest or dearest list of at most horizon steps that solves the task in the facts, or None. The program is a file beside
-    this one, or a whole path."""
-    gringo = subprocess.run(['gringo', '-c', f'horizon={horizon}', '-c', f'sign={sign}', os.path.join(HERE, program), '-'],
-                            input='\n'.join(facts).encode(), stdout=subprocess.PIPE, check=True)
-    clasp = subprocess.run(['clasp', '--quiet=1', '--outf=2'], input=gringo.stdout, stdout=subprocess.PIPE)
-    answer = json.loads(clasp.stdout)
-    if answer['Result'] == 'UNSATISFIABLE':
-        return None
-    model, = answer['Call'][0]['Witnesses']
-    total, = model.get('Costs', [0])  # where nothing has a cost or a weight, there is no sum to minimize
-    assert answer['Result'] == ('OPTIMUM FOUND' if 'Costs' in model else 'SATISFIABLE'), answer
-    atoms = collections.defaultdict(list)
-    for atom in model['Value']:
-        predicate, *numbers = re.findall(r'[^(),]+', atom)
-        atoms[predicate].append([int(number) for number in numbers])
-    return Solution(sign * total, [step for _, step in sorted(atoms['step'])], sorted(k for k, in atoms['missed']))
-
-
-def plan(program, data, horizon, sign, steps=None):
-    """The cheapest or dearest list of at most horizon steps that solves a task, or None; where steps are given, only that list is
-    looked at. The total is the cost or the metric. Missed preferences are source.lp's alone."""
-    given = [] if steps is None else [f':- not length({len(steps)}).', *(f':- not step({i},{step}).' for i, step in enumerate(steps))]
-    return best(program, [*task_facts(data), *given], horizon, sign)
+HAND = [('the belt', file(BELT, F=2), (8, [0, 2, 4, 5], [])), ('no list keeps the rule', NONE, None),
+        ('a way round', ROUND, (8, [1, 0, 2, 4, 5], []))]
 
 
 # ---- a task and its translation
 
 def added_facts(data):
     """How many facts the translation of a task has more: three a preference, two, and those of deadlines."""
-    kinds = [name for name, _ in rows(data) if name in PREFERENCES]
+    kinds = [kind for kind, _ in preferences(data)]
     return 3 * len(kinds) + 2 + sum(kind in ('within', 'hard-within') for kind in kinds) + sum(value for name, value in rows(data) if name == 'STEPS')
 
 
@@ -145,8 +61,8 @@ def difference(program, data):
     if not line.startswith(sizes):
         return f'the translation is {line}, and not {sizes}...', found
     for name, sign in SIGNS.items():
-        best = plan('source.lp', data, HORIZON, sign)
-        found[name] = got = plan('classical.lp', compiled, HORIZON + 1 + p, sign)
+        best = plan('source', data, HORIZON, sign)
+        found[name] = got = plan('classical', compiled, HORIZON + 1 + p, sign)
         if (best and best.total) != (got and got.total):
             return f'{name}: {best} on the task, {got} on its translation', found
         if got:
@@ -155,7 +71,7 @@ def difference(program, data):
             closings = [a + 1 + 2 * k + (k in forgone) for k in range(p)]
             if got.steps != source + [a] + closings:
                 return f'{name}: {got} is not source steps, end, and a closing of each preference in order', found
-            same = plan('source.lp', data, HORIZON, sign, source)
+            same = plan('source', data, HORIZON, sign, source)
             if same != Solution(got.total, source, forgone):
                 return f'{name}: {got} on the translation, and its source part is {same} on the task', found
     return '', found
@@ -174,9 +90,9 @@ def main(program, count='120', seed='1'):
         wrong, found = difference(program, data)
         if wrong:
             sys.exit(f'task {number}: {wrong}. The task is {words(data)}')
-        a, kinds = data[2], [name for name, _ in rows(data) if name in PREFERENCES]
+        a, kinds = data[2], [kind for kind, _ in preferences(data)]
         solutions['a solution' if found['cheapest'] else 'no solution'] += 1
-        if not found['cheapest'] and plan('source.lp', softened(data), HORIZON, 1):
+        if not found['cheapest'] and plan('source', softened(data), HORIZON, 1):
             solutions['none for a hard rule'] += 1
         for name, solution in found.items():
             if solution:

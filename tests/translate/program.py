@@ -4,15 +4,13 @@
 tests/translate/program.py PROGRAM     PROGRAM is target/bin/translate
 """
 import os
-import runpy
 import struct
 import sys
 
-HERE = os.path.dirname(os.path.abspath(__file__))
-ACCOUNT = runpy.run_path(os.path.join(HERE, '../check/vectors.py'))
-check, file, goal, BELT = ACCOUNT['check'], ACCOUNT['file'], ACCOUNT['goal'], ACCOUNT['BELT']
-PROGRAMS = runpy.run_path(os.path.join(HERE, '../programs.py'))
-FOLDER, Link, run, faults = PROGRAMS['FOLDER'], PROGRAMS['Link'], PROGRAMS['run'], PROGRAMS['faults']
+sys.path.insert(0, os.path.dirname(os.path.dirname(os.path.abspath(__file__))))
+from shared.account import check
+from shared.files import BELT, file, goal
+from shared.programs import FOLDER, Link, faults, run
 
 belt = file(BELT, F=2)
 longest = file(goal(12000))

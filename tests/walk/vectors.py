@@ -5,30 +5,29 @@ tests/walk/vectors.py           writes crates/walk_vectors/data/vectors and crat
 tests/walk/vectors.py --check   writes nothing, and fails where these two files are not what it makes
 tests/walk/vectors.py --list    says what each vector is for, and its line
 
-The vectors stand in data/vectors one after the other, each as two records (tests/judge/vectors.py): the task file, then the plan. The
-lines stand in stdout in the same order. A line has a verdict and the number of literals looked at: `solved cost C met M literals L`,
-the met preferences as bits in a decimal number; `stopped I literals L`; `goal missed literals L`; `rule missed K literals L`; or
-`refused`, number and place.
+A vector is two records (shared/stored.py): the task file, then the plan. A line has a verdict and the number of literals looked at:
+`solved cost C met M literals L`, the met preferences as bits in a decimal number; `stopped I literals L`; `goal missed literals L`;
+`rule missed K literals L`; or `refused`, number and place.
 
 Where a line comes from:
-- refused 1 to 6: the account in tests/check/vectors.py. Refused 10 and 11: that in tests/judge/vectors.py.
-- A verdict, cost and met preferences: the outside engine, by the rules of tests/judge/meaning.lp. It gives the states visited, too.
+- A refusal: the account in shared/account.py.
+- A verdict, cost and met preferences: the outside engine (shared/engine.py), by the rules of tests/judge/meaning.lp. It gives the states
+  visited, too.
 - The literals: the functions `read` and `looked_at` below, in these states.
 Where an answer stands beside a vector, it was written by hand, and has to agree with the line.
 """
 import functools
 import os
-import random
-import runpy
 import sys
 
-HERE = os.path.dirname(os.path.abspath(__file__))
-ACCOUNT = runpy.run_path(os.path.join(HERE, '../check/vectors.py'))
-file, goal, preference, record, store = (ACCOUNT[name] for name in ['file', 'goal', 'preference', 'record', 'store'])
-SOFT, HARD, PREFERENCES, WITH_SECOND, WITH_STEPS, BELT = (
-    ACCOUNT[name] for name in ['SOFT', 'HARD', 'PREFERENCES', 'WITH_SECOND', 'WITH_STEPS', 'BELT'])
-JUDGE = runpy.run_path(os.path.join(HERE, '../judge/vectors.py'))
-rows, refusal, facts, derived, traced = (JUDGE[name] for name in ['rows', 'refusal', 'facts', 'derived', 'traced'])
+sys.path.insert(0, os.path.dirname(os.path.dirname(os.path.abspath(__file__))))
+from shared import stored, tasks
+from shared.account import refusal
+from shared.chance import Chance
+from shared.engine import verdict, walked
+from shared.files import BELT, HARD, PREFERENCES, SOFT, WITH_SECOND, WITH_STEPS, file, goal, preference, rows
+from shared.stored import record
+from shared.tasks import traced
 
 
 # ---- the literals looked at
@@ -87,34 +86,20 @@ def looked_at(data, plan, states):
 
 # ---- the lines
 
-def outside(made):
-    """For each vector that is given, {predicate: lists of what was derived}: the verdict, and the states."""
-    atoms = {t: {} for t in made}
-    shown = '#show held(T,I,F) : value(T,I,F,holds).\n#show state/2.\n'
-    for predicate, t, *said in derived(shown + '\n'.join(fact for t in made for fact in facts(t, *made[t]))):
-        atoms[t].setdefault(predicate, []).append(said)
-    return atoms
+STATES = '#show held(T,I,F) : value(T,I,F,holds).\n#show state/2.\n'  # what the engine is asked for beside the verdict
 
 
 def line(atoms, data, plan):
-    """The line of what was derived."""
+    """The line of what was derived of a plan."""
     states = [set() for _ in atoms['state']]
     for i, fact in atoms.get('held', []):
         states[i].add(fact)
-    looked = looked_at(data, plan, [*map(frozenset, states)])
-    verdicts = [name for name in ['stopped', 'goal_missed', 'rule_missed', 'cost'] if name in atoms]
-    assert len(verdicts) == 1, verdicts
-    if verdicts == ['stopped']:
-        (step,), = atoms['stopped']
-        assert step + 1 == len(states)
-        return f'stopped {step} literals {looked}'
-    assert len(plan) + 1 == len(states)
-    if verdicts == ['goal_missed']:
-        return f'goal missed literals {looked}'
-    if verdicts == ['rule_missed']:
-        return 'rule missed %d literals %d' % (*atoms['rule_missed'][0], looked)
-    (cost,), = atoms['cost']
-    return f'solved cost {cost} met {sum(1 << k for k, in atoms.get("met", []))} literals {looked}'
+    words = verdict(atoms)
+    if words == 'solved':
+        ((cost,),), met = atoms['cost'], sum(1 << k for k, in atoms.get('met', []))
+        words = f'solved cost {cost} met {met}'
+    assert len(states) == 1 + (atoms['stopped'][0][0] if 'stopped' in atoms else len(plan))
+    return f'{words} literals {looked_at(data, plan, [*map(frozenset, states)])}'
 
 
 # ---- the vectors: what each is for, the task file, the plan, and the answer where it is written down here: the line, or the number of
@@ -211,7 +196,7 @@ def hard_rules():
             ('met', f'GOAL {two} LACKS 1 ACTION 2 {two} LACKS 0 hard-always {two} LACKS 1', [0] * 2, 'solved cost 4 met 1 literals 18'),
             ('met beside a soft one', f'GOAL ACTION 1 sometime 5 {two} hard-at-end CLAUSE LACKS 0', [0], 'solved cost 1 met 2 literals 6')]:
         yield f'hard rules, {what}', file(task), plan, answer
-    for what, data, plan, _ in JUDGE['several_rules']():
+    for what, data, plan, _ in tasks.several_rules():
         yield what, data, plan, ''
     for what, *vector in random_tasks(120, 1974, SOFT + HARD):
         yield f'{what}, hard rules', *vector
@@ -240,20 +225,15 @@ def most():
 
 def of_judge():
     """Tasks and plans of program judge's vectors."""
-    for family in ['stopped_and_missed', 'facts_of_both_words', 'empty_conditions', 'effects', 'refused', 'random_tasks']:
-        for what, data, plan, _ in JUDGE[family]():
+    for family in [tasks.stopped_and_missed, tasks.facts_of_both_words, tasks.empty_conditions, tasks.effects, tasks.refused, tasks.random_tasks]:
+        for what, data, plan, _ in family():
             yield what, data, plan, ''
 
 
 def random_tasks(count=300, seed=1973, kinds=SOFT):
     """Small tasks with long conditions over few facts, so that clauses are left at any literal and conditions at any clause."""
-    r = random.Random(seed)
-
-    def one_of(choices):  # by random() alone, which gives the same numbers in every version of Python
-        return choices[int(r.random() * len(choices))]
-
-    def some(counts, part):
-        return ''.join(part() for _ in range(one_of(counts)))
+    r = Chance(seed)
+    one_of, some = r.one_of, r.some
 
     def fact(*names):
         return lambda: f' {one_of(names)} {one_of(used)}'
@@ -282,23 +262,17 @@ def vectors():
     families = [belt, conditions, preferences_in_every_state, steps, most, of_judge, random_tasks, hard_rules]
     made = [(what, data, bytes(plan), answer) for family in families for what, data, plan, answer in family()]
     lines = {t: refusal(data, plan).strip() for t, (_, data, plan, _) in enumerate(made)}
-    atoms = outside({t: made[t][1:3] for t in lines if not lines[t]})
+    atoms = walked({t: made[t][1:3] for t in lines if not lines[t]}, STATES)
     for t, (what, data, plan, answer) in enumerate(made):
         text = lines[t] or line(atoms[t], data, plan)
         assert answer in ['', text, text.split()[-1]], f'{what}: {answer}, but the line is {text}'
         yield what, data, plan, text
 
 
-# ---- the two stored files
-
-def main(option=None):
-    made = list(vectors())
-    store('walk_vectors', option, [f'{what}: {text}' for what, _, _, text in made],
-          {'data/vectors': [record(data) + record(plan) for _, data, plan, _ in made],
-           'stdout': [text.encode() + b'\n' for _, _, _, text in made]})
+def parts():
+    for what, data, plan, text in vectors():
+        yield f'{what}: {text}', record(data) + record(plan), text.encode() + b'\n'
 
 
 if __name__ == '__main__':
-    if sys.argv[1:] not in ([], ['--check'], ['--list']):
-        sys.exit(__doc__)
-    main(*sys.argv[1:])
+    stored.main('walk_vectors', parts, __doc__)

@@ -8,8 +8,8 @@ from collections import namedtuple
 
 FOLDER = None  # what stands for the content of a file that is a folder
 Link = namedtuple('Link', 'to')  # and of one that is a link
-HERE = os.path.dirname(os.path.abspath(__file__))
-FAULTS = os.path.join(HERE, '../target/faults.so')
+TESTS = os.path.dirname(os.path.dirname(os.path.abspath(__file__)))
+SOURCE, FAULTS = os.path.join(TESTS, 'faults.c'), os.path.normpath(os.path.join(TESTS, '../target/faults.so'))
 
 
 def make(path, content):
@@ -30,10 +30,10 @@ def content(path):
 
 def faults(name, **after):
     """The environment in which a file's reads, writes and closes fail, or are short, by tests/faults.c."""
-    if not os.path.exists(FAULTS) or os.path.getmtime(FAULTS) < os.path.getmtime(os.path.join(HERE, 'faults.c')):
+    if not os.path.exists(FAULTS) or os.path.getmtime(FAULTS) < os.path.getmtime(SOURCE):
         os.makedirs(os.path.dirname(FAULTS), exist_ok=True)
-        subprocess.run(['gcc', '-shared', '-fPIC', '-O1', '-Wall', '-o', FAULTS, os.path.join(HERE, 'faults.c')], check=True)
-    return dict(os.environ, LD_PRELOAD=os.path.abspath(FAULTS), FAULT_FILE=name,
+        subprocess.run(['gcc', '-shared', '-fPIC', '-O1', '-Wall', '-o', FAULTS, SOURCE], check=True)
+    return dict(os.environ, LD_PRELOAD=FAULTS, FAULT_FILE=name,
                 **{f'FAULT_{fault.upper()}': str(n) for fault, n in after.items()})
 
 
