@@ -12,8 +12,8 @@ use Rattle.task.specs.TaskRows.{kindMark, openingMark, stepsRows}
 use Rattle.task.specs.File.{kindOf}
 use Rattle.meaning.specs.Monitor.{Monitor, accepting}
 use Rattle.task.proofs.Positions.{past-kinds}
-use Rattle.state.specs.Conditions.{inCondition}
-use Rattle.state.specs.Effects.{inEffects}
+use Rattle.reading.specs.Conditions.{inCondition}
+use Rattle.reading.specs.Effects.{inEffects}
 use Rattle.monitors.specs.Monitors.{headRows, isTwoSided}
 
 -- sometime and at-end are met where S is held

@@ -23,9 +23,9 @@ use Rattle.task.proofs.Bytes.{length-paired}
 use Rattle.task.proofs.Passing.{secondRows}
 use Rattle.task.proofs.Positions.{drop-next, drop-after, preferences-stop}
 use Rattle.task.proofs.Steps.{after-steps, soft-at}
-use Rattle.state.specs.Conditions.{inCondition, begin, readAs, evaluateAt}
-use Rattle.state.specs.declared.conditions.Evaluated.{Evaluated}
-use Rattle.state.proofs.ConditionRows.{condition-at, condition-ends}
+use Rattle.reading.specs.Conditions.{inCondition, begin, readAs, evaluateAt}
+use Rattle.reading.specs.declared.conditions.Evaluated.{Evaluated}
+use Rattle.reading.proofs.ConditionRows.{condition-at, condition-ends}
 use Rattle.monitors.specs.Monitors.{headRows, isTwoSided, oneSide, bothSides, firstSide, sidesAt}
 use Rattle.monitors.specs.declared.Sides.{Sides}
 use Rattle.monitors.proofs.ByMark.{head-rows, head-least, side-count, kind-past}

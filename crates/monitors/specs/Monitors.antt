@@ -15,8 +15,8 @@ use Rattle.meaning.specs.Meaning.{State as Facts, seen, noPreference}
 use Rattle.meaning.specs.Literals.{lookedPreferences}
 use Rattle.meaning.specs.Monitor
 use Rattle.meaning.specs.Monitor.{step}
-use Rattle.state.specs.Conditions.{begin, evaluateAt}
-use Rattle.state.specs.declared.conditions.Evaluated.{Evaluated}
+use Rattle.reading.specs.Conditions.{begin, evaluateAt}
+use Rattle.reading.specs.declared.conditions.Evaluated.{Evaluated}
 use Rattle.monitors.specs.declared.monitor.Monitor.{Monitor}
 use Rattle.monitors.specs.declared.Sides.{Sides}
 

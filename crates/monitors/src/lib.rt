@@ -9,8 +9,8 @@ ghost use lib.ListN.{length};
 ghost use Rattle.task.specs.Rows.{Rows};
 ghost use Rattle.state.specs.Member.{member};
 ghost use Rattle.monitors.specs.Monitors.{headRows, isTwoSided, sidesAt, MOST-LOOKED, SomePreferences, ForPreferences, Watched};
+use reading::conditions;
 use state::State;
-use state::conditions;
 use task::kinds;
 use task::marks;
 

@@ -15,8 +15,8 @@ use Rattle.meaning.specs.Literals.{lookedAt, lookedFrom}
 use Rattle.meaning.specs.Monitor.{Monitor, step}
 use Rattle.lists.proofs.First.{one-fails, none-fails}
 use Rattle.state.specs.Member.{bit, member}
-use Rattle.state.specs.Conditions.{begin, readAs, evaluateAt}
-use Rattle.state.specs.declared.conditions.Evaluated.{Evaluated}
+use Rattle.reading.specs.Conditions.{begin, readAs, evaluateAt}
+use Rattle.reading.specs.declared.conditions.Evaluated.{Evaluated}
 use Rattle.state.specs.declared.State.{State}
 use Rattle.state.proofs.Bits.{beyond-law}
 use Rattle.state.proofs.Words.{in-low}

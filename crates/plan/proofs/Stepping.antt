@@ -11,10 +11,10 @@ use Rattle.task.specs.Rows.{valueAt}
 use Rattle.meaning.specs.Literals.{lookedAt}
 use Rattle.meaning.specs.Meaning.{State as Facts, isTrue, actionAt, applies}
 use Rattle.state.specs.Member.{member}
-use Rattle.state.specs.Conditions.{begin, readAs, evaluateAt}
-use Rattle.state.specs.Effects.{EffectsAt, Changed-by, Changes}
-use Rattle.state.specs.declared.conditions.Evaluated.{Evaluated}
-use Rattle.state.specs.declared.effects.Changed.{Changed}
+use Rattle.reading.specs.Conditions.{begin, readAs, evaluateAt}
+use Rattle.reading.specs.Effects.{EffectsAt, Changed-by, Changes}
+use Rattle.reading.specs.declared.conditions.Evaluated.{Evaluated}
+use Rattle.reading.specs.declared.effects.Changed.{Changed}
 use Rattle.plan.specs.Steps.{ActionAt, StepTaken, StepAnswer}
 use Rattle.plan.specs.declared.steps.Position.{Position}
 use Rattle.plan.specs.declared.steps.Moved.the-variants.{Stopped}

@@ -18,12 +18,12 @@ use Rattle.task.proofs.Passing.{stepRows}
 use Rattle.task.proofs.RoundTrip.{fromGoal, task-grouped}
 use Rattle.task.proofs.Positions.{drop-next, drop-after, tailRows, tail-stops, effects-stop, goal-after, preferences-after}
 use Rattle.state.specs.Member.{empty}
-use Rattle.state.specs.Conditions.{inCondition, begin, readAs, evaluateAt}
-use Rattle.state.specs.Effects.{inEffects, EffectsAt}
-use Rattle.state.specs.declared.effects.Changed.{Changed}
-use Rattle.state.specs.Opening.{openAt}
-use Rattle.state.proofs.OpeningRows.{opening-at}
-use Rattle.state.proofs.ConditionRows.{condition-at}
+use Rattle.reading.specs.Conditions.{inCondition, begin, readAs, evaluateAt}
+use Rattle.reading.specs.Effects.{inEffects, EffectsAt}
+use Rattle.reading.specs.declared.effects.Changed.{Changed}
+use Rattle.reading.specs.Opening.{openAt}
+use Rattle.reading.proofs.OpeningRows.{opening-at}
+use Rattle.reading.proofs.ConditionRows.{condition-at}
 use Rattle.layout.specs.Actions.{actionRow}
 use Rattle.layout.specs.Rows.{Spells, PreferencesAt}
 use Rattle.monitors.specs.Monitors.{PreferencesFrom}

@@ -15,10 +15,10 @@ use super::Verdict;
 use super::Walked;
 use layout::actions;
 use monitors::met;
+use reading::conditions;
+use reading::effects;
+use reading::opening;
 use state::State;
-use state::conditions;
-use state::effects;
-use state::opening;
 use task::rows;
 
 // The rows at which the preferences begin, and the goal's condition.

@@ -23,14 +23,14 @@ use Rattle.task.specs.declared.Checked.the-variants.{Accepted, Refused}
 use Rattle.plan.specs.Judged.{judgedBy, judged}
 use Rattle.plan.specs.Walked
 use Rattle.plan.specs.Walked.{Walked, withoutWorth, walked}
-use Rattle.plan_text.specs.PlanText.{linesOf, Read, plan, faulty, readLines, readPlan}
+use Rattle.plan_lines.specs.PlanText.{linesOf, Read, plan, faulty, readLines, readPlan}
 use Rattle.outcome.specs.Outcome.{Outcome, written, refused, areaAfter}
 use Rattle.outcome.proofs.Outcomes.{not-written, same-written, put-down}
 use Rattle.plan_text.specs.Outcomes.{planFitted, readBy, readOutcome, steps, stepsIn, refusedAfter, textWalkedBy, textWalked}
-use Rattle.plan_text.specs.Scan.{isOpening, Count, all, faultyAt, count, counted, begun, start, stepsFrom}
-use Rattle.plan_text.specs.declared.scan.Scan.{Scan}
-use Rattle.plan_text.proofs.Scanning.{steps-read}
-use Rattle.plan_text.proofs.Splitting.{by-lines}
+use Rattle.plan_lines.specs.Scan.{isOpening, Count, all, faultyAt, count, counted, begun, start, stepsFrom}
+use Rattle.plan_lines.specs.declared.scan.Scan.{Scan}
+use Rattle.plan_lines.proofs.Scanning.{steps-read}
+use Rattle.plan_lines.proofs.Splitting.{by-lines}
 
 -- An outcome and its area
 

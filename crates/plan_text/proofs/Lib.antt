@@ -1,14 +1,4 @@
-pub mod Examples
-pub mod Modes
-pub mod Numerals
-pub mod Lines
-pub mod Scanning
-pub mod Printing
 pub mod Answering
-pub mod Splitting
-pub mod Returned
 pub mod RoundTrip
 pub mod Longest
 pub mod TextJudged
-pub mod Comments
-pub mod TwoTexts

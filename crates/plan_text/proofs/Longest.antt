@@ -10,9 +10,9 @@ use borrow.Author.Tests.{leb-true, le-leb}
 use Rattle.lists.proofs.Tests.{as-T}
 use Rattle.outcome.specs.Outcome.{refused, fitted}
 use Rattle.outcome.proofs.Outcomes.{not-written, same-refused}
-use Rattle.plan_text.specs.PlanText.{textOf}
+use Rattle.plan_lines.specs.PlanText.{textOf}
 use Rattle.plan_text.specs.Outcomes.{writeOutcome}
-use Rattle.plan_text.proofs.Returned.{bytes, text-length}
+use Rattle.plan_lines.proofs.Returned.{bytes, text-length}
 
 module _ (p : List ℕ) (h : bytes p ≡ true) where
   pub longest : length p ≤ 2048 → length (textOf p) ≤ 65536

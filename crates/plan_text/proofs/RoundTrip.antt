@@ -6,10 +6,10 @@ use Prim.Native.Nat.{ℕ, _≤_}
 use lib.ListN.{length, take, drop}
 use lib.Seq.{take-at}
 use Rattle.outcome.specs.Outcome.{Outcome, written, areaAfter}
-use Rattle.plan_text.specs.PlanText.{textOf, plan, readPlan}
+use Rattle.plan_lines.specs.PlanText.{textOf, plan, readPlan}
 use Rattle.plan_text.specs.Outcomes.{readBy, readOutcome, steps, stepsIn, writeOutcome}
 use Rattle.plan_text.proofs.Answering.{roomy, fits}
-use Rattle.plan_text.proofs.Returned.{bytes, returned}
+use Rattle.plan_lines.proofs.Returned.{bytes, returned}
 
 -- an area after a plan was written into it
 abbrev pub textArea : List ℕ → List ℕ → List ℕ

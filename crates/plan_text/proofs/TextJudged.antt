@@ -7,7 +7,7 @@ use Rattle.task.specs.Check.{Answer, check}
 use Rattle.plan.specs.Judged.{judgedBy, judged}
 use Rattle.plan.specs.ThenSettled.{thenSettle}
 use Rattle.plan.proofs.ThenSettled.{walk-then-settle}
-use Rattle.plan_text.specs.PlanText.{Read, plan, faulty, readPlan}
+use Rattle.plan_lines.specs.PlanText.{Read, plan, faulty, readPlan}
 use Rattle.plan_text.specs.Outcomes.{refusedAfter, textWalkedBy, textWalked, textJudgedBy, textJudged}
 
 module _ (b : List ℕ) where

@@ -1,3 +1,1 @@
-pub mod PlanText
 pub mod Outcomes
-pub mod Scan

@@ -11,7 +11,7 @@ use Rattle.plan.specs.Judged
 use Rattle.plan.specs.Judged.{Judged, judged}
 use Rattle.plan.specs.Walked
 use Rattle.plan.specs.Walked.{Walked, walked}
-use Rattle.plan_text.specs.PlanText.{textOf, Read, plan, faulty, readPlan}
+use Rattle.plan_lines.specs.PlanText.{textOf, Read, plan, faulty, readPlan}
 use Rattle.task.specs.Limits.{MAX-STEPS}
 use Rattle.task.specs.Refused.{LONG-PLAN, TEXT}
 

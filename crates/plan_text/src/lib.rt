@@ -1,10 +1,7 @@
 // Plans as planners print them: a line for each step.
-mod print;
-mod scan;
-
 ghost use mathlib.Core.Path.{_≡_};
 ghost use lib.ListN.{length};
-ghost use Rattle.plan_text.specs.PlanText.{textOf};
+ghost use Rattle.plan_lines.specs.PlanText.{textOf};
 ghost use Rattle.plan_text.specs.Outcomes.{readOutcome, stepsIn, writeOutcome, refusedAfter, textWalked};
 ghost use Rattle.outcome.specs.Outcome.{areaAfter};
 ghost use Rattle.outcome.specs.Answers.{answer};
@@ -12,6 +9,8 @@ ghost use Rattle.task.specs.Check.{check};
 ghost use Rattle.plan.specs.Answers.{walkedAs};
 use outcome::Outcome;
 use plan::Walked;
+use plan_lines::print;
+use plan_lines::scan;
 use task::Checked;
 use task::Refusal;
 use task::limits;

@@ -13,7 +13,8 @@ use Rattle.plan.specs.Judged.{given, judged}
 use Rattle.text.specs.Ascii.{ascii}
 use Rattle.text.specs.Text.{decimal}
 use Rattle.outcome.specs.Outcome.{written, refused}
-use Rattle.report.specs.Report.{solvedLine, preferenceLine, amountsLine, stoppedLine, ruleMissedLine, reportOf, reportOn, reportOutcome}
+use Rattle.report_lines.specs.Lines.{solvedLine, preferenceLine, amountsLine, stoppedLine, ruleMissedLine}
+use Rattle.report.specs.Report.{reportOf, reportOn, reportOutcome}
 use Rattle.report.specs.Rows.{rowLine, rowLines, reportOfRows}
 
 pub record Example : Type 0 where

@@ -14,7 +14,8 @@ use Rattle.task.proofs.Passing.{sideRows, sides-pass}
 use Rattle.task.proofs.Positions.{kind-preference, front, front-no-preference}
 use Rattle.plan.specs.Judged.{Judged, given, refused}
 use Rattle.meaning.specs.Verdict.{solved, stopped, goal-missed, rule-missed}
-use Rattle.report.specs.Report.{kindWord, preferenceLine, solvedLine, amountsLine, preferenceLines, reportOf}
+use Rattle.report_lines.specs.Lines.{kindWord, preferenceLine, solvedLine, amountsLine}
+use Rattle.report.specs.Report.{preferenceLines, reportOf}
 use Rattle.report.specs.Rows.{rowLine, rowLines, reportOfRows}
 
 -- the word of a kind does not hang on its steps

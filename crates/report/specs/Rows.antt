@@ -7,7 +7,8 @@ use Rattle.task.specs.File.{opensHard, softMark, isPreference, kindOf}
 use Rattle.task.specs.Check.{count}
 use Rattle.meaning.specs.Verdict.{Verdict}
 use Rattle.plan.specs.Judged.{Judged}
-use Rattle.report.specs.Report.{preferenceLine, verdictText, textWith}
+use Rattle.report_lines.specs.Lines.{preferenceLine}
+use Rattle.report.specs.Report.{verdictText, textWith}
 
 -- a row that opens preference k has a line, any other row has none; the steps have no place in it
 unfoldable pub rowLine : (ℕ → Bool) → ℕ → Row → List ℕ

@@ -1,5 +1,4 @@
 // The text of a judged plan, which program judge writes: a plan walked, and settled where it solves.
-mod lines;
 mod preferences;
 
 ghost use mathlib.Core.Path.{_≡_};
@@ -41,9 +40,9 @@ fn put_worth(
         let verdict = solved (s .cost) (w .metric) (w .utility) (bit (s .met)) in
         ⌜ Wrote (now (out .entry)) 0 (verdictOfRows rows steps verdict) r (now (out .exit)) ⌝ }
 {
-    let a = lines::put_solved(&mut *out, 0, steps, s.cost);
+    let a = report_lines::put_solved(&mut *out, 0, steps, s.cost);
     let b = preferences::put_rows(&mut *out, a, s.met, marks, values);
-    lines::put_amounts(&mut *out, b, w.metric, w.utility)
+    report_lines::put_amounts(&mut *out, b, w.metric, w.utility)
 }
 
 // Writes the text of a plan that solves, from what settle answers: it refuses nothing that walk gave.
@@ -87,9 +86,9 @@ fn put_verdict(
             let settled = settling::settle(file, s.cost, s.met);
             put_settled(steps, s, settled, marks, values, out)
         }
-        Verdict::Stopped(step) => lines::put_stopped(out, 0, step),
+        Verdict::Stopped(step) => report_lines::put_stopped(out, 0, step),
         Verdict::GoalMissed => text::put_bytes(out, 0, b"goal missed\n"),
-        Verdict::RuleMissed(rule) => lines::put_rule_missed(out, 0, rule),
+        Verdict::RuleMissed(rule) => report_lines::put_rule_missed(out, 0, rule),
     }
 }
 

@@ -9,7 +9,6 @@ ghost use Rattle.task.specs.Check.{count};
 ghost use Rattle.task.specs.Rows.{Rows};
 ghost use Rattle.text.specs.Area.{Wrote};
 ghost use Rattle.report.specs.Rows.{rowLine, rowLines};
-use super::lines;
 use task::rows;
 
 // Where the next line goes, and the number of the next preference.
@@ -30,7 +29,7 @@ fn put_row(out: &mut [u8], next: Next, mark: u8, value: u32, met: u64) -> Next
         return next;
     }
     Next {
-        at: lines::put_preference(out, at, k, mark, value, settling::is_met(met, k as u32)),
+        at: report_lines::put_preference(out, at, k, mark, value, settling::is_met(met, k as u32)),
         number: k + 1,
     }
 }

@@ -11,7 +11,7 @@ ghost use Rattle.classical.specs.Translation.{compiled};
 ghost use Rattle.outcome.specs.Outcome.{written, areaAfter};
 ghost use Rattle.translation.specs.Translated.{outcome, Delivered};
 ghost use Rattle.route_rules.specs.Corollary.{CostIsMetric};
-ghost use Rattle.plan_text.specs.PlanText.{textOf};
+ghost use Rattle.plan_lines.specs.PlanText.{textOf};
 ghost use Rattle.plan_text.specs.Outcomes.{readOutcome, stepsIn, writeOutcome, textWalked};
 ghost use Rattle.pddl_text.specs.Outcomes.{outcomeOver as texts, domainOver, problemOver};
 ghost use Rattle.words.specs.Numbers.{call, refusal, ofCheck, ofOutcome, ofTexts, ofWalk, ofSettle};

@@ -8,8 +8,8 @@ use lib.Dec.{eqb}
 use borrow.Author.Tests.{ne-eqb, le-leb, lt-leb, eqb-true}
 use Rattle.task.specs.Marks.{AT-END}
 use Rattle.task.specs.TaskRows.{Row}
-use Rattle.trackers.specs.declared.Facts.{Facts}
-use Rattle.trackers.specs.Rows.{alwaysRows, reachedRows, onceRows, beforeRows, afterRows, withinRows, soonRows, trackerRows}
+use Rattle.kind_trackers.specs.declared.Facts.{Facts}
+use Rattle.kind_trackers.specs.Rows.{alwaysRows, reachedRows, onceRows, beforeRows, afterRows, withinRows, soonRows, trackerRows}
 
 module _ (m t : ℕ) (last : Bool) (f : Facts) (xs ys : List Row) where
   pub by-always : m ≡ 10 → alwaysRows f xs ys ≡ trackerRows m t last f xs ys

@@ -1,4 +1,3 @@
-pub mod Numbering
 pub mod ByMark
 pub mod Tracking
 pub mod TrackerRows

@@ -24,10 +24,10 @@ use Rattle.task.proofs.Steps.{kind-at}
 use Rattle.classical.specs.Translation.{holdsFact, lacksFact, alone, effect, factS, furtherFacts, further, beforeD, factD, eachFalse, trackersOf, trackersFor}
 use Rattle.layout.specs.Sides.{part, Located, sidesAt, afterPreference, startsFrom}
 use Rattle.layout.proofs.Starting.{within-rows, at-sides, after-is}
-use Rattle.trackers.specs.declared.Facts.{Facts}
+use Rattle.kind_trackers.specs.declared.Facts.{Facts}
 use Rattle.effects.specs.Effects.{singleRows}
 use Rattle.effects.proofs.EffectRows.{effects-append, effect-rows, add-rows, delete-rows, false-is}
-use Rattle.trackers.specs.Rows.{changeRows, alwaysRows, beforeRows, afterRows, onwardRows, withinRows, waitRows, resetRows, soonRows, trackerRows}
+use Rattle.kind_trackers.specs.Rows.{changeRows, alwaysRows, beforeRows, afterRows, onwardRows, withinRows, waitRows, resetRows, soonRows, trackerRows}
 use Rattle.trackers.specs.Trackers.{factsFrom, trackersAt, furtherAt, trackersFrom, trackersBy, allTrackerRows}
 
 -- parts that are made one after the other

@@ -12,8 +12,8 @@ use Rattle.task.specs.Rows.{stepsAt}
 use Rattle.classical.specs.Translation.{furtherFacts, allTrackers}
 use Rattle.layout.specs.Sides.{sidesAt}
 use Rattle.layout.specs.declared.sides.Sides.{Sides}
-use Rattle.trackers.specs.declared.Facts.{Facts}
-use Rattle.trackers.specs.Rows.{sided, trackerRows}
+use Rattle.kind_trackers.specs.declared.Facts.{Facts}
+use Rattle.kind_trackers.specs.Rows.{sided, trackerRows}
 
 -- the facts of a preference whose first is s, d being the fact before D1
 abbrev pub factsFrom : ℕ → ℕ → Facts

@@ -1,7 +1,4 @@
 // The effects that follow the preferences from state to state, as rows.
-mod deadlines;
-mod kinds;
-
 ghost use mathlib.Core.Path.{_≡_};
 ghost use Prim.Native.Nat.{_≤_, _<_};
 ghost use lib.ListN.{length};
@@ -10,21 +7,17 @@ ghost use Rattle.task.specs.Answers.{asKind};
 ghost use Rattle.classical.specs.Translation.{furtherFacts};
 ghost use Rattle.task.specs.Rows.{Rows};
 ghost use Rattle.writer.specs.Writer.{Room, Wrote};
-ghost use Rattle.trackers.specs.Rows.{SidesInside, Small};
+ghost use Rattle.kind_trackers.specs.Rows.{SidesInside, Small};
 ghost use Rattle.trackers.specs.Trackers.{trackersWith, trackersAt, furtherAt, trackersBy};
+use kind_trackers::Facts;
+use kind_trackers::deadlines;
+use kind_trackers::kinds;
 use layout::sides;
 use layout::sides::Sides;
 use task::kinds::Kind;
 use task::marks;
 use task::rows;
 use writer::Cursor;
-
-// The facts S and B of a preference, and the fact before D1.
-pub(crate) struct Facts {
-    pub s: u32,
-    pub b: u32,
-    pub d: u32,
-}
 
 // The steps of the preference at row `at`, where its kind has them.
 fn steps_of(marks: &[u8], values: &[u8], at: usize) -> u32

@@ -59,7 +59,7 @@ fn put_all_actions(
     let ended = normal + 1;
     let k = parts::put_actions(&mut *out, c, marks, values, s, starts, facts, normal);
     let k = parts::put_end(&mut *out, k, marks, values, starts, facts, normal);
-    parts::put_closings(&mut *out, k, marks, values, starts, facts, ended)
+    closings::put_closings(&mut *out, k, marks, values, starts, facts, ended)
 }
 
 // Writes the rows of the translation of the task that the rows spell.

@@ -23,7 +23,7 @@ use Rattle.outcome.specs.Outcome
 use Rattle.outcome.specs.Outcome.{Outcome, written, fitted}
 use Rattle.classical.specs.Translation.{further, compiledRows}
 use Rattle.translation.specs.Translated.{rowsFitted, smallEnough, outcomeBy, outcome}
-use Rattle.plan_text.specs.PlanText.{textOf, Read, plan, faulty, readPlan}
+use Rattle.plan_lines.specs.PlanText.{textOf, Read, plan, faulty, readPlan}
 use Rattle.plan_text.specs.Outcomes.{planFitted, readBy, readOutcome, writeOutcome, refusedAfter, textWalkedBy, textWalked}
 use Rattle.pddl_text.specs.Pddl.{domainText, problemText}
 use Rattle.pddl_text.specs.Outcomes

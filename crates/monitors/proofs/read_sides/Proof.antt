@@ -7,7 +7,7 @@ use borrow.Author.Tests.{not-true, not-false}
 use denote.Ref.{now}
 use lib.ListN.{getD}
 use Rattle.task.specs.File.{softMark}
-use Rattle.state.specs.Conditions.{begin, evaluateAt}
+use Rattle.reading.specs.Conditions.{begin, evaluateAt}
 use Rattle.state.specs.Member.{member}
 use Rattle.monitors.specs.Monitors.{headRows, isTwoSided, firstSide}
 use Rattle.monitors.proofs.ByMark.{head-most}

@@ -3,7 +3,7 @@ use mathlib.Core.Path.{sym, ap, _∙_}
 use native.Mathlib.Omega.{arith}
 use denote.Ref.{now}
 use lib.ListN.{length}
-use Rattle.plan_text.specs.PlanText.{textOf}
+use Rattle.plan_lines.specs.PlanText.{textOf}
 use Rattle.outcome.specs.Outcome.{written}
 use Rattle.plan_text.specs.Outcomes.{writeOutcome}
 use Rattle.outcome.specs.Answers.{answer}

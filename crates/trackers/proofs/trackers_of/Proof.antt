@@ -3,7 +3,7 @@ use mathlib.Core.Path.{sym, ap, _∙_}
 use Prim.Native.Nat.{ℕ}
 use denote.Ref.{now}
 use Rattle.layout.specs.Sides.{part}
-use Rattle.trackers.specs.Rows.{withinRows, soonRows}
+use Rattle.kind_trackers.specs.Rows.{withinRows, soonRows}
 use Rattle.writer.proofs.Putting.{as-rows, wrote-none}
 use Rattle.trackers.proofs.ByMark.{by-always, by-once, by-before, by-after, by-within, by-soon, by-reached, by-below, by-above}
 use borrow.Author.Needs.{needs}

@@ -7,8 +7,8 @@ use native.Mathlib.Nat.{sub-zero}
 use native.Mathlib.Omega.{arith}
 use denote.Ref.{now}
 use lib.ListN.{length, take, getD}
-use Rattle.state.specs.Effects.{Result}
-use Rattle.state.proofs.OpeningRows.{opening-ends}
+use Rattle.reading.specs.Effects.{Result}
+use Rattle.reading.proofs.OpeningRows.{opening-ends}
 use Rattle.meaning.specs.Task.{Task}
 use Rattle.layout.specs.Rows.{Spells, PreferencesAt}
 use Rattle.layout.specs.Actions.{actionsFrom, AllBelow}

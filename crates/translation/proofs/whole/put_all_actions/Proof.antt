@@ -5,7 +5,8 @@ use denote.Ref.{now}
 use lib.ListN.{length}
 use Rattle.writer.proofs.Putting.{then, as-rows}
 use Rattle.translation.specs.Parts.{readTask}
-use Rattle.translation.proofs.PartRows.{end-is, closings-all}
+use Rattle.translation.proofs.PartRows.{end-is}
+use Rattle.closings.proofs.ClosingRows.{closings-all}
 use borrow.Author.Needs.{needs}
 use Rattle.translation.proofs.whole.put_all_actions.Statement.{statement}
 use Rattle.translation.proofs.whole.put_all_actions.Tie as tie

@@ -1,0 +1,10 @@
+pub mod Numerals
+pub mod Splitting
+pub mod Lines
+pub mod Modes
+pub mod Scanning
+pub mod Printing
+pub mod Returned
+pub mod Comments
+pub mod TwoTexts
+pub mod Examples

@@ -1,0 +1,36 @@
+-- The line and its newline are what put_number writes, whose last word is the closing bracket and the newline: append-assoc.
+use mathlib.Core.Path.{_≡_, sym, ap, subst}
+use mathlib.Core.List.{List, [], _∷_, _++_, append-assoc}
+use Prim.Native.Nat.{ℕ}
+use denote.Ref.{now}
+use Rattle.text.specs.Ascii.{ascii}
+use Rattle.text.specs.Text.{decimal}
+use Rattle.text.specs.Area.{Wrote}
+use Rattle.plan_lines.specs.PlanText.{stepLine}
+use borrow.Author.Needs.{needs}
+use Rattle.plan_lines.proofs.print.put_step.Statement.{statement}
+use Rattle.plan_lines.proofs.print.put_step.Tie as tie
+
+put-number-requires : tie.Need-put-number-requires
+put-number-requires c κs = search needs
+
+-- a step's line with its newline
+ended : (n : ℕ) → ascii "(a" ++ (decimal n ++ ascii ")\n") ≡ stepLine n ++ (10 ∷ [])
+unfolding stepLine
+ended n = ap (λ (l : List ℕ). ascii "(a" ++ l) (sym (append-assoc (decimal n) (ascii ")") (10 ∷ [])))
+
+returns : tie.Need-returns
+returns c =
+    let n = c .before .before in
+    let a = n .before .before .before .before .before .args in
+    (subst (λ (l : List ℕ). Wrote (now (a .out)) (a .at) l (n .put-number .result) (n .put-number .last .0)) (ended (a .step)) (n .put-number .ensures .0), search needs)
+
+pub put-step-spec : {M : Type 1} → statement M
+put-step-spec =
+    tie.close
+    (tie.spec
+    (λ c. search needs)
+    (λ c. search needs)
+    put-number-requires
+    (λ c. search needs)
+    returns)

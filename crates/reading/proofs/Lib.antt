@@ -1,0 +1,4 @@
+pub mod Reader
+pub mod ConditionRows
+pub mod EffectRows
+pub mod OpeningRows
