@@ -17,7 +17,7 @@ use task::rows;
 use writer::Cursor;
 
 // A preference that is closed: its kind, whether it is hard, its weight, whether it is the first, its fact S, and *ended*.
-pub struct Closing {
+struct Closing {
     pub kind: Kind,
     pub hard: bool,
     pub weight: u32,

@@ -15,7 +15,7 @@ use task::kinds;
 use task::marks;
 
 // φ and ψ of a preference in a state, how many literals were looked at, and the row after the preference.
-pub struct Sides {
+struct Sides {
     pub phi: bool,
     pub psi: bool,
     pub looked: usize,

@@ -40,7 +40,7 @@ fn put_row(out: &mut [u8], at: usize, mark: u8, value: u32) -> usize
 }
 
 // Whether row i has a mark between the two.
-pub fn has_mark(marks: &[u8], i: usize, least: u8, most: u8) -> bool
+pub(crate) fn has_mark(marks: &[u8], i: usize, least: u8, most: u8) -> bool
     ensures { λ r. ⌜ r ≡ markAt least most (now (marks .entry)) i ⌝ }
 {
     if marks.len() <= i {

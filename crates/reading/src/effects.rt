@@ -17,7 +17,7 @@ pub struct Applied {
 }
 
 // What the effects read so far add and delete, how many literals were looked at, and the row after them.
-pub struct Gathered {
+struct Gathered {
     pub adds: State,
     pub deletes: State,
     pub looked: usize,

@@ -2,8 +2,7 @@
 // as bits, each a number of 64 bits with its lowest byte first. Of each it writes a line: `metric` and `utility`, or `refused`,
 // number and place.
 use super::lines;
-use super::records;
-use super::records::Next;
+use records::Next;
 use settling::Settled;
 use task::rows;
 

@@ -1,8 +1,7 @@
 // Checks each record as a task file, and writes a line with the answer: `accepted` and the four sizes, or `refused`,
 // number and place.
 use super::lines;
-use super::records;
-use super::records::Next;
+use records::Next;
 use libc::STDOUT_FILENO;
 use task::Checked;
 use task::Sizes;

@@ -3,7 +3,6 @@ mod amounts;
 mod checks;
 mod lines;
 mod plans;
-mod records;
 mod texts;
 mod walks;
 

@@ -1,7 +1,6 @@
 // Reports on plans, where a task's record comes before its plan's.
 use super::lines;
-use super::records;
-use super::records::Next;
+use records::Next;
 use libc::STDOUT_FILENO;
 use outcome::Outcome;
 

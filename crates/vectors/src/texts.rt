@@ -1,8 +1,7 @@
 // Reads, walks and settles texts, where a task's record comes before its text's. Of each it writes `read` and the number of
 // steps, and then the plan as text again, or `refused`, number and place; then a line with what the text is worth on the task.
 use super::lines;
-use super::records;
-use super::records::Next;
+use records::Next;
 use libc::STDOUT_FILENO;
 use outcome::Outcome;
 use plan::Solution;

@@ -1,8 +1,7 @@
 // Walks plans, where a task's record comes before its plan's. Of each it writes a line: the verdict, of a plan that solves with the
 // cost and the met preferences, and the literals looked at; or `refused`, number and place.
 use super::lines;
-use super::records;
-use super::records::Next;
+use records::Next;
 use libc::STDOUT_FILENO;
 use plan::Verdict;
 use plan::Walked;

@@ -3,8 +3,8 @@ use Prim.Native.Nat.{ℕ, _≤_}
 use mathlib.Core.Path.{_≡_}
 use mathlib.Core.List.{List}
 use lib.ListN.{length, drop}
-use Rattle.vectors.specs.declared.records.Next.{Next}
-use Rattle.vectors.specs.declared.records.Next.the-variants.{Record, Nothing}
+use Rattle.records.specs.declared.Next.{Next}
+use Rattle.records.specs.declared.Next.the-variants.{Record, Nothing}
 
 -- The buffer that held `was` and now holds `is`: a record lies at its start, and after the record nothing has changed.
 -- Where there is no record, any of its bytes may have changed.

@@ -4,8 +4,8 @@ use mathlib.Core.Path.{sym, _∙_}
 use lib.ListN.{drop}
 use lib.Seq.{drop-at}
 use Rattle.io.proofs.Counting.{front}
-use Rattle.vectors.proofs.records.read_body.Statement.{statement}
-use Rattle.vectors.proofs.records.read_body.Tie as tie
+use Rattle.records.proofs.read_body.Statement.{statement}
+use Rattle.records.proofs.read_body.Tie as tie
 
 slice-aggregate-read-full : tie.Need-slice-aggregate-read-full
 slice-aggregate-read-full c = front _ _ (search needs)

@@ -1,5 +1,5 @@
 // A file of test vectors: records one after the other, each a little-endian length of 32 bits and then that many bytes.
-ghost use Rattle.vectors.specs.Records.{Filled};
+ghost use Rattle.records.specs.Records.{Filled};
 
 // What stands next in a file: a record of so many bytes, or none.
 pub enum Next {
