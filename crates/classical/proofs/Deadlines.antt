@@ -14,7 +14,7 @@ use Rattle.meaning.specs.Meaning.{State, isTrue}
 use Rattle.meaning.specs.Monitor.{older, nextS, nextB, nextAge}
 use Rattle.classical.specs.Translation.{holdsFact, lacksFact, alone, effect, eachFalse, factD, trackersOf}
 use Rattle.lists.proofs.Tests.{other-false}
-use Rattle.meaning.proofs.Effects.{added, deleted, changed, added-none, added-append, deleted-none, deleted-append, changed-none}
+use Rattle.meaning.proofs.Effects.{added, deleted, changed, added-none, added-append, deleted-none, deleted-append}
 use Rattle.classical.proofs.Conditions.{holds-alone}
 use Rattle.classical.proofs.Adding.{added-more, deleted-more, eachFalse-adds, eachFalse-deletes, adding, deleting, plain, grouped}
 

@@ -1,5 +1,5 @@
 -- The states of the translated task beside those of the source.
-use mathlib.Core.Path.{_≡_, refl, sym, _∙_, ap, ap₂, subst}
+use mathlib.Core.Path.{_≡_, refl, sym, _∙_, ap, ap₂}
 use mathlib.Core.Logic.{_≢_}
 use mathlib.Core.Bool.{Bool, true, false, not, _||_, and-true, and-false, or-false}
 use mathlib.Core.List.{List, [], _++_}

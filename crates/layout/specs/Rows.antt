@@ -1,7 +1,7 @@
 -- Marks with the values beside them, and the task that they spell.
 use mathlib.Core.Path.{_≡_}
 use mathlib.Core.List.{List}
-use Prim.Native.Nat.{ℕ, _*_, _≤_}
+use Prim.Native.Nat.{ℕ, _≤_}
 use lib.Dec.{T}
 use lib.ListN.{length, drop}
 use Rattle.lists.specs.Lists.{concatMap}
@@ -9,7 +9,7 @@ use Rattle.meaning.specs.Task.{Task, wellFormed}
 use Rattle.task.specs.TaskRows.{preferenceRows, taskRows}
 use Rattle.task.specs.File.{paired}
 use Rattle.task.specs.Spelling.{spellable}
-use Rattle.task.specs.Limits.{MAX-FACTS, MAX-PREFERENCES, MAX-ROWS}
+use Rattle.task.specs.Limits.{MAX-FACTS, MAX-PREFERENCES}
 
 -- the rows are those of t, within the limits of a task file
 pub record Spells (ms vs : List ℕ) (t : Task) : Type 0 where

@@ -1,14 +1,11 @@
 -- The first of a list that fails a test.
-use mathlib.Core.Path.{_≡_, refl, sym, ap, ap₂, _∙_, subst}
-use mathlib.Core.Logic.{_↔_}
+use mathlib.Core.Path.{_≡_, refl, ap₂}
 use mathlib.Core.Bool.{Bool, true, false, cond, _&&_, true≢false}
-use mathlib.Core.List.{List, [], _∷_, map}
-use Prim.Native.Nat.{ℕ, suc, _+_, _<_, _≤_}
+use mathlib.Core.List.{List, [], _∷_}
+use Prim.Native.Nat.{ℕ, suc, _<_, _≤_}
 use native.Mathlib.Omega.{arith}
-use lib.Dec.{T}
-use lib.IntN.{ℤ, pos, _+ℤ_, pos-+ℤ-pos, +ℤ-assoc, -ℤ-+ℤ-cancel}
 use lib.ListN.{length, getD, take}
-use Rattle.lists.specs.Lists.{all, firstFailing, sum, lastOr}
+use Rattle.lists.specs.Lists.{all, firstFailing}
 
 -- number i of a list is the first that fails a test: those before it pass
 pub record Lowest {A : Type 0} (ok : A → Bool) (xs : List A) (d : A) (i : ℕ) : Type 0 where

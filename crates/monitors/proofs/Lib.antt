@@ -1,6 +1,5 @@
--- One monitor
+-- By a preference's mark
 pub mod ByMark
-pub mod Packing
 -- The monitors of all preferences see a state
 pub mod SidesRead
 pub mod Watching

@@ -14,12 +14,12 @@ use Rattle.task.specs.TaskRows.{openingMark, preferenceRows}
 use Rattle.task.specs.File.{paired, softMark, kindOf}
 use Rattle.meaning.specs.Meaning.{State as Facts, noPreference}
 use Rattle.meaning.specs.Monitor.{Monitor, accepting}
-use Rattle.monitors.specs.Monitors.{monitorAt}
+use Rattle.monitor.specs.Packed.{monitorAt}
 use Rattle.layout.specs.Counting.{countAt}
 use Rattle.monitors.specs.Met.{Met, keptWith, one, noneMet, found, asFound}
 use Rattle.monitors.specs.declared.met.Found.{Found}
 use Rattle.task.proofs.Hard.{soft-back, hard-back}
-use Rattle.monitors.proofs.ByMark.{good-by-mark}
+use Rattle.monitor.proofs.Accepting.{good-by-mark}
 use Rattle.layout.proofs.Counting.{countAll, preferences-counted}
 
 -- what holds before row i is read

@@ -24,7 +24,8 @@ use Rattle.task.proofs.Reading.{row-at, row-end}
 use Rattle.task.proofs.Positions.{drop-after}
 use Rattle.task.proofs.Steps.{kind-at}
 use Rattle.monitors.specs.declared.Sides.{Sides}
-use Rattle.monitors.specs.Monitors.{monitorOf, monitorAt, sidesAt, MOST-LOOKED, ForPreferences, Watched}
+use Rattle.monitor.specs.Packed.{monitorOf, monitorAt}
+use Rattle.monitors.specs.Monitors.{sidesAt, MOST-LOOKED, ForPreferences, Watched}
 use Rattle.monitors.proofs.SidesRead.{Sides-of, sides-are}
 
 -- the byte of one put into a list

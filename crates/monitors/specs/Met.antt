@@ -8,7 +8,7 @@ use Rattle.task.specs.File.{opensHard, softMark, kindOf}
 use Rattle.meaning.specs.Meaning.{State as Facts}
 use Rattle.meaning.specs.Monitor.{accepting}
 use Rattle.state.specs.Member.{member, empty, single, union}
-use Rattle.monitors.specs.Monitors.{monitorAt}
+use Rattle.monitor.specs.Packed.{monitorAt}
 use Rattle.monitors.specs.declared.met.Found.{Found}
 
 -- so many preferences, how many of them stand before the first hard one that is missed, and those that are met

@@ -2,7 +2,7 @@
 use mathlib.Core.Path.{_≡_}
 use mathlib.Core.Bool.{Bool, true, cond, _&&_, _||_}
 use mathlib.Core.List.{List}
-use Prim.Native.Nat.{ℕ, _+_, _/_, _%_, _≤_, _<_}
+use Prim.Native.Nat.{ℕ, _+_, _≤_, _<_}
 use lib.Dec.{T, leb, eqb}
 use lib.ListN.{length, drop, getD}
 use Rattle.lists.specs.Lists.{all, concatMap}
@@ -13,23 +13,11 @@ use Rattle.task.specs.File.{paired, softMark}
 use Rattle.task.specs.Spelling.{preferenceSpellable}
 use Rattle.meaning.specs.Meaning.{State as Facts, seen, noPreference}
 use Rattle.meaning.specs.Literals.{lookedPreferences}
-use Rattle.meaning.specs.Monitor
 use Rattle.meaning.specs.Monitor.{step}
 use Rattle.reading.specs.Conditions.{begin, evaluateAt}
 use Rattle.reading.specs.declared.conditions.Evaluated.{Evaluated}
-use Rattle.monitors.specs.declared.monitor.Monitor.{Monitor}
+use Rattle.monitor.specs.Packed.{monitorAt}
 use Rattle.monitors.specs.declared.Sides.{Sides}
-
-abbrev pub asMonitor : Monitor → Monitor.Monitor
-asMonitor m = record { S = m .s; B = m .b; age = m .age }
-
--- the monitor that a byte stands for
-abbrev pub monitorOf : ℕ → Monitor.Monitor
-monitorOf x = record { S = eqb (x % 2) 1; B = eqb (x / 2 % 2) 1; age = x / 4 }
-
--- monitor k of a list; 0 is one that has seen no state
-abbrev pub monitorAt : List ℕ → ℕ → Monitor.Monitor
-monitorAt l k = monitorOf (getD l k 0)
 
 -- By a preference's mark
 

@@ -1,7 +1,6 @@
 // The monitors of a task's preferences: what the facts S, B and D1, D2, … of each know of the states seen so far, and which
 // preferences they say are met. Preference k has monitor k, which is kept as a byte.
 pub mod met;
-mod monitor;
 
 ghost use mathlib.Core.Path.{_≡_};
 ghost use Prim.Native.Nat.{_*_, _≤_, _<_};

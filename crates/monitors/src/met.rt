@@ -6,7 +6,6 @@ ghost use lib.ListN.{length};
 ghost use Rattle.task.specs.TaskRows.{row};
 ghost use Rattle.layout.specs.Counting.{MANY, counting, countAt};
 ghost use Rattle.monitors.specs.Met.{keptWith, noneMet, found, asFound};
-use super::monitor;
 use state::State;
 
 // So many preferences, how many of them stand before the first hard one that is missed, and those that are met.

@@ -1,33 +1,19 @@
 -- Which of the two an outcome is, and what it leaves in the area.
 use mathlib.Core.Path.{_≡_, sym, ap, _∙_}
-use mathlib.Core.Bool.{Bool, true, false, true≢false}
+use mathlib.Core.Bool.{true≢false}
 use mathlib.Core.List.{List, _++_}
 use Prim.Native.Nat.{ℕ}
 use lib.ListN.{length, drop}
 use Rattle.outcome.specs.Outcome.{Outcome, written, refused, areaAfter}
 
-abbrev isWritten : Outcome → Bool
-isWritten (written n) = true
-isWritten (refused n i) = false
-
--- the length of an output
-abbrev lengthOf : Outcome → ℕ
-lengthOf (written n) = n
-lengthOf (refused n i) = 0
-
 pub not-written : (k i n : ℕ) → refused k i ≡ written n → ⊥
-not-written k i n e = true≢false (sym (ap isWritten e))
+not-written k i n e = true≢false cc
 
 pub same-written : (m n : ℕ) → written m ≡ written n → m ≡ n
-same-written m n e = ap lengthOf e
-
--- and the number of a refusal
-abbrev numberOf : Outcome → ℕ
-numberOf (written n) = 0
-numberOf (refused n i) = n
+same-written m n e = cc
 
 pub same-refused : (m i n j : ℕ) → refused m i ≡ refused n j → m ≡ n
-same-refused m i n j e = ap numberOf e
+same-refused m i n j e = cc
 
 -- The answer a of a call, and the area then, where o is due
 

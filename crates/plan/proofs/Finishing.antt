@@ -20,7 +20,8 @@ use Rattle.reading.specs.declared.conditions.Evaluated.{Evaluated}
 use Rattle.state.specs.declared.State.{State}
 use Rattle.state.proofs.Bits.{beyond-law}
 use Rattle.state.proofs.Words.{in-low}
-use Rattle.monitors.specs.Monitors.{monitorAt, ForPreferences, Watched}
+use Rattle.monitor.specs.Packed.{monitorAt}
+use Rattle.monitors.specs.Monitors.{ForPreferences, Watched}
 use Rattle.plan.specs.Walked.{Walk, solved, goal-missed, rule-missed, given}
 use Rattle.layout.specs.Counting.{countAt}
 use Rattle.monitors.specs.Met.{Met, noneMet, found, asFound}

@@ -19,7 +19,8 @@ use Rattle.lists.proofs.Tests.{all-at}
 use Rattle.meaning.proofs.Watched.{stepAll, watchAll, accepting-watched}
 use Rattle.state.specs.Member.{member}
 use Rattle.state.specs.declared.State.{State}
-use Rattle.monitors.specs.Monitors.{monitorAt, MOST-LOOKED, PreferencesFrom, Watched}
+use Rattle.monitor.specs.Packed.{monitorAt}
+use Rattle.monitors.specs.Monitors.{MOST-LOOKED, PreferencesFrom, Watched}
 use Rattle.plan.specs.Walked.{Walk, solved, stopped, goal-missed, rule-missed, given, withoutAmounts}
 use Rattle.layout.specs.Actions.{AllBelow}
 use Rattle.plan.specs.Steps.{StepTaken, StepAnswer, solvedBy, lastVerdict, MonitorsAre, walkedOn, Start}

@@ -15,7 +15,8 @@ use Rattle.state.specs.declared.State.{State}
 use Rattle.plan.specs.Walked
 use Rattle.plan.specs.Walked.{Walk, solved, goal-missed, rule-missed, given, withoutAmounts}
 use Rattle.plan.specs.Answers.{walkedAs}
-use Rattle.monitors.specs.Monitors.{monitorAt, MOST-LOOKED}
+use Rattle.monitor.specs.Packed.{monitorAt}
+use Rattle.monitors.specs.Monitors.{MOST-LOOKED}
 use Rattle.settling.specs.Amounts.{AMPLE}
 use Rattle.layout.specs.Rows.{Spells, PreferencesAt}
 use Rattle.layout.specs.Actions.{actionRow, Noted}

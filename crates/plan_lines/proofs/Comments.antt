@@ -99,16 +99,8 @@ pub record Spells (bytes p : List ℕ) : Type 0 where
   pub spelled : bytes ≡ textOf numbers
   pub as-read : map asByte numbers ≡ p
 
-abbrev planIn : Read → List ℕ
-planIn (plan p) = p
-planIn (faulty i) = []
-
-abbrev isPlan : Read → Bool
-isPlan (plan p) = true
-isPlan (faulty i) = false
-
 no-line : (bs p : List ℕ) (i : ℕ) → faulty i ≡ plan p → Spells bs p
-no-line bs p i e = absurd (true≢false (sym (ap isPlan e)))
+no-line bs p i e = absurd (true≢false (cc))
 
 -- a step's line before a text that spells the rest
 one-step : (n : ℕ) (l bs p : List ℕ) (r : Read) → l ≡ stepLine n → stepBefore (asByte n) r ≡ plan p
@@ -122,12 +114,12 @@ one-step n l bs p (plan q) e h more = build (more q refl)
         record {
           numbers = n ∷ s .numbers;
           spelled = λ z. e z ++ NEWLINE ∷ s .spelled z;
-          as-read = ap (λ (x : List ℕ). asByte n ∷ x) (s .as-read) ∙ ap planIn h;
+          as-read = cc (s .as-read);
         }
 
 spelled-lines : (i : ℕ) (ls : Lines) (p : List ℕ) → readLines i ls ≡ plan p → Spells (bytesOf (withoutComments ls)) p
 unfolding textOf
-spelled-lines i (rest []) p h = record { numbers = []; spelled = refl; as-read = ap planIn h }
+spelled-lines i (rest []) p h = record { numbers = []; spelled = refl; as-read = cc }
 spelled-lines i (rest (b ∷ l)) p h = no-line (b ∷ l) p i h
 spelled-lines i (ended [] ls) p h = no-line (NEWLINE ∷ bytesOf (withoutComments ls)) p i h
 spelled-lines i (ended (b ∷ l) ls) p h =
@@ -148,7 +140,7 @@ short-enough t p h = go (leb (length t) 65536) refl h
   where
     go : (e : Bool) → leb (length t) 65536 ≡ e → cond e (readLines 0 (linesOf t)) (faulty 0) ≡ plan p → length t ≤ 65536
     go true e h = leb-true (length t) 65536 e
-    go false e h = absurd (true≢false (sym (ap isPlan h)))
+    go false e h = absurd (true≢false (cc))
 
 -- without its comments a text that is read as p spells p, byte by byte
 pub nothing-else : (t p : List ℕ) → readPlan t ≡ plan p → Spells (stripped t) p
@@ -158,7 +150,7 @@ nothing-else t p h = spelled-lines 0 (linesOf t) p (sym (by-lines t (short-enoug
 
 placed : (r : Read) (p : List ℕ) → unplaced r ≡ plan p → r ≡ plan p
 placed (plan q) p h = h
-placed (faulty i) p h = absurd (true≢false (sym (ap isPlan h)))
+placed (faulty i) p h = cc
 
 spelled-read : (t p : List ℕ) → length t ≤ 65536 → Spells (stripped t) p → readPlan t ≡ plan p
 spelled-read t p h s =

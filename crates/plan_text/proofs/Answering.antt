@@ -27,7 +27,7 @@ use Rattle.plan_lines.specs.PlanText.{linesOf, Read, plan, faulty, readLines, r
 use Rattle.outcome.specs.Outcome.{Outcome, written, refused, areaAfter}
 use Rattle.outcome.proofs.Outcomes.{not-written, same-written, put-down}
 use Rattle.plan_text.specs.Outcomes.{planFitted, readBy, readOutcome, steps, stepsIn, refusedAfter, textWalkedBy, textWalked}
-use Rattle.plan_lines.specs.Scan.{isOpening, Count, all, faultyAt, count, counted, begun, start, stepsFrom}
+use Rattle.plan_lines.specs.Scan.{isOpening, all, faultyAt, count, counted, begun, start, stepsFrom}
 use Rattle.plan_lines.specs.declared.scan.Scan.{Scan}
 use Rattle.plan_lines.proofs.Scanning.{steps-read}
 use Rattle.plan_lines.proofs.Splitting.{by-lines}
@@ -66,25 +66,13 @@ pub record Counted (r : Read) (k : ℕ) : Type 0 where
   pub is : r ≡ plan its-plan
   pub size : length its-plan ≡ k
 
-abbrev stepsOf : Count → ℕ
-stepsOf (all k) = k
-stepsOf (faultyAt i) = 0
-
-abbrev lineOf : Count → ℕ
-lineOf (all k) = 0
-lineOf (faultyAt i) = i
-
-abbrev isAll : Count → Bool
-isAll (all k) = true
-isAll (faultyAt i) = false
-
 all-counted : (r : Read) (k : ℕ) → all k ≡ count 0 r → Counted r k
-all-counted (plan p) k e = record { its-plan = p; is = refl; size = sym (ap stepsOf e ∙ zero-add (length p)) }
-all-counted (faulty i) k e = absurd (true≢false (ap isAll e))
+all-counted (plan p) k e = record { its-plan = p; is = refl; size = cc (zero-add (length p)) }
+all-counted (faulty i) k e = absurd (true≢false (cc))
 
 stopped-at : (r : Read) (i : ℕ) → faultyAt i ≡ count 0 r → r ≡ faulty i
-stopped-at (plan p) i e = absurd (true≢false (sym (ap isAll e)))
-stopped-at (faulty j) i e = ap faulty (sym (ap lineOf e))
+stopped-at (plan p) i e = cc
+stopped-at (faulty j) i e = cc
 
 module _ (t : List ℕ) (room : ℕ) where
   pub too-long : 65536 < length t → readOutcome t room ≡ refused 12 0
@@ -138,11 +126,6 @@ module _ (b : List ℕ) (x : Checked) (e : checked x ≡ check b) (m j : ℕ) wh
   file-accepted z q = ap (λ (a : Answer). refusedAfter a m j) (sym (ap checked q) ∙ e)
 
 module _ (b : List ℕ) where
-  -- a refusal of reading, after check's
-  abbrev passedOn : Outcome → Walked
-  passedOn (written n) = refusedAfter (check b) 0 0
-  passedOn (refused n i) = refusedAfter (check b) n i
-
   -- walk refuses a plan that is too long by the same number
   over-long : (p : List ℕ) → leb (length p) 2048 ≡ false → (a : Answer) → refusedAfter a 10 0 ≡ withoutWorth (literals (taskOf b) p) (judgedBy b p a)
   over-long p l (Check.refused n i) = refl
@@ -150,13 +133,13 @@ module _ (b : List ℕ) where
 
   on-refusal : (r : Read) (m j : ℕ) → readBy 2048 r ≡ refused m j → refusedAfter (check b) m j ≡ textWalkedBy b r
   unfolding judged walked
-  on-refusal (faulty i) m j e = sym (ap passedOn e)
+  on-refusal (faulty i) m j e = cc
   on-refusal (plan p) m j e = go (leb (length p) 2048) refl e
     where
       go : (x : Bool) → leb (length p) 2048 ≡ x → cond x (cond x (written (length p)) (refused 9 0)) (refused 10 0) ≡ refused m j
           → refusedAfter (check b) m j ≡ walked b p
       go true l e = absurd (not-written m j (length p) (sym e))
-      go false l e = sym (ap passedOn e) ∙ over-long p l (check b)
+      go false l e = let ten : refusedAfter (check b) m j ≡ refusedAfter (check b) 10 0 = cc in ten ∙ over-long p l (check b)
 
   on-plan : (r : Read) (n : ℕ) → readBy 2048 r ≡ written n → walked b (steps r) ≡ textWalkedBy b r
   on-plan (plan p) n e = refl

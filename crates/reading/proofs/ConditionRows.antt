@@ -1,6 +1,6 @@
 -- On the rows that spell a condition, the reader gives that condition's meaning, and counts the literals that it looks at.
-use mathlib.Core.Path.{_≡_, ap, _∙_, refl, sym}
-use mathlib.Core.Bool.{Bool, true, false, not, cond, _&&_, _||_, Bool·beq, or-false, and-true, and-false}
+use mathlib.Core.Path.{_≡_, ap, _∙_, refl}
+use mathlib.Core.Bool.{Bool, true, false, not, cond, _&&_, _||_, Bool·beq}
 use mathlib.Core.List.{List, [], _∷_, _++_, map}
 use Prim.Native.Nat.{ℕ, suc, _+_, _≤_}
 use native.Mathlib.Omega.{arith}

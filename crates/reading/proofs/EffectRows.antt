@@ -1,8 +1,8 @@
 -- On the rows that spell an action's effects, what is gathered and applied is the state that the action reaches.
 use mathlib.Core.Path.{_≡_, refl, sym, ap, ap₂, _∙_, fun-ext, subst, subst⁻¹}
-use mathlib.Core.Bool.{Bool, true, false, not, cond, _&&_, _||_, or-false, or-assoc, or-comm}
+use mathlib.Core.Bool.{Bool, true, false, not, _&&_, _||_, or-false, or-assoc, or-comm}
 use mathlib.Core.List.{List, [], _∷_, _++_, map, append-assoc}
-use Prim.Native.Nat.{ℕ, suc, _+_, _<_, _≤_}
+use Prim.Native.Nat.{ℕ, _+_, _<_, _≤_}
 use native.Mathlib.Nat.{zero-add}
 use native.Mathlib.Omega.{arith}
 use lib.Dec.{T, eqb, leb, ltb, ltb→lt}
@@ -15,8 +15,8 @@ use Rattle.task.specs.TaskRows.{Row, row}
 use Rattle.task.specs.TaskRows.{conditionRows, effectRows}
 use Rattle.task.specs.File.{paired}
 use Rattle.meaning.specs.Meaning.{State as Facts, isTrue, after}
-use Rattle.meaning.specs.Literals.{lookedAt, lookedEffects}
-use Rattle.task.specs.Rows.{between, run, runAt, Stops}
+use Rattle.meaning.specs.Literals.{lookedEffects}
+use Rattle.task.specs.Rows.{between, runAt, Stops}
 use Rattle.lists.proofs.Tests.{tests, and-both, as-T, both-true, not-both}
 use Rattle.meaning.proofs.Effects.{added, deleted, changed, after-is}
 use Rattle.task.proofs.Positions.{drop-after}

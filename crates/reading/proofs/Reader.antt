@@ -1,12 +1,12 @@
 -- What a reader of conditions comes through, row by row.
 use mathlib.Core.Path.{_≡_, refl, sym, ap, _∙_}
-use mathlib.Core.Bool.{Bool, true, false, cond, _&&_, Bool·beq}
+use mathlib.Core.Bool.{Bool, true, false, cond}
 use mathlib.Core.List.{List, [], _∷_}
 use Prim.Native.Nat.{ℕ, suc, _+_, _-_, _≤_, _<_}
 use native.Mathlib.Omega.{arith}
 use lib.Dec.{eqb, leb}
 use lib.ListN.{length, drop, getD}
-use borrow.Author.Tests.{leb-true, leb-false, eqb-true, eqb-false, eq-eqb, ne-eqb, le-leb, lt-leb}
+use borrow.Author.Tests.{leb-true, leb-false, eqb-true, eqb-false, ne-eqb, le-leb}
 use Rattle.task.specs.Marks.{CLAUSE, HOLDS, LACKS}
 use Rattle.task.specs.TaskRows.{Row, row}
 use Rattle.meaning.specs.Meaning.{State as Facts}
@@ -15,7 +15,6 @@ use Rattle.task.specs.Rows.{valueAt, between, run, runAt}
 use Rattle.lists.proofs.Tests.{both-true, not-both}
 use Rattle.task.proofs.Reading.{row-at, goes-on, stops-at, ends-at}
 use Rattle.reading.specs.Conditions.{inCondition, Reading, reading, readRow, finish, evaluateAt, endAt, falseMark}
-use Rattle.reading.specs.declared.conditions.Evaluated.{Evaluated}
 
 -- Marks
 

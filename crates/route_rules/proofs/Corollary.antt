@@ -31,14 +31,6 @@ use Rattle.route_rules.specs.Corollary.{SettledAt, CostIsMetric}
 
 -- What judge gave on an accepted file
 
-isGiven : Judged → Bool
-isGiven (given v) = true
-isGiven (Judged.refused n i) = false
-
-verdictOf : Verdict → Judged → Verdict
-verdictOf d (given v) = v
-verdictOf d (Judged.refused n i) = d
-
 module _ (b : List ℕ) (z : Sizes) (h : check b ≡ accepted z) (p : List ℕ) where
   abbrev known : Bool
   known = all (λ (k : ℕ). ltb k (z .actions)) p
@@ -54,13 +46,12 @@ module _ (b : List ℕ) (z : Sizes) (h : check b ≡ accepted z) (p : List ℕ) 
   given-verdict l k = by-check ∙ rw (le-leb (length p) 2048 l, k)
 
   only-verdict : (v : Verdict) → judged b p ≡ given v → verdict (taskOf b) p ≡ v
-  unfolding isGiven verdictOf
   only-verdict v e = go (leb (length p) 2048) known (sym by-check ∙ e)
     where
       go : (s k : Bool) → answered s k ≡ given v → verdict (taskOf b) p ≡ v
-      go true true e = ap (verdictOf v) e
-      go true false e = absurd (subst (λ (j : Judged). T (isGiven j)) (sym e) tt)
-      go false k e = absurd (subst (λ (j : Judged). T (isGiven j)) (sym e) tt)
+      go true true e = cc
+      go true false e = cc
+      go false k e = cc
 
 -- what judge gave, from what walk and settle answer
 judged-at : (b p : List ℕ) (m : ℕ) → SettledAt b p m → (c : ℕ) × (u : ℤ) × (s : ℕ → Bool) × (judged b p ≡ given (solved c m u s))

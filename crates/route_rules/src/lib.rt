@@ -14,7 +14,7 @@ ghost use Rattle.route_rules.specs.Corollary.{CostIsMetric};
 ghost use Rattle.plan_lines.specs.PlanText.{textOf};
 ghost use Rattle.plan_text.specs.Outcomes.{readOutcome, stepsIn, writeOutcome, textWalked};
 ghost use Rattle.pddl_text.specs.Outcomes.{outcomeOver as texts, domainOver, problemOver};
-ghost use Rattle.words.specs.Numbers.{call, refusal, ofCheck, ofOutcome, ofTexts, ofWalk, ofSettle};
+ghost use Rattle.words.specs.Numbers.{call, ofCheck, ofOutcome, ofTexts, ofWalk, ofSettle};
 
 // Checks a task file.
 #[no_mangle]

@@ -1,8 +1,8 @@
 // Checks each record as a task file, and writes a line with the answer: `accepted` and the four sizes, or `refused`,
 // number and place.
 use super::lines;
-use records::Next;
 use libc::STDOUT_FILENO;
+use records::Next;
 use task::Checked;
 use task::Sizes;
 

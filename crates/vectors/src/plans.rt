@@ -1,8 +1,8 @@
 // Reports on plans, where a task's record comes before its plan's.
 use super::lines;
-use records::Next;
 use libc::STDOUT_FILENO;
 use outcome::Outcome;
+use records::Next;
 
 fn write_report(file: &[u8], plan: &[u8]) {
     let mut out = [0u8; 2048];

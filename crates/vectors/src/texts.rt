@@ -1,12 +1,12 @@
 // Reads, walks and settles texts, where a task's record comes before its text's. Of each it writes `read` and the number of
 // steps, and then the plan as text again, or `refused`, number and place; then a line with what the text is worth on the task.
 use super::lines;
-use records::Next;
 use libc::STDOUT_FILENO;
 use outcome::Outcome;
 use plan::Solution;
 use plan::Verdict;
 use plan::Walked;
+use records::Next;
 use settling::Settled;
 
 // Writes what a plan that solves costs, its metric and its utility.

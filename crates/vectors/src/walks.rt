@@ -1,10 +1,10 @@
 // Walks plans, where a task's record comes before its plan's. Of each it writes a line: the verdict, of a plan that solves with the
 // cost and the met preferences, and the literals looked at; or `refused`, number and place.
 use super::lines;
-use records::Next;
 use libc::STDOUT_FILENO;
 use plan::Verdict;
 use plan::Walked;
+use records::Next;
 
 fn write_verdict(v: Verdict) {
     match v {

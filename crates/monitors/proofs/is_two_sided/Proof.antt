@@ -1,6 +1,5 @@
 -- By the range of the mark.
-use mathlib.Core.Bool.{or-true, and-false}
-use native.Mathlib.Omega.{arith}
+use mathlib.Core.Bool.{and-false}
 use borrow.Author.Tests.{le-leb, lt-leb, ne-eqb}
 use borrow.Author.Needs.{needs}
 use Rattle.monitors.proofs.is_two_sided.Statement.{statement}

@@ -1,5 +1,5 @@
 -- A bit of the word that has the fact, by `Words`.
-use mathlib.Core.Path.{_≡_, _∙_}
+use mathlib.Core.Path.{_∙_}
 use Rattle.state.proofs.Words.{by-word}
 use borrow.Author.Needs.{needs}
 use Rattle.state.proofs.has.Statement.{statement}

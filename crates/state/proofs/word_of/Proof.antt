@@ -1,9 +1,6 @@
 -- The branches compute; beyond two words there is none, by `Words`.
-use mathlib.Core.Path.{_≡_}
-use Prim.Native.Nat.{ℕ, zero, suc, _/_, _≤_}
+use Prim.Native.Nat.{_/_}
 use native.Mathlib.Omega.{arith}
-use Rattle.state.specs.Member.{word}
-use Rattle.state.specs.declared.State.{State}
 use Rattle.state.proofs.Words.{no-word}
 use Rattle.state.proofs.word_of.Statement.{statement}
 use Rattle.state.proofs.word_of.Tie as tie

@@ -1,6 +1,5 @@
 -- The sides are where the marks end: each of the four numbers is one of `sidesAt`, by what skip_marks answers.
-use mathlib.Core.Path.{_≡_, refl, sym, ap, _∙_}
-use Prim.Native.Nat.{ℕ}
+use mathlib.Core.Path.{ap, _∙_}
 use denote.Ref.{now}
 use Rattle.task.specs.Marks.{CLAUSE, LACKS, SECOND}
 use Rattle.layout.specs.Sides.{endAt}

@@ -5,7 +5,7 @@ use denote.Ref.{now}
 use borrow.Author.Needs.{needs}
 use Rattle.task.specs.File.{softMark, kindOf}
 use Rattle.meaning.specs.Monitor.{Monitor, accepting}
-use Rattle.monitors.specs.Monitors.{monitorAt}
+use Rattle.monitor.specs.Packed.{monitorAt}
 use Rattle.monitors.proofs.met.find_one.Statement.{statement}
 use Rattle.monitors.proofs.met.find_one.Tie as tie
 

@@ -12,7 +12,7 @@ use Rattle.reading.proofs.OpeningRows.{opening-ends}
 use Rattle.meaning.specs.Task.{Task}
 use Rattle.layout.specs.Rows.{Spells, PreferencesAt}
 use Rattle.layout.specs.Actions.{actionsFrom, AllBelow}
-use Rattle.monitors.proofs.Packing.{fresh-at}
+use Rattle.monitor.proofs.Packing.{fresh-at}
 use Rattle.layout.proofs.ActionRows.{within-rows, as-many, noted}
 use Rattle.plan.specs.Steps.{Start}
 use Rattle.plan.proofs.TaskRead.{opening-read, preferences-read}

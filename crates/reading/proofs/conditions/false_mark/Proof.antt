@@ -1,5 +1,5 @@
 -- The two branches compute.
-use mathlib.Core.Path.{_≡_, sym, _∙_}
+use mathlib.Core.Path.{sym, _∙_}
 use borrow.Author.Needs.{needs}
 use Rattle.reading.proofs.conditions.false_mark.Statement.{statement}
 use Rattle.reading.proofs.conditions.false_mark.Tie as tie

@@ -1,13 +1,13 @@
 -- False literals are passed one by one, by `Reader`.
 use borrow.Author.Needs.{needs}
-use mathlib.Core.Path.{_≡_, refl, sym, ap, _∙_}
+use mathlib.Core.Path.{_≡_, sym, _∙_}
 use mathlib.Core.Bool.{true, false}
-use Prim.Native.Nat.{ℕ, suc, _+_, _-_, _≤_}
+use Prim.Native.Nat.{ℕ, _+_, _-_, _≤_}
 use native.Mathlib.Omega.{arith}
 use denote.Ref.{now}
 use lib.ListN.{length}
 use Rattle.state.specs.Member.{member}
-use Rattle.reading.specs.Conditions.{reading, evaluateAt, PastFalse}
+use Rattle.reading.specs.Conditions.{reading, evaluateAt}
 use Rattle.reading.proofs.Reader.{none-past, one-past}
 use Rattle.reading.proofs.conditions.past_false.Statement.{statement}
 use Rattle.reading.proofs.conditions.past_false.Tie as tie

@@ -1,5 +1,5 @@
 -- The effects applied are a union and a difference of sets.
-use mathlib.Core.Path.{_≡_, _∙_}
+use mathlib.Core.Path.{_∙_}
 use borrow.Author.Needs.{needs}
 use Rattle.reading.proofs.effects.finished.Statement.{statement}
 use Rattle.reading.proofs.effects.finished.Tie as tie

@@ -3,10 +3,10 @@ use mathlib.Core.Path.{sym}
 use mathlib.Core.Logic.{⊎-elim}
 use native.Mathlib.Omega.{arith}
 use borrow.Author.Needs.{needs}
-use Rattle.monitors.specs.Monitors.{asMonitor}
-use Rattle.monitors.proofs.ByMark.{good-with-S, good-without-B}
-use Rattle.monitors.proofs.monitor.is_accepting.Statement.{statement}
-use Rattle.monitors.proofs.monitor.is_accepting.Tie as tie
+use Rattle.monitor.specs.Packed.{asMonitor}
+use Rattle.monitor.proofs.Accepting.{good-with-S, good-without-B}
+use Rattle.monitor.proofs.is_accepting.Statement.{statement}
+use Rattle.monitor.proofs.is_accepting.Tie as tie
 
 returns : tie.Need-returns
 returns c = λ t. rw (c .before .before .match .keys2)

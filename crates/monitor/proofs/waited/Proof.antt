@@ -1,7 +1,7 @@
 -- The branches compute, the last by `older`.
 use borrow.Author.Needs.{needs}
-use Rattle.monitors.proofs.monitor.waited.Statement.{statement}
-use Rattle.monitors.proofs.monitor.waited.Tie as tie
+use Rattle.monitor.proofs.waited.Statement.{statement}
+use Rattle.monitor.proofs.waited.Tie as tie
 
 returns-3 : tie.Need-returns-3
 returns-3 c = (rw (c .before .before .before .if1 .left, c .before .if3 .taken) (c .older .ensures .0), c .older .ensures .1)

@@ -1,8 +1,8 @@
 -- The byte has the digits of its monitor, by `Packing`.
 use borrow.Author.Needs.{needs}
-use Rattle.monitors.proofs.Packing.{digit-small, packed-is}
-use Rattle.monitors.proofs.monitor.packed.Statement.{statement}
-use Rattle.monitors.proofs.monitor.packed.Tie as tie
+use Rattle.monitor.proofs.Packing.{digit-small, packed-is}
+use Rattle.monitor.proofs.packed.Statement.{statement}
+use Rattle.monitor.proofs.packed.Tie as tie
 
 mul-result-2 : tie.Need-mul-result-2
 mul-result-2 c = let b = digit-small (c .before .before .args .m .b) in search needs

@@ -6,7 +6,7 @@ use Prim.Native.Nat.{ℕ, zero, suc, _+_, _*_, _/_, _%_, _≤_}
 use native.Mathlib.Omega.{arith}
 use mir.Val.{boolByte}
 use Rattle.meaning.specs.Monitor.{fresh}
-use Rattle.monitors.specs.Monitors.{monitorOf, monitorAt}
+use Rattle.monitor.specs.Packed.{monitorOf, monitorAt}
 
 -- so many that have seen no state
 abbrev zeros : ℕ → List ℕ

@@ -3,9 +3,9 @@ use mathlib.Core.Path.{sym, ap, _∙_}
 use denote.Ref.{now}
 use lib.ListN.{List·getD-eq-default}
 use borrow.Author.Needs.{needs}
-use Rattle.monitors.specs.Monitors.{monitorOf}
-use Rattle.monitors.proofs.monitor.monitor_at.Statement.{statement}
-use Rattle.monitors.proofs.monitor.monitor_at.Tie as tie
+use Rattle.monitor.specs.Packed.{monitorOf}
+use Rattle.monitor.proofs.monitor_at.Statement.{statement}
+use Rattle.monitor.proofs.monitor_at.Tie as tie
 
 returns : tie.Need-returns
 returns c =

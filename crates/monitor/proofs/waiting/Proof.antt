@@ -1,8 +1,7 @@
 -- The parts of a monitor of always-within, each by its function.
-use mathlib.Core.Path.{_≡_}
 use borrow.Author.Needs.{needs}
-use Rattle.monitors.proofs.monitor.waiting.Statement.{statement}
-use Rattle.monitors.proofs.monitor.waiting.Tie as tie
+use Rattle.monitor.proofs.waiting.Statement.{statement}
+use Rattle.monitor.proofs.waiting.Tie as tie
 
 returns : tie.Need-returns
 returns c = (λ last. rw (c .before .is-due .ensures, c .waited .ensures .0), c .waited .ensures .1)

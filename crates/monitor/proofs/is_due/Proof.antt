@@ -1,7 +1,7 @@
 -- The two branches compute.
-use borrow.Author.Tests.{eq-eqb, ne-eqb}
-use Rattle.monitors.proofs.monitor.is_due.Statement.{statement}
-use Rattle.monitors.proofs.monitor.is_due.Tie as tie
+use borrow.Author.Tests.{ne-eqb}
+use Rattle.monitor.proofs.is_due.Statement.{statement}
+use Rattle.monitor.proofs.is_due.Tie as tie
 
 returns : tie.Need-returns
 returns c = rw (c .if1 .taken)

@@ -8,7 +8,7 @@ ghost use Rattle.meaning.specs.Task.{always-within};
 ghost use Rattle.meaning.specs.Monitor.{older, nextAge, step, accepting};
 ghost use Rattle.task.specs.Spelling.{kindSpellable};
 ghost use Rattle.task.specs.Answers.{asKind};
-ghost use Rattle.monitors.specs.Monitors.{asMonitor, monitorOf, monitorAt};
+ghost use Rattle.monitor.specs.Packed.{asMonitor, monitorOf, monitorAt};
 use task::kinds::Kind;
 use task::marks;
 

@@ -7,8 +7,8 @@ use borrow.Author.Needs.{needs}
 use Rattle.task.specs.Spelling.{kindSpellable}
 use Rattle.task.specs.Answers.{asKind}
 use Rattle.task.specs.declared.kinds.Kind.{Kind}
-use Rattle.monitors.proofs.monitor.stepped.Statement.{statement}
-use Rattle.monitors.proofs.monitor.stepped.Tie as tie
+use Rattle.monitor.proofs.stepped.Statement.{statement}
+use Rattle.monitor.proofs.stepped.Tie as tie
 use Rattle.task.specs.Limits.{MAX-DEADLINE}
 
 few : (t : ℕ) → T (leb t MAX-DEADLINE) → t < 16

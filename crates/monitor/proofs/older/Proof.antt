@@ -1,8 +1,8 @@
 -- The two branches compute.
 use borrow.Author.Tests.{le-leb, lt-leb}
 use borrow.Author.Needs.{needs}
-use Rattle.monitors.proofs.monitor.older.Statement.{statement}
-use Rattle.monitors.proofs.monitor.older.Tie as tie
+use Rattle.monitor.proofs.older.Statement.{statement}
+use Rattle.monitor.proofs.older.Tie as tie
 
 returns : tie.Need-returns
 returns c = let a = c .before .args in (rw (le-leb (a .age) (a .steps) (search needs)), search needs)
