@@ -8,3 +8,4 @@ pub mod Walking
 pub mod Bounded
 -- Walk followed by settle
 pub mod ThenSettled
+pub mod Greatest

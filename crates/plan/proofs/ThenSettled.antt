@@ -14,6 +14,7 @@ use Rattle.meaning.specs.Task.{Action, Preference, Task}
 use Rattle.task.specs.File
 use Rattle.task.specs.File.{taskOf}
 use Rattle.task.specs.Spelling.{actionSpellable, spellable}
+use Rattle.task.specs.Limits.{MAX-AMOUNT, MAX-COST}
 use Rattle.meaning.specs.Literals.{literals}
 use Rattle.task.specs.Check
 use Rattle.task.specs.Check.{Answer, check}
@@ -30,16 +31,16 @@ use Rattle.plan.specs.ThenSettled.{priced, withAmounts, thenSettle}
 
 -- What a plan of known steps comes to is allowed
 
--- an action costs at most 1,000,000
-cheap : (l : List Action) → T (all actionSpellable l) → (k : ℕ) → getD l k noAction .cost ≤ 1000000
+-- an action costs at most 4,294,967,295
+cheap : (l : List Action) → T (all actionSpellable l) → (k : ℕ) → getD l k noAction .cost ≤ MAX-AMOUNT
 cheap [] h k = omega arith
-cheap (a ∷ l) h zero = leb→le (a .cost) 1000000 (search tests)
+cheap (a ∷ l) h zero = leb→le (a .cost) MAX-AMOUNT (search tests)
 cheap (a ∷ l) h (suc k) = cheap l (search tests) k
 
-pub cost-bound : (t : Task) → T (spellable t) → (p : List ℕ) → cost t p ≤ 1000000 * length p
+pub cost-bound : (t : Task) → T (spellable t) → (p : List ℕ) → cost t p ≤ MAX-AMOUNT * length p
 cost-bound t s [] = omega arith
 cost-bound t s (k ∷ ks) =
-    let one : actionAt t k .cost ≤ 1000000 = cheap (t .actions) (search tests) k in
+    let one : actionAt t k .cost ≤ MAX-AMOUNT = cheap (t .actions) (search tests) k in
     omega (arith, one, cost-bound t s ks)
 
 -- no preference from P on is met
@@ -53,8 +54,8 @@ met-below t p k (suc n) h =
 plan-allowed : (t : Task) → T (spellable t) → (p : List ℕ) → length p ≤ 2048 → argumentsAllowed (length (t .preferences)) (cost t p) (metSet t p) ≡ true
 plan-allowed t s p short =
     let P : ℕ = length (t .preferences) in
-    let c : cost t p ≤ 2048000000 = omega (arith, cost-bound t s p) in
-    rw (le-leb (cost t p) 2048000000 c, met-below t p P (64 - P) (omega arith))
+    let c : cost t p ≤ MAX-COST = omega (arith, cost-bound t s p) in
+    rw (le-leb (cost t p) MAX-COST c, met-below t p P (64 - P) (omega arith))
 
 -- Its amounts
 

@@ -14,6 +14,7 @@ use Rattle.task.specs.TaskRows.{taskRows}
 use Rattle.task.specs.File.{taskOf}
 use Rattle.task.specs.Check
 use Rattle.task.specs.Check.{check}
+use Rattle.task.specs.Limits.{MAX-COST}
 use Rattle.task.specs.Answers.{answer as checked, asSizes, refusalIn}
 use Rattle.task.specs.declared.Sizes.{Sizes}
 use Rattle.task.specs.declared.Refusal.{Refusal}
@@ -57,10 +58,10 @@ shifted-out w P (suc n) h =
     go false false true e = refl
     go false false false e = e
 
-pub arguments : (P cost w : ℕ) → P ≤ 16 → w < 2 ^ 64 → (leb cost 2048000000 && eqb (w / 2 ^ P) 0) ≡ argumentsAllowed P cost (bit w)
+pub arguments : (P cost w : ℕ) → P ≤ 16 → w < 2 ^ 64 → (leb cost MAX-COST && eqb (w / 2 ^ P) 0) ≡ argumentsAllowed P cost (bit w)
 arguments P cost w few h =
     let e : P + (64 - P) ≡ 64 = omega arith in
-    ap (λ (b : Bool). leb cost 2048000000 && b) (shifted-out w P (64 - P) (rw e h))
+    ap (λ (b : Bool). leb cost MAX-COST && b) (shifted-out w P (64 - P) (rw e h))
 
 -- Settle's answer, from what check answered
 
@@ -84,10 +85,10 @@ module _ (b : List ℕ) (c : ℕ) (met : ℕ → Bool) (x : Checked) (e : checke
     pub not-allowed : argumentsAllowed (z .preferences) c met ≡ false → refused 15 0 ≡ settled b c met
     not-allowed h = rw h at on-task
 
-    pub cost-allowed : argumentsAllowed (z .preferences) c met ≡ true → c ≤ 2048000000
+    pub cost-allowed : argumentsAllowed (z .preferences) c met ≡ true → c ≤ MAX-COST
     cost-allowed h =
         let t : T (argumentsAllowed (z .preferences) c met) = as-T {b = argumentsAllowed (z .preferences) c met} h in
-        leb→le c 2048000000 (search tests)
+        leb→le c MAX-COST (search tests)
 
     pub worth-on : argumentsAllowed (z .preferences) c met ≡ true → (w : Settled)
         → ((t : Task) → partsOf b (asSizes z) ≡ taskRows t → w ≡ worthOf t c met) → w ≡ settled b c met

@@ -9,10 +9,8 @@ ghost use Rattle.settling.specs.Settled.{argumentsAllowed};
 ghost use Rattle.layout.specs.Counting.{counting, countAt};
 ghost use Rattle.settling.specs.Amounts.{AMPLE, Room, nothing, weighed, asWeights};
 use super::Worth;
+use task::limits;
 use task::rows;
-
-// No plan of 2,048 steps costs more.
-const MOST: u64 = 2048000000;
 
 // So many preferences: the weights of those that are met, and of the others.
 pub struct Weights {
@@ -26,7 +24,7 @@ pub fn arguments_allowed(preferences: usize, cost: u64, met: u64) -> bool
     requires { ⌜ preferences ≤ 16 ⌝ }
     ensures { λ r. ⌜ r ≡ argumentsAllowed preferences cost (bit met) ⌝ }
 {
-    (cost <= MOST) & (met >> preferences == 0)
+    (cost <= limits::MAX_COST) & (met >> preferences == 0)
 }
 
 // One preference more.

@@ -1,5 +1,5 @@
 -- What is allowed: sizes, amounts, steps and texts.
-use Prim.Native.Nat.{ℕ}
+use Prim.Native.Nat.{ℕ, _*_}
 
 abbrev pub MAX-FACTS : ℕ
 MAX-FACTS = 128
@@ -13,9 +13,9 @@ MAX-PREFERENCES = 16
 abbrev pub MAX-ROWS : ℕ
 MAX-ROWS = 12000
 
--- a cost, or a soft preference's weight
+-- a cost, or a soft preference's weight: any number of 32 bits
 abbrev pub MAX-AMOUNT : ℕ
-MAX-AMOUNT = 1000000
+MAX-AMOUNT = 4294967295
 
 -- the steps of within and always-within
 abbrev pub MAX-DEADLINE : ℕ
@@ -31,4 +31,4 @@ MAX-TEXT = 65536
 
 -- of a plan: so many steps of the largest amount
 abbrev pub MAX-COST : ℕ
-MAX-COST = 2048000000
+MAX-COST = MAX-STEPS * MAX-AMOUNT

@@ -8,8 +8,8 @@ pub const MAX_PREFERENCES: usize = 16;
 
 pub const MAX_ROWS: usize = 12000;
 
-// A cost, or a soft preference's weight.
-pub const MAX_AMOUNT: usize = 1000000;
+// A cost, or a soft preference's weight: any number of 32 bits.
+pub const MAX_AMOUNT: usize = 4294967295;
 
 // The steps of within and always-within.
 pub const MAX_DEADLINE: usize = 15;
@@ -21,4 +21,4 @@ pub const MAX_STEPS: usize = 2048;
 pub const MAX_TEXT: usize = 65536;
 
 // Of a plan: so many steps of the largest amount.
-pub const MAX_COST: u64 = 2048000000;
+pub const MAX_COST: u64 = 8796093020160;

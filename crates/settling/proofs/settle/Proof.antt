@@ -7,6 +7,7 @@ use Prim.Native.Nat.{_+_, _*_, _≤_}
 use denote.Ref.{now}
 use lib.ListN.{length}
 use Rattle.task.specs.Answers.{answer as checked, asSizes}
+use Rattle.task.specs.Limits.{MAX-COST}
 use Rattle.task.proofs.Answered.{lengths}
 use Rattle.layout.proofs.Parts.{parts-rows}
 use Rattle.state.specs.Member.{bit}
@@ -30,7 +31,7 @@ fine : (s : tie.Else1) → let n = s .before .before .before in let a = n .befor
 fine s = sym (s .before .arguments-allowed .ensures) ∙ not-false _ (s .if1 .left)
 
 -- so the cost is small
-paid : (s : tie.Else1) → let b = s .before .before .before .before .before .before .before in b .args .cost ≤ 2048000000
+paid : (s : tie.Else1) → let b = s .before .before .before .before .before .before .before in b .args .cost ≤ MAX-COST
 paid s =
     let n = s .before .before .before in
     let k = n .before .before in
