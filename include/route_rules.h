@@ -27,10 +27,10 @@ extern "C" {
 #define ROUTE_RULES_MAX_ACTIONS 128
 #define ROUTE_RULES_MAX_PREFERENCES 16
 #define ROUTE_RULES_MAX_ROWS 12000
-#define ROUTE_RULES_MAX_AMOUNT 1000000 /* a cost, or a soft rule's weight; a hard rule's is 0 */
+#define ROUTE_RULES_MAX_AMOUNT 4294967295 /* a cost, or a soft rule's weight: any 32-bit number; a hard rule's is 0 */
 #define ROUTE_RULES_MAX_STEPS 2048
 #define ROUTE_RULES_MAX_DEADLINE 15 /* the steps of within and always-within */
-#define ROUTE_RULES_MAX_COST 2048000000 /* the cost of a plan: so many steps of the largest amount */
+#define ROUTE_RULES_MAX_COST 8796093020160 /* the cost of a plan: so many steps of the largest amount */
 #define ROUTE_RULES_MAX_TEXT 65536 /* bytes of a plan's text; an area of this length is never too short for one */
 
 /* The length of the longest task file: an output area of this length is never too short. */
@@ -66,7 +66,7 @@ enum {
     ROUTE_RULES_REFUSED_TEXT = 12,            /* text over 65,536 bytes: 0; or a line of another form or without a newline: that line */
     ROUTE_RULES_REFUSED_PREFERENCES = 13,     /* the task has preferences; 0 */
     ROUTE_RULES_REFUSED_SHORT_AREA = 14,      /* a domain or a problem longer than its area; 0 */
-    ROUTE_RULES_REFUSED_ARGUMENT = 15         /* cost over 2,048,000,000, or a met preference not below P; 0 */
+    ROUTE_RULES_REFUSED_ARGUMENT = 15         /* cost over 8,796,093,020,160, or a met preference not below P; 0 */
 };
 
 /* The four sizes of an accepted file: F, A, P and N. */

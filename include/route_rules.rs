@@ -33,7 +33,7 @@ pub mod refused {
 pub const MAX_FILE: usize = 8 + 5 * 12_000;
 
 /// The largest cost that settle takes: no plan costs more.
-pub const MAX_COST: u64 = 2_048_000_000;
+pub const MAX_COST: u64 = 8_796_093_020_160;
 
 /// The length of the longest plan's text that is read: an area of this length is never too short for a plan's text.
 pub const MAX_TEXT: usize = 65_536;

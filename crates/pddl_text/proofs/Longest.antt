@@ -1,5 +1,5 @@
 -- No domain and no problem of an accepted task is longer than 262,144 bytes: a row adds at most 19, ` (when (and) (and))`,
--- and an action's line 77 more.
+-- and an action's line 80 more.
 use mathlib.Core.Path.{_≡_, refl, sym, ap, _∙_}
 use mathlib.Core.Bool.{Bool, true, false, cond}
 use mathlib.Core.List.{List, [], _∷_, _++_, map}
@@ -96,7 +96,7 @@ module _ (F : ℕ) (few : F ≤ 128) where
 
   -- Actions
 
-  short-line : (k : ℕ) → k < 128 → (a : Action) → T (actionBelow F a) → T (actionSpellable a) → length (actionLine k a) ≤ 77 + 19 * length (actionRows a)
+  short-line : (k : ℕ) → k < 128 → (a : Action) → T (actionBelow F a) → T (actionSpellable a) → length (actionLine k a) ≤ 80 + 19 * length (actionRows a)
   short-line k h a t s =
       let effects : List ℕ = spaced effectText (a .effects) in
       let cost : List ℕ = ascii " :effect (and (increase (total-cost) " ++ (decimal (a .cost) ++ (ascii ")" ++ (effects ++ ascii "))\n"))) in
@@ -108,13 +108,13 @@ module _ (F : ℕ) (few : F ≤ 128) where
         length-append effects (ascii "))\n"),
         length-append (conditionRows (a .precondition)) (concatMap effectRows (a .effects)),
         few-digits 2 k (omega arith),
-        few-digits 6 (a .cost) (omega (arith, leb→le (a .cost) MAX-AMOUNT (search tests))),
+        few-digits 9 (a .cost) (omega (arith, leb→le (a .cost) MAX-AMOUNT (search tests))),
         short-condition (a .precondition) (search tests),
         by-rows (effectBelow F) effectText effectRows short-effect (a .effects) (search tests),
       )
 
   short-lines : (k : ℕ) (l : List Action) → k + length l ≤ 128 → T (all (actionBelow F) l) → T (all actionSpellable l)
-      → length (concatFrom actionLine k l) ≤ 77 * length l + 19 * length (concatMap actionRows l)
+      → length (concatFrom actionLine k l) ≤ 80 * length l + 19 * length (concatMap actionRows l)
   short-lines k [] h t s = omega arith
   short-lines k (a ∷ l) h t s =
       omega (

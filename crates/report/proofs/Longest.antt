@@ -1,26 +1,26 @@
--- No text is longer than 2,048 bytes: a number in it has at most 10 digits, and there are at most 16 preferences.
+-- No text is longer than 2,048 bytes: a number in it has at most 13 digits, and there are at most 16 preferences.
 use mathlib.Core.Path.{_≡_, refl, ap}
 use mathlib.Core.Bool.{Bool, true, false, cond}
-use mathlib.Core.List.{List, [], _∷_, _++_, map}
+use mathlib.Core.List.{List, [], _∷_, _++_}
 use Prim.Native.Nat.{ℕ, zero, suc, _+_, _*_, _-_, _^_, _≤_, _<_}
 use native.Mathlib.Omega.{arith}
-use lib.Dec.{T, leb, leb→le, ltb, eqb→eq}
+use lib.Dec.{T, leb, ltb}
 use lib.IntN.{pos, negsuc, _-ℤ_}
 use lib.ListN.{length, length-append}
 use borrow.Author.Tests.{le-leb, leb-true}
-use Rattle.lists.specs.Lists.{all, firstFailing, sum, concatFrom}
+use Rattle.lists.specs.Lists.{all, firstFailing, concatFrom}
 use Rattle.meaning.specs.Task.{Kind, always, sometime, at-end, at-most-once, sometime-before, sometime-after, within, always-within, Preference, Task}
 use Rattle.task.specs.File.{Sizes, taskOf}
 use Rattle.task.specs.Check
 use Rattle.task.specs.Check.{Answer, accepted, check}
-use Rattle.task.specs.Spelling.{weightAllowed, preferenceSpellable, spellable}
-use Rattle.meaning.specs.Meaning.{State, opening, after, actionAt, applies, runs, final, isTrue, isMet, isKept, keepsRules, cost, metWeight, missedWeight, metric, utility}
+use Rattle.task.specs.Spelling.{preferenceSpellable, spellable}
+use Rattle.meaning.specs.Meaning.{State, opening, after, actionAt, applies, runs, final, isTrue, isKept, keepsRules, cost, metWeight, metric, utility}
 use Rattle.meaning.specs.Verdict.{Verdict, solved, stepsApplied, metSet, missedRule, verdictBy, verdict}
 use Rattle.lists.proofs.Tests.{tests}
 use Rattle.task.proofs.Checking.{within as sizes-within}
 use Rattle.task.proofs.Spelled.{accepted-spelling}
 use Rattle.plan.specs.Judged.{given, refused, stepsKnown, judgedBy, judged}
-use Rattle.plan.proofs.ThenSettled.{cost-bound}
+use Rattle.plan.proofs.Greatest.{weight-bound, Greatest, greatest}
 use Rattle.text.specs.Ascii.{ascii}
 use Rattle.text.specs.Text.{decimal, integer}
 use Rattle.text.proofs.Decimal.{few-digits}
@@ -49,21 +49,25 @@ short-outcome : (b : Bool) → length (outcomeWord b) ≤ 6
 short-outcome true = omega arith
 short-outcome false = omega arith
 
-ten-digits : (n : ℕ) → n < 10000000000 → length (decimal n) ≤ 10
-ten-digits n h = few-digits 9 n h
+-- beyond every number of a report: the greatest is a metric, below 2,048 + 16 times 2 ^ 32
+abbrev BEYOND : ℕ
+BEYOND = 10 ^ 13
+
+short-number : (n : ℕ) → n < BEYOND → length (decimal n) ≤ 13
+short-number n h = few-digits 12 n h
 
 -- a difference has a minus sign or not
-short-difference : (m c : ℕ) → m < 10000000000 → c < 10000000000 → length (integer (pos m -ℤ pos c)) ≤ 11
-short-difference m zero h k = let d : length (decimal (m + 0)) ≤ 10 = ten-digits (m + 0) (omega arith) in omega (arith, d)
+short-difference : (m c : ℕ) → m < BEYOND → c < BEYOND → length (integer (pos m -ℤ pos c)) ≤ 14
+short-difference m zero h k = let d : length (decimal (m + 0)) ≤ 13 = short-number (m + 0) (omega arith) in omega (arith, d)
 short-difference m (suc c) h k = go (ltb m (suc c))
   where
-    go : (b : Bool) → length (integer (cond b (negsuc (suc c - suc m)) (pos (m - suc c)))) ≤ 11
-    go true = omega (arith, ten-digits (suc (suc c - suc m)) (omega arith))
-    go false = omega (arith, ten-digits (m - suc c) (omega arith))
+    go : (b : Bool) → length (integer (cond b (negsuc (suc c - suc m)) (pos (m - suc c)))) ≤ 14
+    go true = omega (arith, short-number (suc (suc c - suc m)) (omega arith))
+    go false = omega (arith, short-number (m - suc c) (omega arith))
 
 -- Lines
 
-short-solved : (n c : ℕ) → n < 10000000000 → c < 10000000000 → length (solvedLine n c) ≤ 40
+short-solved : (n c : ℕ) → n < BEYOND → c < BEYOND → length (solvedLine n c) ≤ 46
 unfolding solvedLine
 short-solved n c h k =
     omega (
@@ -72,21 +76,21 @@ short-solved n c h k =
       length-append (ascii "solved steps " ++ decimal n ++ ascii " cost ") (decimal c),
       length-append (ascii "solved steps " ++ decimal n) (ascii " cost "),
       length-append (ascii "solved steps ") (decimal n),
-      ten-digits n h,
-      ten-digits c k,
+      short-number n h,
+      short-number c k,
     )
 
-short-stopped : (n : ℕ) → n < 10000000000 → length (stoppedLine n) ≤ 19
+short-stopped : (n : ℕ) → n < BEYOND → length (stoppedLine n) ≤ 22
 unfolding stoppedLine
-short-stopped n h = omega (arith, length-append (ascii "stopped " ++ decimal n) (ascii "\n"), length-append (ascii "stopped ") (decimal n), ten-digits n h)
+short-stopped n h = omega (arith, length-append (ascii "stopped " ++ decimal n) (ascii "\n"), length-append (ascii "stopped ") (decimal n), short-number n h)
 
-short-rule : (n : ℕ) → n < 10000000000 → length (ruleMissedLine n) ≤ 23
+short-rule : (n : ℕ) → n < BEYOND → length (ruleMissedLine n) ≤ 26
 unfolding ruleMissedLine
 short-rule n h =
-    omega (arith, length-append (ascii "rule missed " ++ decimal n) (ascii "\n"), length-append (ascii "rule missed ") (decimal n), ten-digits n h)
+    omega (arith, length-append (ascii "rule missed " ++ decimal n) (ascii "\n"), length-append (ascii "rule missed ") (decimal n), short-number n h)
 
-short-preference : (k w : ℕ) (hard : Bool) (kind : Kind) (b : Bool) → k < 10000000000 → w < 10000000000
-    → length (preferenceLine k hard kind w b) ≤ 50
+short-preference : (k w : ℕ) (hard : Bool) (kind : Kind) (b : Bool) → k < BEYOND → w < BEYOND
+    → length (preferenceLine k hard kind w b) ≤ 56
 unfolding preferenceLine
 short-preference k w hard kind b h l =
     let first : List ℕ = decimal k ++ ascii " " ++ fullKind hard kind in
@@ -100,13 +104,13 @@ short-preference k w hard kind b h l =
       length-append first (ascii " "),
       length-append (decimal k ++ ascii " ") (fullKind hard kind),
       length-append (decimal k) (ascii " "),
-      ten-digits k h,
-      ten-digits w l,
+      short-number k h,
+      short-number w l,
       short-full-kind hard kind,
       short-outcome b,
     )
 
-short-amounts : (m g c : ℕ) → m < 10000000000 → g < 10000000000 → c < 10000000000 → length (amountsLine m (pos g -ℤ pos c)) ≤ 38
+short-amounts : (m g c : ℕ) → m < BEYOND → g < BEYOND → c < BEYOND → length (amountsLine m (pos g -ℤ pos c)) ≤ 44
 unfolding amountsLine
 short-amounts m g c h k l =
     let metric-part : List ℕ = ascii "metric " ++ decimal m ++ ascii " utility " in
@@ -116,21 +120,17 @@ short-amounts m g c h k l =
       length-append metric-part (integer (pos g -ℤ pos c)),
       length-append (ascii "metric " ++ decimal m) (ascii " utility "),
       length-append (ascii "metric ") (decimal m),
-      ten-digits m h,
+      short-number m h,
       short-difference g c k l,
     )
 
 -- The preferences, each of a weight that is allowed
 
-small-weight : (hard : Bool) (w : ℕ) → T (weightAllowed hard w) → w ≤ MAX-AMOUNT
-small-weight true w t = let e : w ≡ 0 = eqb→eq w 0 t in omega arith
-small-weight false w t = leb→le w MAX-AMOUNT t
-
 short-lines : (met : ℕ → Bool) (k : ℕ) (qs : List Preference) → k + length qs ≤ 16 → T (all preferenceSpellable qs)
-    → length (concatFrom (λ (k : ℕ) (q : Preference). preferenceLine k (q .hard) (q .kind) (q .weight) (met k)) k qs) ≤ 50 * length qs
+    → length (concatFrom (λ (k : ℕ) (q : Preference). preferenceLine k (q .hard) (q .kind) (q .weight) (met k)) k qs) ≤ 56 * length qs
 short-lines met k [] h t = omega arith
 short-lines met k (q ∷ qs) h t =
-    let w : q .weight ≤ MAX-AMOUNT = small-weight (q .hard) (q .weight) (search tests) in
+    let w : q .weight ≤ MAX-AMOUNT = weight-bound (q .hard) (q .weight) (search tests) in
     omega (
       arith,
       length-append (preferenceLine k (q .hard) (q .kind) (q .weight) (met k))
@@ -138,18 +138,6 @@ short-lines met k (q ∷ qs) h t =
       short-preference k (q .weight) (q .hard) (q .kind) (met k) (omega arith) (omega (arith, w)),
       short-lines met (k + 1) qs (omega arith) (search tests),
     )
-
--- the weights of some of them
-weights : (part : Preference → ℕ) → ((q : Preference) → part q ≤ q .weight) → (qs : List Preference) → T (all preferenceSpellable qs)
-    → sum (map part qs) ≤ MAX-AMOUNT * length qs
-weights part least [] t = omega arith
-weights part least (q ∷ qs) t =
-    let w : q .weight ≤ MAX-AMOUNT = small-weight (q .hard) (q .weight) (search tests) in
-    omega (arith, least q, w, weights part least qs (search tests))
-
-some-or-none : (b : Bool) (w : ℕ) → (cond b w 0 ≤ w) × (cond b 0 w ≤ w)
-some-or-none true w = (omega arith, omega arith)
-some-or-none false w = (omega arith, omega arith)
 
 few-applied : (t : Task) (s : State) (p : List ℕ) → stepsApplied t s p ≤ length p
 few-applied t s [] = omega arith
@@ -171,16 +159,8 @@ few-kept ok (x ∷ xs) = go (ok x) (few-kept ok xs)
 -- The text of a verdict
 
 module _ (t : Task) (spelling : T (spellable t)) (few : length (t .preferences) ≤ 16) (p : List ℕ) (short : length p ≤ 2048) where
-  gained : metWeight t p ≤ MAX-AMOUNT * length (t .preferences)
-  gained =
-      weights (λ (q : Preference). cond (isMet t p q) (q .weight) 0) (λ q. some-or-none (isMet t p q) (q .weight) .0) (t .preferences) (search tests)
-
-  lost : missedWeight t p ≤ MAX-AMOUNT * length (t .preferences)
-  lost =
-      weights (λ (q : Preference). cond (isMet t p q) 0 (q .weight)) (λ q. some-or-none (isMet t p q) (q .weight) .1) (t .preferences) (search tests)
-
-  spent : cost t p ≤ 1000000 * length p
-  spent = cost-bound t spelling p
+  amounts : Greatest t p
+  amounts = greatest t spelling few p short
 
   short-solution : length (verdictText (preferenceLines t) (length p) (solved (cost t p) (metric t p) (utility t p) (metSet t p))) ≤ 2048
   short-solution =
@@ -191,9 +171,9 @@ module _ (t : Task) (spelling : T (spellable t)) (few : length (t .preferences) 
         few,
         length-append (first ++ lines) (amountsLine (metric t p) (utility t p)),
         length-append first lines,
-        short-solved (length p) (cost t p) (omega (arith, short)) (omega (arith, short, spent)),
+        short-solved (length p) (cost t p) (omega (arith, short)) (omega (arith, amounts .spent)),
         short-lines (metSet t p) 0 (t .preferences) (omega (arith, few)) (search tests),
-        short-amounts (metric t p) (metWeight t p) (cost t p) (omega (arith, short, few, spent, lost)) (omega (arith, few, gained)) (omega (arith, short, spent)),
+        short-amounts (metric t p) (metWeight t p) (cost t p) (omega (arith, amounts .paid)) (omega (arith, amounts .gained)) (omega (arith, amounts .spent)),
       )
 
   short-verdict : length (verdictText (preferenceLines t) (length p) (verdict t p)) ≤ 2048
