@@ -39,10 +39,10 @@ examples =
     ∷ example (ofWalk (walked belt [])) 0 (0 ∷ 3 ∷ 0 ∷ 0 ∷ 0 ∷ 3 ∷ 0 ∷ 0 ∷ [])
     ∷ example (ofWalk (walked belt (0 ∷ 2 ∷ []))) 11 (1 ∷ 0 ∷ 0 ∷ 0 ∷ 0 ∷ 0 ∷ 0 ∷ 0 ∷ [])
     -- the largest cost, and one more; a preference that is not there
-    ∷ example (ofSettle (settled belt 2048000000 (bit 3))) 0 (0 ∷ 2048000000 ∷ (2 ^ 64 - 2047999988) ∷ 0 ∷ 0 ∷ 0 ∷ 0 ∷ 0 ∷ [])
-    ∷ example (ofSettle (settled belt 2048000001 (bit 0))) 15 (0 ∷ 0 ∷ 0 ∷ 0 ∷ 0 ∷ 0 ∷ 0 ∷ 0 ∷ [])
+    ∷ example (ofSettle (settled belt 8796093020160 (bit 3))) 0 (0 ∷ 8796093020160 ∷ (2 ^ 64 - 8796093020148) ∷ 0 ∷ 0 ∷ 0 ∷ 0 ∷ 0 ∷ [])
+    ∷ example (ofSettle (settled belt 8796093020161 (bit 0))) 15 (0 ∷ 0 ∷ 0 ∷ 0 ∷ 0 ∷ 0 ∷ 0 ∷ 0 ∷ [])
     ∷ example (ofSettle (settled belt 0 (bit 4))) 15 (0 ∷ 0 ∷ 0 ∷ 0 ∷ 0 ∷ 0 ∷ 0 ∷ 0 ∷ [])
-    ∷ example (ofSettle (settled [] 2048000001 (bit 0))) 1 (0 ∷ 0 ∷ 0 ∷ 0 ∷ 0 ∷ 0 ∷ 0 ∷ 0 ∷ [])
+    ∷ example (ofSettle (settled [] 8796093020161 (bit 0))) 1 (0 ∷ 0 ∷ 0 ∷ 0 ∷ 0 ∷ 0 ∷ 0 ∷ 0 ∷ [])
     ∷ []
 
 pub as-said : map (λ (e : Example). e .given) examples ≡ map (λ (e : Example). call (e .number) (e .words)) examples
