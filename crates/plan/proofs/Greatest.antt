@@ -1,14 +1,15 @@
 -- The greatest amounts of a plan on an accepted task: every one is far below 2 ^ 63.
-use mathlib.Core.Path.{_≡_, ap}
+use mathlib.Core.Path.{_≡_, refl, ap}
 use mathlib.Core.Bool.{Bool, true, false, cond}
 use mathlib.Core.List.{List, [], _∷_, map}
 use Prim.Native.Nat.{ℕ, _+_, _*_, _≤_}
 use native.Mathlib.Omega.{arith}
 use lib.Dec.{T, leb→le, eqb→eq}
+use lib.IntN.{pos, _-ℤ_}
 use lib.ListN.{length}
-use Rattle.lists.specs.Lists.{all, sum}
-use Rattle.meaning.specs.Task.{Preference, Task}
-use Rattle.meaning.specs.Meaning.{isMet, cost, metWeight, missedWeight, metric}
+use Rattle.lists.specs.Lists.{all, range, singleton, sum}
+use Rattle.meaning.specs.Task.{always, Preference, Task}
+use Rattle.meaning.specs.Meaning.{isMet, cost, metWeight, missedWeight, metric, utility, solves}
 use Rattle.task.specs.File.{Sizes, taskOf}
 use Rattle.task.specs.Check.{accepted, check}
 use Rattle.task.specs.Spelling.{weightAllowed, preferenceSpellable, spellable}
@@ -62,3 +63,28 @@ of-accepted b z h p short =
     let s = accepted-spelling b z h in
     let few : length (taskOf b .preferences) ≤ MAX-PREFERENCES = omega (arith, within z (s .allowed), ap (λ (y : Sizes). y .preferences) (s .sized)) in
     greatest (taskOf b) (s .spelling) few p short
+
+-- They are reached, and with them the least utility, by 2,048 steps of an action and 16 missed preferences of the greatest amount
+
+abbrev dearest : Task
+dearest =
+    record {
+      facts = 1;
+      start = [];
+      goal = [];
+      actions = singleton (record { cost = MAX-AMOUNT; precondition = []; effects = [] });
+      preferences = map (λ (k : ℕ). record {
+        kind = always;
+        hard = false;
+        weight = MAX-AMOUNT;
+        first = singleton (singleton (record { holds = true; fact = 0 }));
+        second = [];
+      }) (range 0 MAX-PREFERENCES);
+    }
+
+abbrev longest : List ℕ
+longest = map (λ (k : ℕ). 0) (range 0 MAX-STEPS)
+
+pub reached : (solves dearest longest ≡ true) × (cost dearest longest ≡ MAX-COST) × (metric dearest longest ≡ MAX-COST + MAX-WEIGHTS)
+    × (utility dearest longest ≡ pos 0 -ℤ pos MAX-COST)
+reached = (refl, refl, refl, refl)
