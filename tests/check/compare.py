@@ -14,7 +14,7 @@ import tempfile
 sys.path.insert(0, os.path.dirname(os.path.dirname(os.path.abspath(__file__))))
 from shared import files
 from shared.account import check
-from shared.files import PREFERENCES, TRIED, file, spelled
+from shared.files import MOST, PREFERENCES, TRIED, file, spelled
 from shared.stored import record
 
 ANSWERS = ['accepted', *(f'refused {number}' for number in range(1, 7))]
@@ -29,6 +29,10 @@ def some(r, most):
     return r.randint(0, most if r.random() < 0.02 else min(3, most))
 
 
+def amount(r):
+    return r.choice([r.randint(0, 99), r.randint(0, MOST), r.choice([1000000, 1000001, MOST])])
+
+
 def facts(r, f, *names):
     return ''.join(f' {r.choice(names)} {r.randrange(f)}' for _ in range(some(r, 40)))
 
@@ -39,11 +43,11 @@ def condition(r, f):
 
 def action(r, f):
     effects = (' EFFECT' + condition(r, f) + facts(r, f, 'ADD') + facts(r, f, 'DELETE') for _ in range(some(r, 40)))
-    return f' ACTION {r.randint(0, 1000000)}' + condition(r, f) + ''.join(effects)
+    return f' ACTION {amount(r)}' + condition(r, f) + ''.join(effects)
 
 
 def preference(r, f):
-    return files.preference(r.choice(PREFERENCES), r.randint(0, 1000000), condition(r, f), condition(r, f), r.randint(0, 15))
+    return files.preference(r.choice(PREFERENCES), amount(r), condition(r, f), condition(r, f), r.randint(0, 15))
 
 
 def good_rows(r, f):
@@ -62,7 +66,7 @@ def damage_rows(r, rows):
     if how == 'mark':
         rows[i] = r.choice(TRIED), value
     elif how == 'value':
-        rows[i] = mark, r.choice([0, 1, value + 1, 15, 16, 127, 128, 255, 256, 1000000, 1000001, 2 ** 24, 2 ** 32 - 1])
+        rows[i] = mark, r.choice([0, 1, value + 1, 15, 16, 127, 128, 255, 256, 1000000, 1000001, 2 ** 24, MOST]) % 2 ** 32
     elif how == 'swap':
         rows[i], rows[j] = rows[j], rows[i]
     elif how == 'repeat':

@@ -1,5 +1,5 @@
 #!/usr/bin/env python3
-"""The test vectors of check: files, and the lines that document 01 and requests 6 and 8 of document 02 want for them.
+"""The test vectors of check: files, and the lines that document 01 and requests 6, 8 and 9 of document 02 want for them.
 
 tests/check/vectors.py           writes crates/check_vectors/data/vectors and crates/check_vectors/stdout
 tests/check/vectors.py --check   writes nothing, and fails where these two files are not what it makes
@@ -14,7 +14,7 @@ import sys
 sys.path.insert(0, os.path.dirname(os.path.dirname(os.path.abspath(__file__))))
 from shared import stored
 from shared.account import check
-from shared.files import BELT, HARD, NAME, OF_FACTS, PREFERENCES, SOFT, TRIED, WITH_SECOND, WITH_STEPS, file, goal, preference, spelled
+from shared.files import BELT, HARD, MOST, NAME, OF_FACTS, PREFERENCES, SOFT, TRIED, WITH_SECOND, WITH_STEPS, file, goal, preference, spelled
 
 
 # ---- the vectors: what each is for, how its line begins where that is written down here too, and the file
@@ -41,7 +41,8 @@ def accepted_tasks():
             ('deadlines, φ empty', 'GOAL always-within STEPS 1 SECOND CLAUSE HOLDS 1'),
             ('deadlines, ψ empty', 'GOAL always-within STEPS 2 CLAUSE HOLDS 1 SECOND'),
             ('deadlines among the other kinds', 'GOAL always within STEPS 3 at-end always-within STEPS 4 SECOND sometime-after SECOND'),
-            ('16 deadlines', 'GOAL' + 8 * ' within 1000000 STEPS 15 always-within 1000000 STEPS 15 SECOND'),
+            ('16 deadlines', 'GOAL' + 8 * f' within {MOST} STEPS 15 always-within {MOST} STEPS 15 SECOND'),
+            ('the greatest amount in every place', 'GOAL' + f' ACTION {MOST}' * 3 + ''.join(preference(kind, MOST) for kind in PREFERENCES)),
             ('hard rules, empty conditions', 'GOAL' + ''.join(preference(kind, 0) for kind in HARD)),
             ('hard rules between soft ones', 'GOAL always 9 hard-always sometime 9 hard-within STEPS 3 within 9 STEPS 3 hard-at-end at-end 9'),
             ('a soft rule and the same one hard', f'GOAL sometime-before 1 {LONG} SECOND {LONG} hard-sometime-before {LONG} SECOND {LONG}'),
@@ -74,14 +75,14 @@ def lengths_and_sizes():
     yield '12,000 rows, one byte long', 'refused 3 0', file(goal(12000)) + b'\0'
     for n in [0, 2, 4, 256, 259, 12000]:
         yield f'3 rows, and N is {n}', 'refused 3 0', file(goal(3), N=n)
-    yield '3 before 4, 5 and 6', 'refused 3 0', file('ACTION 1000001', A=2) + b'\0'
+    yield '3 before 4, 5 and 6', 'refused 3 0', file('CLAUSE 1', A=2) + b'\0'
 
 
 def values():
     for name in ['ACTION', *SOFT]:
-        for value in [0, 65536, 1000000, 1000001, 2 ** 24, 2 ** 32 - 1]:
+        for value in [0, 65536, 1000000, 1000001, 2 ** 24, 2 ** 31 - 1, 2 ** 31, MOST - 1, MOST]:
             text = f'GOAL {name} {value}' if name == 'ACTION' else 'GOAL' + preference(name, value)
-            yield f'{name} {value}', 'accepted' if value <= 1000000 else 'refused 5 1', file(text)
+            yield f'{name} {value}', 'accepted', file(text)
     for name in HARD:
         for value in [0, 1, 2, 255, 256, 65536, 1000000, 1000001, 2 ** 24, 2 ** 31, 2 ** 32 - 1]:
             text = 'GOAL' + preference(name, 0).replace(name, f'{name} {value}')
@@ -112,7 +113,12 @@ def values():
 def limit(mark):
     """The greatest value that a mark allows, F being 4."""
     name = NAME.get(mark)
-    return 1000000 if name in ['ACTION', *SOFT] else 3 if name in ['START', *OF_FACTS] else 15 if name == 'STEPS' else 0
+    return MOST if name in ['ACTION', *SOFT] else 3 if name in ['START', *OF_FACTS] else 15 if name == 'STEPS' else 0
+
+
+def over(mark):
+    """The value after that; of costs and weights, which may be any number of 32 bits, the greatest again."""
+    return min(limit(mark) + 1, 2 ** 32 - 1)
 
 
 def with_condition(owner):
@@ -121,28 +127,30 @@ def with_condition(owner):
 
 def contexts():
     """Every context without a deadline against every mark, with a value that the mark allows and with one that it does not. After a
-    hard rule the contexts are those of its kind."""
+    hard rule the contexts are those of its kind. A cost and a weight have no value that is not allowed."""
     without = [kind for kind in SOFT if kind not in WITH_STEPS]
     owners = ['GOAL', 'GOAL ACTION 5', 'GOAL ACTION 5 EFFECT', *(f'GOAL {kind} 5' for kind in without),
               *(f'GOAL {kind} 5 SECOND' for kind in without if kind in WITH_SECOND)]
     conditions = [before for owner in owners for before in with_condition(owner)]
     for before in ['', 'START 0', *conditions, 'GOAL ACTION 5 EFFECT ADD 1', 'GOAL ACTION 5 EFFECT DELETE 1']:
         for mark in TRIED:
-            for value in [limit(mark), limit(mark) + 1]:
+            for value in sorted({limit(mark), over(mark)}):
                 yield f'{before}, then mark {mark} with {value}', '', file(f'{before} #{mark} {value}')
 
 
-def too_great(contexts):
+def at_the_limit(contexts):
+    """Contexts against every mark, with a value that it does not allow, if there is one: 5 says that it may come; a cost or a weight that may
+    come is not refused in its row."""
     for before in contexts:
         for mark in TRIED:
-            yield f'{before}, then mark {mark}, too great', '', file(f'{before} #{mark} {limit(mark) + 1}')
+            yield f'{before}, then mark {mark} with {over(mark)}', '', file(f'{before} #{mark} {over(mark)}')
 
 
 def contexts_of_deadlines():
-    """Their contexts against every mark, with a value that it does not allow: 5 says that it may come. Then rows out of order."""
+    """Their contexts against every mark, then rows out of order."""
     owners = ['GOAL within 5 STEPS 15', 'GOAL always-within 5 STEPS 15', 'GOAL always-within 5 STEPS 15 SECOND']
     conditions = [before for owner in owners for before in with_condition(owner)]
-    yield from too_great(['GOAL within 5', 'GOAL always-within 5', *conditions])
+    yield from at_the_limit(['GOAL within 5', 'GOAL always-within 5', *conditions])
     for text, row in [
             ('GOAL within CLAUSE HOLDS 0 STEPS 1', 2), ('GOAL within SECOND', 2), ('GOAL within STEPS 1 STEPS 1', 3),
             ('GOAL within STEPS 1 CLAUSE HOLDS 0 STEPS 1', 5), ('GOAL within STEPS 1 SECOND', 3),
@@ -155,12 +163,11 @@ def contexts_of_deadlines():
 
 
 def contexts_of_hard_rules():
-    """Their contexts against every mark, with a value that it does not allow: 5 says that it may come. Then marks that look like hard
-    ones, and hard rules out of order."""
+    """Their contexts against every mark, then marks that look like hard ones, and hard rules out of order."""
     opened = [f'GOAL {kind}' + (' STEPS 15' if kind in WITH_STEPS else '') for kind in HARD]
     owners = [*opened, *(f'{owner} SECOND' for owner in opened if owner.split()[1] in WITH_SECOND)]
     unopened = [f'GOAL {kind}' for kind in HARD if kind in WITH_STEPS]
-    yield from too_great([*unopened, *(before for owner in owners for before in with_condition(owner))])
+    yield from at_the_limit([*unopened, *(before for owner in owners for before in with_condition(owner))])
     for mark in [20, 21, 22, 23, 24, 25, 32, 35, 36, 42, 255]:
         for before in ['', 'START 0', 'GOAL', 'GOAL ACTION', 'GOAL always', 'GOAL hard-always', 'GOAL hard-sometime-before',
                        'GOAL hard-always-within STEPS 1 CLAUSE HOLDS 0', 'GOAL hard-within']:
@@ -174,7 +181,7 @@ def contexts_of_hard_rules():
             ('GOAL hard-always-within STEPS 1 hard-always', 3), ('GOAL hard-always-within STEPS 1 SECOND STEPS 1', 4),
             ('GOAL CLAUSE hard-always', 2), ('GOAL ACTION CLAUSE hard-always', 3), ('GOAL always CLAUSE hard-always', 3)]:
         yield text, f'refused 4 {row}', file(text)
-    for text, answer in [('GOAL hard-always 1 SECOND', 'refused 5 1'), ('GOAL hard-always 1000000', 'refused 5 1'),
+    for text, answer in [('GOAL hard-always 1 SECOND', 'refused 5 1'), (f'GOAL hard-always {MOST}', 'refused 5 1'),
                          ('GOAL #32 1', 'refused 4 1'), ('hard-always 1 GOAL', 'refused 4 0'), ('GOAL sometime-before hard-always 1', 'refused 4 2'),
                          ('GOAL hard-within STEPS 16', 'refused 5 2'), ('GOAL hard-always-within 1 STEPS 16', 'refused 5 1')]:
         yield f'{text}, 4 before 5 on one row, the first faulty row decides', answer, file(text)

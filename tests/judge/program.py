@@ -8,16 +8,16 @@ import os
 import sys
 
 sys.path.insert(0, os.path.dirname(os.path.dirname(os.path.abspath(__file__))))
-from shared.files import BELT, file, goal
+from shared.files import BELT, MOST, file, goal
 from shared.programs import FOLDER, faults, run
 
 belt = file(BELT, F=2)
 longest = file(goal(12000))
 four_lines = 'solved steps 1 cost 3\n0 always 5 missed\n1 sometime 7 met\nmetric 8 utility 4\n'
 
-LONGEST = ('solved steps 2048 cost 2048000000\n' + ''.join(f'{k} sometime-before 1000000 missed\n' for k in range(16))
-           + 'metric 2064000000 utility -2048000000\n')
-assert len(LONGEST) == 606
+LONGEST = ('solved steps 2048 cost 8796093020160\n' + ''.join(f'{k} sometime-before 4294967295 missed\n' for k in range(16))
+           + 'metric 8864812496880 utility -8796093020160\n')
+assert len(LONGEST) == 663
 
 # What each case is for, its files, and what the program has to write.
 CASES = [
@@ -41,7 +41,11 @@ CASES = [
     ('2,049 steps', dict(task=belt, plan=bytes(2049)), 'refused 10 0\n'),
     ('100,000 steps', dict(task=belt, plan=bytes(100000)), 'refused 10 0\n'),
     ('an unknown step after the 2,048th', dict(task=belt, plan=bytes(2048) + b'\7'), 'refused 10 0\n'),
-    ('the longest report', dict(task=file('GOAL ACTION 1000000' + ' sometime-before 1000000 SECOND' * 16), plan=bytes(2048)), LONGEST),
+    ('the longest report', dict(task=file(f'GOAL ACTION {MOST}' + f' sometime-before {MOST} SECOND' * 16), plan=bytes(2048)), LONGEST),
+    ('the greatest utility', dict(task=file('GOAL' + f' at-end {MOST}' * 16), plan=b''),
+     'solved steps 0 cost 0\n' + ''.join(f'{k} at-end 4294967295 met\n' for k in range(16)) + 'metric 0 utility 68719476720\n'),
+    ('amounts over 32 bits', dict(task=file(f'GOAL ACTION {MOST} ACTION 1 always {MOST} always 1 CLAUSE HOLDS 0'), plan=b'\0\1'),
+     'solved steps 2 cost 4294967296\n0 always 4294967295 met\n1 always 1 missed\nmetric 4294967297 utility -1\n'),
 ]
 
 # A read that fails is told, however much was read before; a read that gives less than was asked for is not the last.

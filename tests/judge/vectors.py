@@ -20,9 +20,9 @@ sys.path.insert(0, os.path.dirname(os.path.dirname(os.path.abspath(__file__))))
 from shared import stored
 from shared.account import refusal
 from shared.engine import text, walked
-from shared.files import BELT, DEADLINES, SOFT, file, preference
+from shared.files import BELT, DEADLINES, MOST, SOFT, file, preference
 from shared.stored import record
-from shared.tasks import MOST, PHI, PHI_PSI, PSI, effects, empty_conditions, facts_of_both_words, random_tasks, refused, several_rules
+from shared.tasks import PHI, PHI_PSI, PSI, effects, empty_conditions, facts_of_both_words, random_tasks, refused, several_rules
 from shared.tasks import stopped_and_missed, traced
 
 
@@ -119,14 +119,21 @@ def amounts():
     yield 'P 0', file('GOAL ACTION 4'), [0, 0], 'solved steps 2 cost 8|metric 8 utility -8'
     yield 'A 0', file(f'GOAL sometime 3 {PHI}'), [], 'solved steps 0 cost 0|0 sometime 3 missed|metric 3 utility 0'
     yield 'A 0 and P 0', file('GOAL'), [], 'solved steps 0 cost 0|metric 0 utility 0'
-    for what, weights in [('0', [0] * 16), ('1,000,000', [MOST] * 16), ('1 to 16', range(1, 17)), ('repeated', [3, 1, 4, 5] * 4)]:
+    for what, weights in [('0', [0] * 16), ('1,000,000', [1000000] * 16), ('1 to 16', range(1, 17)), ('repeated', [3, 1, 4, 5] * 4),
+                          ('the greatest', [MOST] * 16), ('powers of 4', [4 ** k for k in range(16)]), ('65,535 and 65,536', [65535, 65536] * 8)]:
         for outcome, words in [('all met', ['LACKS']), ('all missed', ['HOLDS']), ('every third met', ['LACKS', 'HOLDS', 'HOLDS'])]:
             sixteen = ''.join(f' {SOFT[k % 3]} {weight} CLAUSE {words[k % len(words)]} 0' for k, weight in enumerate(weights))
             yield f'P 16, weights {what}, {outcome}', file(f'GOAL ACTION 5 {sixteen}'), [0], 'solved steps 1 cost 5'
-    for cost, weight, utility in [(0, 0, 0), (0, MOST, MOST), (MOST, 0, -MOST), (MOST, MOST, 0), (3, 7, 4), (7, 3, -4)]:
+    for cost, weight, utility in [(0, 0, 0), (0, MOST, MOST), (MOST, 0, -MOST), (MOST, MOST, 0), (3, 7, 4), (7, 3, -4), (1000000, 1000001, 1),
+                                  (MOST - 1, MOST, 1), (MOST, MOST - 1, -1), (2 ** 31, 2 ** 31 - 1, -1), (2 ** 31 - 1, 2 ** 31, 1)]:
         for outcome, phi, sums in [('met', '', f'{cost} utility {utility}'), ('missed', PHI, f'{cost + weight} utility {-cost}')]:
             yield f'cost {cost}, weight {weight} {outcome}', file(f'GOAL ACTION {cost} always {weight} {phi}'), [0], (
                 f'solved steps 1 cost {cost}|0 always {weight} {outcome}|metric {sums}')
+    yield 'two steps over 32 bits', file(f'GOAL ACTION {MOST} ACTION 1'), [0, 1], (
+        'solved steps 2 cost 4294967296|metric 4294967296 utility -4294967296')
+    for phi, outcome, sums in [('', 'met', '4294967294 utility 4294967296'), (PHI, 'missed', '12884901884 utility -4294967294')]:
+        yield f'two weights over 32 bits, {outcome}', file('GOAL ACTION 2147483647' + f' always {MOST} {phi}' * 2), [0, 0], (
+            f'solved steps 2 cost 4294967294|0 always {MOST} {outcome}|1 always {MOST} {outcome}|metric {sums}')
     yield 'different costs', file('GOAL' + ''.join(f' ACTION {1 << a}' for a in range(8))), [7, 0, 3, 3, 5, 0], 'solved steps 6 cost 178'
     yield '128 actions', file('GOAL' + ''.join(f' ACTION {a}' for a in range(128))), [127, 0, 64, 127], 'solved steps 4 cost 318'
     yield '12,000 rows, the last makes the goal true', file('GOAL CLAUSE' + ' HOLDS 3' * 11997 + ' LACKS 3'), [], 'solved steps 0 cost 0'
@@ -134,11 +141,21 @@ def amounts():
 
 def long_plans():
     """φ comes in few states here, as meaning.lp goes through all i, j, k of an at-most-once preference."""
-    task = file('GOAL CLAUSE LACKS 0 ACTION 1000000 ACTION 1000000 EFFECT ADD 0 ACTION 1 CLAUSE LACKS 0', F=1)
-    yield '2,048 steps', task, [0] * 2048, 'solved steps 2048 cost 2048000000|metric 2048000000 utility -2048000000'
+    task = file(f'GOAL CLAUSE LACKS 0 ACTION {MOST} ACTION {MOST} EFFECT ADD 0 ACTION 1 CLAUSE LACKS 0', F=1)
+    yield '2,048 steps', task, [0] * 2048, 'solved steps 2048 cost 8796093020160|metric 8796093020160 utility -8796093020160'
+    yield '2,047 steps of the greatest cost, one of 1', task, [0] * 2047 + [2], (
+        'solved steps 2048 cost 8791798052866|metric 8791798052866 utility -8791798052866')
     yield '2,048 steps, goal missed', task, [0] * 2047 + [1], 'goal missed'
     yield '2,048 steps, stopped at the last', task, [0] * 2046 + [1, 2], 'stopped 2047'
-    yield '2,048 steps, 16 preferences missed', file('GOAL ACTION 1000000' + f' always 1000000 {PHI}' * 16, F=1), [0] * 2048, '|'.join([
+    for word, outcome, sums in [('HOLDS', 'missed', '8864812496880 utility -8796093020160'),
+                                ('LACKS', 'met', '8796093020160 utility -8727373543440')]:
+        sixteen = file(f'GOAL ACTION {MOST}' + f' always {MOST} CLAUSE {word} 0' * 16, F=1)
+        yield f'2,048 steps and 16 preferences {outcome}, the greatest amounts', sixteen, [0] * 2048, '|'.join([
+            'solved steps 2048 cost 8796093020160', *(f'{k} always {MOST} {outcome}' for k in range(16)), f'metric {sums}'])
+    yield 'no step, 16 preferences met, the greatest weights', file('GOAL' + f' always {MOST}' * 16), [], '|'.join([
+        'solved steps 0 cost 0', *(f'{k} always {MOST} met' for k in range(16)), 'metric 0 utility 68719476720'])
+    small = file('GOAL ACTION 1000000' + f' always 1000000 {PHI}' * 16, F=1)
+    yield '2,048 steps, 16 preferences missed', small, [0] * 2048, '|'.join([
         'solved steps 2048 cost 2048000000', *(f'{k} always 1000000 missed' for k in range(16)), 'metric 2064000000 utility -2048000000'])
     six = (f'always 1 CLAUSE LACKS 0 sometime 2 {PHI} at-end 4 {PHI} at-most-once 8 {PHI} sometime-before 16 {PHI_PSI} '
            f'sometime-after 32 {PHI_PSI}')

@@ -10,7 +10,7 @@ of 64 bits each.
 
 Each line is made twice, and both have to agree:
 - by the function `settle` below, over the account in shared/account.py;
-- of an accepted file, by the outside engine (shared/engine.py), by the rules of amounts.lp. It takes costs of up to 31 bits, so refusals
+- of an accepted file, by the outside engine (shared/engine.py), by the rules of amounts.lp. It takes costs of up to 47 bits, so refusals
   of greater ones are by `settle` alone.
 Where an answer stands beside a vector, it was written by hand, or it is the last line that program judge has to write about a plan of
 this cost that meets these preferences; it has to agree with the line.
@@ -24,11 +24,11 @@ sys.path.insert(0, os.path.dirname(os.path.dirname(os.path.abspath(__file__))))
 from shared import files, stored, tasks
 from shared.account import check
 from shared.chance import Chance
-from shared.engine import derived
-from shared.files import BELT, DEADLINES, HARD, SOFT, file, goal
+from shared.engine import derived, halves, whole
+from shared.files import BELT, DEADLINES, HARD, MOST as WEIGHT, SOFT, file, goal
 from shared.stored import record
 
-MOST, WEIGHT = 2048000000, 1000000  # the greatest cost that is settled, and the greatest weight
+MOST = 8796093020160  # the greatest cost that is settled: 2,048 steps of the greatest cost
 
 
 # ---- the lines
@@ -51,14 +51,14 @@ def settle(data, cost, met):
 
 def facts(t, data, cost, met):
     """An accepted task, a cost and met preferences as the facts that amounts.lp is given, t being the vector's number."""
-    yield f'cost({t},{cost}).'
-    yield from (f'weight({t},{k},{weight}).' for k, weight in enumerate(weights(data)))
+    yield f'cost({t},{halves(cost)}).'
+    yield from (f'weight({t},{k},{halves(weight)}).' for k, weight in enumerate(weights(data)))
     yield from (f'met({t},{k}).' for k in range(64) if met >> k & 1)
 
 
 def outside(made):
     """The lines by the outside engine, {vector: line}, of the vectors that it takes."""
-    given = [t for t, (_, data, cost, _, _) in enumerate(made) if cost < 2 ** 31 and check(data).startswith('accepted')]
+    given = [t for t, (_, data, cost, _, _) in enumerate(made) if cost < 2 ** 47 and check(data).startswith('accepted')]
     said = {t: {} for t in given}
     program = '\n'.join(fact for t in given for fact in facts(t, *made[t][1:4]))
     for predicate, t, *value in derived(program, 'settle/amounts.lp'):
@@ -68,13 +68,13 @@ def outside(made):
             yield t, 'refused 15 0'
         else:
             assert atoms.keys() == {'metric', 'utility'}, atoms
-            yield t, 'metric %d utility %d' % (*atoms['metric'], *atoms['utility'])
+            yield t, f"metric {whole(*atoms['metric'])} utility {whole(*atoms['utility'])}"
 
 
 # ---- the vectors: what each is for, the task file, the cost, the met preferences as bits, and the answer where it is written down here
 
 LONG = 'CLAUSE HOLDS 0 LACKS 3 CLAUSE LACKS 1'
-ACTIONS = f'ACTION 1000000 {LONG} EFFECT {LONG} ADD 1 DELETE 2 ACTION 9'  # their costs are no weights
+ACTIONS = f'ACTION {WEIGHT} {LONG} EFFECT {LONG} ADD 1 DELETE 2 ACTION 9'  # their costs are no weights
 
 
 def preference(kind, weight, condition=LONG):
@@ -92,7 +92,8 @@ def belt():
             (3, 0b10, 'metric 8 utility 4'), (3, 0b00, 'metric 15 utility -3'), (3, 0b01, 'metric 10 utility 2'),
             (3, 0b11, 'metric 3 utility 9'), (0, 0b00, 'metric 12 utility 0'), (0, 0b11, 'metric 0 utility 12'),
             (8, 0b10, 'metric 13 utility -1'), (7, 0b10, 'metric 12 utility 0'), (12, 0b11, 'metric 12 utility 0'),
-            (MOST, 0b01, 'metric 2048000007 utility -2047999995'), (3, 0b100, 'refused 15 0'), (3, 0b110, 'refused 15 0'),
+            (2048000000, 0b01, 'metric 2048000007 utility -2047999995'), (2048000001, 0b11, 'metric 2048000001 utility -2047999989'),
+            (MOST, 0b01, 'metric 8796093020167 utility -8796093020155'), (3, 0b100, 'refused 15 0'), (3, 0b110, 'refused 15 0'),
             (MOST + 1, 0b10, 'refused 15 0')]:
         yield f'the belt, cost {cost}, met {met:b}', file(BELT, F=2), cost, met, answer
 
@@ -145,11 +146,13 @@ def costs():
     """Costs on both sides of the limit and of each width, beside the greatest weights and beside none."""
     for what, data, met, lost, gained in [
             ('P 0', file('GOAL'), 0, 0, 0), ('P 1, weight 0', task([0]), 1, 0, 0),
-            ('P 16, none met', task([WEIGHT] * 16, ''), 0, 16000000, 0), ('P 16, all met', task([WEIGHT] * 16, ''), 2 ** 16 - 1, 0, 16000000)]:
-        for cost in [0, 1, 255, 256, 65535, 65536, 16000000, MOST - 1, MOST]:
+            ('P 16, none met', task([WEIGHT] * 16, ''), 0, 68719476720, 0),
+            ('P 16, all met', task([WEIGHT] * 16, ''), 2 ** 16 - 1, 0, 68719476720)]:
+        for cost in [0, 1, 255, 256, 65535, 65536, 16000000, 2048000000, 2048000001, 2 ** 31 - 1, 2 ** 31, 2 ** 32 - 1, 2 ** 32, 2 ** 32 + 3,
+                     2 ** 32 + 2048000000, 68719476720, 2 ** 40, 2 ** 42 + 2 ** 31, MOST - 65536, MOST - 1, MOST]:
             yield f'cost {cost}, {what}', data, cost, met, f'metric {cost + lost} utility {gained - cost}'
-        for cost in [MOST + 1, MOST + 2 ** 8, 2 ** 31 - 1, 2 ** 31, 2 ** 32 - 1, 2 ** 32, 2 ** 32 + 3, 2 ** 32 + MOST, 2 ** 40, 2 ** 48,
-                     2 ** 56, 2 ** 63 - 1, 2 ** 63, 2 ** 63 + 3, 2 ** 64 - 1]:
+        for cost in [MOST + 1, MOST + 2 ** 8, MOST + 2 ** 11, MOST + 2 ** 16, MOST + 2 ** 32, 2 ** 44, 2 ** 46 + 3, 2 ** 47 - 1, 2 ** 48, 2 ** 56,
+                     2 ** 63 - 1, 2 ** 63, 2 ** 63 + 3, 2 ** 64 - 1]:
             yield f'cost {cost}, {what}', data, cost, met, 'refused 15 0'
     yield 'cost and met preferences both too great', task([1]), MOST + 1, 2, 'refused 15 0'
 
@@ -162,10 +165,16 @@ def amounts():
             ([0, WEIGHT], 1, 0b10, f'metric 1 utility {WEIGHT - 1}'), ([7, 7], 0, 0b01, 'metric 7 utility 7'),
             ([7, 7], 0, 0b10, 'metric 7 utility 7'), ([7, 7, 7], 1, 0b101, 'metric 8 utility 13'),
             ([0] * 16, MOST, 2 ** 16 - 1, f'metric {MOST} utility -{MOST}'),
-            ([WEIGHT] * 16, MOST, 0, 'metric 2064000000 utility -2048000000'),
-            ([WEIGHT] * 16, MOST, 2 ** 15, 'metric 2063000000 utility -2047000000'),
-            ([WEIGHT] * 16, 16000000, 2 ** 16 - 1, 'metric 16000000 utility 0'), ([WEIGHT, 0] * 8, 0, 0x5555, 'metric 0 utility 8000000'),
-            ([WEIGHT, 0] * 8, 0, 0xAAAA, 'metric 8000000 utility 0'), ([65536] * 16, 65535, 1, f'metric {15 * 65536 + 65535} utility 1'),
+            ([1000000] * 16, 2048000000, 0, 'metric 2064000000 utility -2048000000'),
+            ([1000000] * 16, 2048000000, 2 ** 15, 'metric 2063000000 utility -2047000000'),
+            ([WEIGHT] * 16, MOST, 0, 'metric 8864812496880 utility -8796093020160'),
+            ([WEIGHT] * 16, MOST, 2 ** 15, 'metric 8860517529585 utility -8791798052865'),
+            ([WEIGHT] * 16, MOST, 2 ** 16 - 1, 'metric 8796093020160 utility -8727373543440'),
+            ([WEIGHT] * 16, 0, 2 ** 16 - 1, 'metric 0 utility 68719476720'), ([WEIGHT] * 16, 0, 0, 'metric 68719476720 utility 0'),
+            ([WEIGHT] * 16, 68719476720, 2 ** 16 - 1, 'metric 68719476720 utility 0'),
+            ([WEIGHT] * 2, WEIGHT, 0b01, 'metric 8589934590 utility 0'), ([WEIGHT, 1], 0, 0b11, 'metric 0 utility 4294967296'),
+            ([WEIGHT, 0] * 8, 0, 0x5555, 'metric 0 utility 34359738360'), ([WEIGHT, 0] * 8, 0, 0xAAAA, 'metric 34359738360 utility 0'),
+            ([65536] * 16, 65535, 1, f'metric {15 * 65536 + 65535} utility 1'),
             (range(1, 17), 100, 0x8001, 'metric 219 utility -83')]:
         yield f'weights {list(each)}, cost {cost}, met {met:b}', task(each), cost, met, answer
 
@@ -219,7 +228,7 @@ def refused():
             ('P 17', file('GOAL' + ' at-end' * 17), '2 0'), ('N 12,001', file('GOAL', N=12001), '2 0'), ('one byte short', good[:-1], '3 0'),
             ('one byte long', good + b'\0', '3 0'), ('N 0', file(''), '4 0'), ('an unknown mark', file('GOAL always 5 #20'), '4 2'),
             ('no SECOND', file('GOAL sometime-after 5'), '4 2'), ('no STEPS', file('GOAL within 5'), '4 2'),
-            ('STEPS 16', file('GOAL within 5 STEPS 16'), '5 2'), ('a weight too high', file('GOAL always 1000001'), '5 1'),
+            ('STEPS 16', file('GOAL within 5 STEPS 16'), '5 2'), ('a hard weight', file('GOAL hard-always 1'), '5 1'),
             ('a fact too high', file('GOAL always 5 CLAUSE HOLDS 4'), '5 3'), ('START not rising', file('START 1 START 1 GOAL'), '5 1'),
             ('a preference too few', file('GOAL always 5', P=2), '6 2'), ('a preference too many', file('GOAL always 5', P=0), '6 2'),
             ('an action too many', file('GOAL ACTION always 5', A=0), '6 3')]:
@@ -232,7 +241,7 @@ def random_amounts(count=120, seed=15):
     below = Chance(seed).below
     for number, (_, data, _, _) in enumerate(tasks.random_tasks(count, seed)):
         met = below(2 ** data[4]) | (0 if below(8) else 2 ** (data[4] + below(48)))
-        cost = [below(100), below(MOST), below(MOST), MOST - below(3), MOST + below(3), below(2 ** 40)][below(6)]
+        cost = [below(100), below(MOST), below(MOST), MOST - below(3), MOST + below(3), below(2 ** 45)][below(6)]
         yield f'random {number}', data, cost, met, ''
 
 

@@ -1,4 +1,4 @@
-"""Which files and plans are refused, and by what: document 01 and requests 6 and 8 of document 02, read sentence by sentence."""
+"""Which files and plans are refused, and by what: document 01 and requests 6, 8 and 9 of document 02, read sentence by sentence."""
 import struct
 
 from shared.files import NAME, OF_FACTS, PREFERENCES, SOFT, WITH_SECOND, WITH_STEPS
@@ -19,7 +19,7 @@ class Rows:
 
     def allows(self, name, value):
         if name == 'ACTION' or name in SOFT:
-            return value <= 1000000
+            return True  # any number of 32 bits
         if name == 'STEPS':
             return value <= 15
         if name == 'START':

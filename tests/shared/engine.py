@@ -1,4 +1,8 @@
-"""The outside engine: gringo and clasp (Debian packages of these names), over rules that stand beside the scripts."""
+"""The outside engine: gringo and clasp (Debian packages of these names), over rules that stand beside the scripts.
+
+Its integers have 32 bits with their sign. An amount is given to it in halves of 16 bits, halves(High,Low), and it sums the high halves
+and the low ones apart; `whole` makes one number of two such sums.
+"""
 import json
 import os
 import re
@@ -30,10 +34,22 @@ def derived(program, rules='judge/meaning.lp'):
     return map(said, found['Call'][0]['Witnesses'][0]['Value'])
 
 
+# ---- amounts
+
+def halves(amount):
+    return f'halves({amount >> 16},{amount & 65535})'
+
+
+def whole(high, low):
+    """The number with these halves, which may be sums, or differences of sums."""
+    return 65536 * high + low
+
+
 # ---- tasks and plans as facts
 
-def task_facts(data, t=''):
-    """An accepted task as facts for a logic program. t is what each has in front: nothing, or a vector's number and a comma."""
+def task_facts(data, t='', spell=halves):
+    """An accepted task as facts for a logic program. t is what each has in front: nothing, or a vector's number and a comma. Costs and
+    weights are spelled by a function."""
     a = e = k = c = -1  # the last action, effect, preference and clause; effects and clauses are numbered through the whole file
     condition = ''  # the one that clauses and literals belong to
     for name, value in rows(data):
@@ -43,8 +59,8 @@ def task_facts(data, t=''):
         if row in opened:
             condition = opened[row]
             yield f'condition({t}{condition}).'
-        rule = f'preference({t}{k},"{name.removeprefix("hard-")}",{value}).' + (f' hard({t}{k}).' if name in HARD else '')
-        says = {'START': f'start({t}{value}).', 'ACTION': f'action({t}{a},{value}).', 'preference': rule,
+        rule = f'preference({t}{k},"{name.removeprefix("hard-")}",{spell(value)}).' + (f' hard({t}{k}).' if name in HARD else '')
+        says = {'START': f'start({t}{value}).', 'ACTION': f'action({t}{a},{spell(value)}).', 'preference': rule,
                 'ADD': f'gives({t}{a},{e},holds,{value}).', 'DELETE': f'gives({t}{a},{e},lacks,{value}).', 'CLAUSE': f'clause({t}{condition},{c}).',
                 'HOLDS': f'literal({t}{condition},{c},holds,{value}).', 'LACKS': f'literal({t}{condition},{c},lacks,{value}).',
                 'STEPS': f'deadline({t}{k},{value}).'}
@@ -78,11 +94,17 @@ def verdict(atoms):
     return ' '.join([name.replace('_', ' '), *map(str, numbers)])
 
 
+def amount(atoms, name):
+    """A sum that was derived of a plan: its cost, metric or utility."""
+    sums, = atoms[name]
+    return whole(*sums)
+
+
 def text(atoms, data, plan):
     """What program judge has to write, by what was derived of a plan."""
     if verdict(atoms) != 'solved':
         return verdict(atoms) + '\n'
-    ((cost,),), ((metric,),), ((utility,),) = atoms['cost'], atoms['metric'], atoms['utility']
+    cost, metric, utility = (amount(atoms, name) for name in ('cost', 'metric', 'utility'))
     lines = [f'solved steps {len(plan)} cost {cost}']
     for k, (kind, weight) in enumerate(preferences(data)):
         outcome, = [word for word in ('met', 'missed') if [k] in atoms.get(word, [])]

@@ -13,6 +13,7 @@ DEADLINES = ['within', 'always-within']
 WITH_STEPS = [hard + kind for hard in ('', 'hard-') for kind in DEADLINES]
 WITH_SECOND = [hard + kind for hard in ('', 'hard-') for kind in ('sometime-before', 'sometime-after', 'always-within')]
 OF_FACTS = ['HOLDS', 'LACKS', 'ADD', 'DELETE']
+MOST = 2 ** 32 - 1  # the greatest cost, and the greatest weight of a soft rule
 TRIED = [*range(37), 48, 49, 50, 128 + 10, 128 + 26, 255]  # marks to try: all that there are, and others
 
 BELT = ('START 1  GOAL CLAUSE LACKS 1  ACTION 3 EFFECT ADD 0 DELETE 1  ACTION 1 EFFECT ADD 1 DELETE 0 '

@@ -6,15 +6,14 @@ has to write, with | between the lines, or its first line, or that line's first 
 import itertools
 
 from shared.chance import Chance
-from shared.files import HARD, SOFT, file, preference
+from shared.files import HARD, MOST, SOFT, file, preference
 
-MOST = 1000000
 PHI, PSI, PHI_PSI = 'CLAUSE HOLDS 0', 'CLAUSE HOLDS 1', 'CLAUSE HOLDS 0 SECOND CLAUSE HOLDS 1'
 SETTERS = 'ACTION 1 EFFECT DELETE 0 DELETE 1 ACTION 2 EFFECT ADD 0 DELETE 1 ACTION 3 EFFECT ADD 1 DELETE 0 ACTION 4 EFFECT ADD 0 ADD 1 '
 
 # The longest domain in PDDL has 128 actions of the largest cost and an EFFECT in each row that is left: it gives 19 bytes, more than any
 # row but an ACTION. The longest problem has a goal of one clause, and a literal in each row that is left, which gives 13.
-LONGEST_DOMAIN = file('GOAL' + ' ACTION 1000000' * 128 + ' EFFECT' * 11871, F=128)
+LONGEST_DOMAIN = file('GOAL' + f' ACTION {MOST}' * 128 + ' EFFECT' * 11871, F=128)
 LONGEST_PROBLEM = file('GOAL CLAUSE' + ' LACKS 127' * 11998, F=128)
 
 
@@ -114,7 +113,7 @@ def refused():
             ('N 0', file(''), '4 0'), ('an unknown mark', file('GOAL #20'), '4 1'), ('ends in a clause', file('GOAL ACTION CLAUSE'), '4 3'),
             ('no SECOND', file('GOAL sometime-after'), '4 2'), ('no STEPS', file('GOAL within'), '4 2'),
             ('STEPS 16', file('GOAL within STEPS 16'), '5 2'), ('a fact too high', file('GOAL CLAUSE HOLDS 4'), '5 2'),
-            ('START not rising', file('START 1 START 1 GOAL'), '5 1'), ('a weight too high', file('GOAL always 1000001'), '5 1'),
+            ('START not rising', file('START 1 START 1 GOAL'), '5 1'), ('a hard weight', file('GOAL hard-always 1'), '5 1'),
             ('an action too many', file('GOAL ACTION', A=0), '6 2'), ('a preference too few', file('GOAL', P=1), '6 1')]:
         for plan in [[], [255], [0] * 2049]:
             yield f'{what}, plan of {len(plan)}', data, plan, f'refused {answer}'
@@ -135,11 +134,11 @@ def random_tasks(count=200, seed=2009, kinds=SOFT):
         return ' EFFECT' + condition([0, 1, 1, 2], [1, 1, 2]) + some([0, 1, 1, 1, 2], fact('ADD')) + some([0, 1, 1, 2], fact('DELETE'))
 
     def action():
-        return f' ACTION {one_of([0, 1, 2, 5, 9, MOST])}' + condition([0, 0, 0, 1], [3]) + some([1, 2, 3, 4], effect)
+        return f' ACTION {one_of([0, 1, 2, 5, 9, 1000001, 2 ** 31, MOST - 7, MOST])}' + condition([0, 0, 0, 1], [3]) + some([1, 2, 3, 4], effect)
 
     def rule():
         phi, psi = (condition([0, 1, 1, 1, 1, 2], [1, 1, 2]) for _ in range(2))
-        return preference(one_of(kinds), one_of([0, 1, 4, 7, 30, MOST]), phi, psi, one_of([0, 1, 1, 2, 2, 3, 5, 15]))
+        return preference(one_of(kinds), one_of([0, 1, 4, 7, 30, 1000001, 2 ** 31, MOST - 6, MOST]), phi, psi, one_of([0, 1, 1, 2, 2, 3, 5, 15]))
 
     for number in range(count):
         used = one_of([[0, 1], [0, 1, 2], [0, 1, 2, 3], [0, 63, 64, 127]])
@@ -176,8 +175,8 @@ def several_rules():
             ('2,049 steps', f'GOAL ACTION hard-always {PHI}', [0] * 2049, 'refused 10 0'),
             ('2,048 steps, missed in the last state', 'GOAL ACTION ACTION EFFECT ADD 0 hard-always CLAUSE LACKS 0', [0] * 2047 + [1],
              'rule missed 0'),
-            ('2,048 steps, met', 'GOAL ACTION 1000000 hard-always CLAUSE LACKS 0', [0] * 2048,
-             'solved steps 2048 cost 2048000000|0 hard-always 0 met|metric 2048000000 utility -2048000000'),
+            ('2,048 steps, met', f'GOAL ACTION {MOST} hard-always CLAUSE LACKS 0', [0] * 2048,
+             'solved steps 2048 cost 8796093020160|0 hard-always 0 met|metric 8796093020160 utility -8796093020160'),
             ('a hard weight', f'GOAL hard-always 1 {PHI}', [], 'refused 5 1'), ('mark 32', 'GOAL #32', [], 'refused 4 1'),
             ('hard-within, no STEPS', 'GOAL hard-within', [], 'refused 4 2'), ('an empty hard rule', 'GOAL hard-at-end', [], 'met')]:
         yield what, file(task), plan, answer

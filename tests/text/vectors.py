@@ -23,7 +23,7 @@ sys.path.insert(0, os.path.dirname(os.path.dirname(os.path.abspath(__file__))))
 from shared import engine, stored
 from shared.account import check, refusal
 from shared.chance import Chance
-from shared.files import BELT, file
+from shared.files import BELT, MOST, file
 from shared.stored import record
 
 LINE = re.compile(rb';.*|\(a(0|[1-9][0-9]*)\)')  # a dot is every byte but a newline
@@ -218,6 +218,23 @@ def long_plans():
         yield what, belt, text, answer
 
 
+def amounts():
+    """Sums over 32 bits, up to the greatest: every step and each of sixteen weights is 4,294,967,295."""
+    two = file(f'GOAL ACTION {MOST} ACTION 1000001 at-end {MOST} CLAUSE LACKS 0 at-end {MOST} CLAUSE HOLDS 0')
+    for text, answer in [
+            (b'', 'read 0|solved cost 0 metric 4294967295 utility 4294967295'),
+            (b'(a1)\n', 'read 1|solved cost 1000001 metric 4295967296 utility 4293967294'),
+            (b'(a0)\n', 'read 1|solved cost 4294967295 metric 8589934590 utility 0'),
+            (b'(a0)\n(a1)\n', 'read 2|solved cost 4295967296 metric 8590934591 utility -1000001'),
+            (b'(a0)\n' * 3, 'read 3|solved cost 12884901885 metric 17179869180 utility -8589934590')]:
+        yield f'the greatest amounts, {text.count(b"a")} steps', two, text, answer
+    for word, outcome, sums in [('HOLDS', 'missed', '8864812496880 utility -8796093020160'),
+                                ('LACKS', 'met', '8796093020160 utility -8727373543440')]:
+        sixteen = file(f'GOAL ACTION {MOST}' + f' always {MOST} CLAUSE {word} 0' * 16)
+        yield f'2,048 steps and 16 preferences {outcome}, the greatest amounts', sixteen, b'(a0)\n' * 2048, (
+            f'read 2048|solved cost 8796093020160 metric {sums}')
+
+
 def refused_tasks():
     """1 to 6 come first; what reading answers has nothing to do with the task."""
     for what, data, answer in [
@@ -292,7 +309,7 @@ def random_texts(count=400, seed=64):
 def vectors():
     """What each vector is for, the task file, the text, and the lines."""
     families = [empty_and_comments, last_newline, numbers, faulty_lines, places, every_byte, long_texts, long_plans, refused_tasks,
-                verdicts, random_texts]
+                verdicts, random_texts, amounts]
     made = [(*vector, *read(vector[2])) for family in families for vector in family()]
     lasts = {t: last_refusal(data, plan, fault) for t, (_, data, _, _, plan, fault) in enumerate(made)}
     atoms = engine.walked({t: (made[t][1], made[t][4]) for t in lasts if not lasts[t]})

@@ -24,8 +24,8 @@ sys.path.insert(0, os.path.dirname(os.path.dirname(os.path.abspath(__file__))))
 from shared import stored, tasks
 from shared.account import refusal
 from shared.chance import Chance
-from shared.engine import verdict, walked
-from shared.files import BELT, HARD, PREFERENCES, SOFT, WITH_SECOND, WITH_STEPS, file, goal, preference, rows
+from shared.engine import amount, verdict, walked
+from shared.files import BELT, HARD, MOST, PREFERENCES, SOFT, WITH_SECOND, WITH_STEPS, file, goal, preference, rows
 from shared.stored import record
 from shared.tasks import traced
 
@@ -96,8 +96,8 @@ def line(atoms, data, plan):
         states[i].add(fact)
     words = verdict(atoms)
     if words == 'solved':
-        ((cost,),), met = atoms['cost'], sum(1 << k for k, in atoms.get('met', []))
-        words = f'solved cost {cost} met {met}'
+        met = sum(1 << k for k, in atoms.get('met', []))
+        words = f"solved cost {amount(atoms, 'cost')} met {met}"
     assert len(states) == 1 + (atoms['stopped'][0][0] if 'stopped' in atoms else len(plan))
     return f'{words} literals {looked_at(data, plan, [*map(frozenset, states)])}'
 
@@ -223,6 +223,25 @@ def most():
     yield '4,000 clauses, one read', clauses, [], 'goal missed literals 1'
 
 
+def costs():
+    """Costs of every width, up to the greatest in every step beside sixteen of the greatest weights."""
+    for cost in [1000000, 1000001, 2 ** 24, 2 ** 31 - 1, 2 ** 31, MOST - 1, MOST]:
+        task = file(f'GOAL ACTION {cost} ACTION 1 EFFECT CLAUSE HOLDS 0 ADD 1')
+        for plan in [[0], [0, 1], [0, 0], [0, 1, 0, 0, 1]]:
+            total = plan.count(0) * cost + plan.count(1)
+            yield f'cost {cost}, plan {plan}', task, plan, f'solved cost {total} met 0 literals {plan.count(1)}'
+    for word, met in [('LACKS', 65535), ('HOLDS', 0)]:
+        task = file(f'GOAL ACTION {MOST} ACTION 1' + f' always {MOST} CLAUSE {word} 0' * 16)
+        for plan, cost in [([0] * 2047, 8791798052865), ([0] * 2047 + [1], 8791798052866), ([1] + [0] * 2047, 8791798052866),
+                           ([0] * 2048, 8796093020160)]:
+            yield f'{len(plan)} steps, {plan.count(0)} of the greatest cost, met {met}', task, plan, (
+                f'solved cost {cost} met {met} literals {16 * (len(plan) + 1)}')
+    mixed = [1, 65535, 65536, 2 ** 16 + 1, 2 ** 31, MOST - 65536, MOST]
+    plan = [step % 7 for step in range(2047)]
+    task = file('GOAL' + ''.join(f' ACTION {cost}' for cost in mixed))
+    yield '2,047 steps of seven costs', task, plan, 'solved cost 3135364529884 met 0 literals 0'
+
+
 def of_judge():
     """Tasks and plans of program judge's vectors."""
     for family in [tasks.stopped_and_missed, tasks.facts_of_both_words, tasks.empty_conditions, tasks.effects, tasks.refused, tasks.random_tasks]:
@@ -245,10 +264,10 @@ def random_tasks(count=300, seed=1973, kinds=SOFT):
         return ' EFFECT' + condition([0, 1, 2, 4]) + some([0, 1, 2], fact('ADD')) + some([0, 1, 2], fact('DELETE'))
 
     def action():
-        return f' ACTION {one_of([0, 1, 7])}' + condition([0, 1, 2], (3, 4, 5)) + some([0, 1, 2, 3], effect)
+        return f' ACTION {one_of([0, 1, 7, MOST])}' + condition([0, 1, 2], (3, 4, 5)) + some([0, 1, 2, 3], effect)
 
     def rule():
-        return preference(one_of(kinds), one_of([0, 1, 9]), condition([0, 1, 2, 3]), condition([0, 1, 2, 3]), one_of([0, 1, 2, 15]))
+        return preference(one_of(kinds), one_of([0, 1, 9, MOST]), condition([0, 1, 2, 3]), condition([0, 1, 2, 3]), one_of([0, 1, 2, 15]))
 
     for number in range(count):
         used = one_of([[0], [0, 1], [0, 1, 2], [0, 1, 63, 64], [5, 64, 127]])
@@ -259,7 +278,7 @@ def random_tasks(count=300, seed=1973, kinds=SOFT):
 
 def vectors():
     """What each vector is for, the task file, the plan, and the line."""
-    families = [belt, conditions, preferences_in_every_state, steps, most, of_judge, random_tasks, hard_rules]
+    families = [belt, conditions, preferences_in_every_state, steps, most, of_judge, random_tasks, hard_rules, costs]
     made = [(what, data, bytes(plan), answer) for family in families for what, data, plan, answer in family()]
     lines = {t: refusal(data, plan).strip() for t, (_, data, plan, _) in enumerate(made)}
     atoms = walked({t: made[t][1:3] for t in lines if not lines[t]}, STATES)

@@ -5,7 +5,7 @@ use crate::task::*;
 use crate::{refuse, Refusal};
 
 /// The length of the longest domain.
-pub const MAX_DOMAIN: usize = 238_676;
+pub const MAX_DOMAIN: usize = 239_060;
 /// The length of the longest problem.
 pub const MAX_PROBLEM: usize = 156_085;
 

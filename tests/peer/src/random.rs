@@ -52,10 +52,10 @@ fn cost(r: &mut Random) -> u64 {
     match r.below(10) {
         0..=3 => any % (MAX_COST + 1),
         4 | 5 => small,
-        6 | 7 => r.pick(&[0, MAX_COST - 1, MAX_COST]),
+        6 | 7 => r.pick(&[0, (1 << 32) - 1, 1 << 32, MAX_COST - 1, MAX_COST]),
         // Past the limit, also by the bits that a narrower number would drop.
         _ => {
-            let wide = (1 << r.between(32, 63)) + small;
+            let wide = (1 << r.between(43, 63)) + small;
             r.pick(&[MAX_COST + 1, MAX_COST + small + 1, wide, u64::MAX, any])
         }
     }
@@ -328,9 +328,10 @@ impl Parts<'_> {
 
     /// A cost or a weight.
     fn amount(&mut self) -> u32 {
-        let small = self.r.below(20);
-        let any = self.r.below(MAX_AMOUNT as usize + 1);
-        self.r.pick(&[0, 1, small, small, any, MAX_AMOUNT as usize]) as u32
+        let small = self.r.below(20) as u32;
+        let any = self.r.draw() as u32;
+        let near = MAX_AMOUNT - small;
+        self.r.pick(&[0, 1, small, small, any, near, MAX_AMOUNT])
     }
 
     fn literal(&mut self) -> Literal {
@@ -591,13 +592,13 @@ fn damage_rows(r: &mut Random, sizes: &mut [u16; 3], rows: &mut Vec<Row>) {
     }
 }
 
-/// A value just past what its mark allows, or just allowed, or far off.
+/// A value just past what its mark allows, or just allowed, or far off. A cost and a soft rule's weight have no limit.
 fn past_limit(r: &mut Random, row: Row, facts: u32) -> u32 {
     let high = row
         .value
         .wrapping_add(r.pick(&[1 << 8, 1 << 16, 1 << 24, 1 << 31]));
     match row.mark {
-        1 | 10..=15 | 17 | 18 => r.pick(&[MAX_AMOUNT, MAX_AMOUNT + 1, u32::MAX, high]),
+        1 | 10..=15 | 17 | 18 => r.pick(&[1_000_000, 1_000_001, MAX_AMOUNT, high]),
         2 | 3 | 8 | 16 | 26..=31 | 33 | 34 => r.pick(&[1, 2, u32::MAX, high]),
         19 => r.pick(&[15, 16, 17, 31, u32::MAX, high]),
         _ => r.pick(&[facts - 1, facts, facts + 1, 128, u32::MAX, high]),

@@ -4,13 +4,13 @@ pub const MAX_FACTS: usize = 128;
 pub const MAX_ACTIONS: usize = 128;
 pub const MAX_PREFERENCES: usize = 16;
 pub const MAX_ROWS: usize = 12_000;
-/// The largest cost and the largest weight.
-pub const MAX_AMOUNT: u32 = 1_000_000;
+/// The largest cost and the largest weight: any number of 32 bits is one.
+pub const MAX_AMOUNT: u32 = u32::MAX;
 /// The latest deadline, in steps.
 pub const MAX_DEADLINE: usize = 15;
 pub const MAX_STEPS: usize = 2_048;
-/// The largest cost that settle takes.
-pub const MAX_COST: u64 = 2_048_000_000;
+/// The largest cost that settle takes: 2,048 steps of the largest.
+pub const MAX_COST: u64 = 8_796_093_020_160;
 
 /// The marks of the rows. Marks 10 to 15, 17 and 18 open soft rules, 26 to 31, 33
 /// and 34 the same kinds of hard ones (`Kind`).

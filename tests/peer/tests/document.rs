@@ -78,13 +78,13 @@ fn names_of_kinds() {
         0,
         8,
         "GOAL always 0 sometime 1 at-end 2 at-most-once 3 sometime-before 4 SECOND \
-         sometime-after 1000000 SECOND within 7 STEPS 3 always-within 8 STEPS 15 SECOND",
+         sometime-after 4294967295 SECOND within 7 STEPS 3 always-within 8 STEPS 15 SECOND",
     );
     assert_eq!(
         report(&task, &[]),
         "solved steps 0 cost 0\n0 always 0 met\n1 sometime 1 met\n2 at-end 2 met\n\
-         3 at-most-once 3 met\n4 sometime-before 4 missed\n5 sometime-after 1000000 met\n\
-         6 within 7 met\n7 always-within 8 met\nmetric 4 utility 1000021\n"
+         3 at-most-once 3 met\n4 sometime-before 4 missed\n5 sometime-after 4294967295 met\n\
+         6 within 7 met\n7 always-within 8 met\nmetric 4 utility 4294967316\n"
     );
 }
 

@@ -29,7 +29,7 @@ fn goal(words: &str) -> String {
 fn lines_of_the_request() {
     let condition = "CLAUSE HOLDS 2 CLAUSE HOLDS 0 LACKS 1";
     let task = format!(
-        "START 1 GOAL {condition} ACTION 3 {condition} EFFECT {condition} ADD 0 DELETE 1 ACTION 1000000"
+        "START 1 GOAL {condition} ACTION 3 {condition} EFFECT {condition} ADD 0 DELETE 1 ACTION 4294967295"
     );
     let written = texts(3, 2, &task);
     assert_eq!(
@@ -40,7 +40,7 @@ fn lines_of_the_request() {
          (:functions (total-cost))\n\
          (:action a0 :parameters () :precondition (and (f2) (or (f0) (not (f1)))) :effect \
          (and (increase (total-cost) 3) (when (and (f2) (or (f0) (not (f1)))) (and (f0) (not (f1))))))\n\
-         (:action a1 :parameters () :precondition (and) :effect (and (increase (total-cost) 1000000)))\n\
+         (:action a1 :parameters () :precondition (and) :effect (and (increase (total-cost) 4294967295)))\n\
          )\n"
     );
     assert_eq!(
@@ -157,7 +157,7 @@ fn refusals() {
         refused(4, 3)
     );
     assert_eq!(
-        write(&file(1, 0, 1, "GOAL always 1000001"), 0, 0),
+        write(&file(1, 0, 1, "GOAL hard-always 1"), 0, 0),
         refused(5, 1)
     );
     assert_eq!(write(&file(1, 0, 1, "GOAL"), 0, 0), refused(6, 1));
@@ -216,7 +216,7 @@ fn what_rows_give() {
     }
     let mut words = "GOAL".to_string();
     for _ in 0..128 {
-        let more = format!("{words} ACTION 1000000");
+        let more = format!("{words} ACTION 4294967295");
         assert!(domain(&more) - domain(&words) > 19);
         words = more;
     }

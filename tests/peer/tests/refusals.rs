@@ -56,7 +56,7 @@ fn one_to_three() {
 fn accepted_without() {
     assert_eq!(answer(1, 0, 0, "GOAL"), Ok(()));
     assert_eq!(
-        answer(128, 1, 0, "START 0 START 127 GOAL ACTION 1000000"),
+        answer(128, 1, 0, "START 0 START 127 GOAL ACTION 4294967295"),
         Ok(())
     );
     assert_eq!(
@@ -69,10 +69,10 @@ fn accepted_without() {
         Ok(())
     );
     assert_eq!(
-        answer(1, 0, 2, "GOAL sometime-after SECOND always 1000000"),
+        answer(1, 0, 2, "GOAL sometime-after SECOND always 4294967295"),
         Ok(())
     );
-    assert_eq!(answer(1, 0, 1, "GOAL within 1000000 STEPS 15"), Ok(()));
+    assert_eq!(answer(1, 0, 1, "GOAL within 4294967295 STEPS 15"), Ok(()));
     assert_eq!(
         answer(1, 0, 2, "GOAL always-within STEPS SECOND within STEPS 0"),
         Ok(())
@@ -112,6 +112,18 @@ fn rows_end_inside_a_task() {
     );
 }
 
+/// The kinds, and the rows that each has besides.
+const KINDS: [(&str, &str); 8] = [
+    ("always", ""),
+    ("sometime", ""),
+    ("at-end", ""),
+    ("at-most-once", ""),
+    ("sometime-before", "SECOND"),
+    ("sometime-after", "SECOND"),
+    ("within", "STEPS 15"),
+    ("always-within", "STEPS 15 SECOND"),
+];
+
 /// All nineteen marks, none, and two that don't exist, behind every kind of beginning.
 #[test]
 fn marks_that_may_come() {
@@ -139,8 +151,7 @@ fn marks_that_may_come() {
         "M20",
         "M255",
     ];
-    const KINDS: &str = "always sometime at-end at-most-once sometime-before sometime-after \
-                         within always-within";
+    let kinds = KINDS.map(|(kind, _)| kind);
     let table = [
         ("", "START GOAL"),
         ("START 0", "START GOAL"),
@@ -206,17 +217,23 @@ fn marks_that_may_come() {
         ),
     ];
     for (beginning, may) in table {
-        let may = may.replace("kinds", KINDS);
+        let may = may.replace("kinds", &kinds.join(" "));
         let row = rows(beginning).len() as u16;
         for mark in marks {
-            // The value is wrong for every mark: 5 on this row says the mark may come.
-            let number = if may.split(' ').any(|word| word == mark) {
-                5
-            } else {
-                4
-            };
-            let words = format!("{beginning} {mark} 1000001");
-            assert_eq!(answer(1, 0, 0, &words), refused(number, row), "{words}");
+            let words = format!("{beginning} {mark} 4294967295");
+            let got = answer(1, 0, 0, &words);
+            let may_come = may.split(' ').any(|word| word == mark);
+            let is_amount = mark == "ACTION" || kinds.contains(&mark);
+            match (may_come, is_amount) {
+                (false, _) => assert_eq!(got, refused(4, row), "{words}"),
+                // The value is wrong: 5 on this row says the mark may come.
+                (true, false) => assert_eq!(got, refused(5, row), "{words}"),
+                // No cost or weight is wrong: what is refused comes after this row, an end or a count.
+                (true, true) => {
+                    let place = got.map_err(|refusal| refusal.place);
+                    assert_eq!(place, Err(row + 1), "{words}");
+                }
+            }
         }
     }
 }
@@ -232,14 +249,13 @@ fn values() {
             ([3, 0, 0], "GOAL 1", 0),
             ([3, 0, 0], "GOAL CLAUSE 1 HOLDS 0", 1),
             ([3, 0, 0], "GOAL CLAUSE HOLDS 2 LACKS 3", 3),
-            ([3, 1, 0], "GOAL ACTION 1000001", 1),
             ([3, 1, 0], "GOAL ACTION EFFECT 1", 2),
             ([3, 1, 0], "GOAL ACTION EFFECT ADD 3", 3),
             ([3, 1, 0], "GOAL ACTION EFFECT ADD 2 DELETE 4294967295", 4),
-            ([3, 0, 1], "GOAL always 1000001", 1),
+            ([3, 0, 1], "GOAL hard-always 1", 1),
             ([3, 0, 1], "GOAL sometime-after SECOND 1", 2),
-            ([3, 0, 1], "GOAL within 1000001", 1),
-            ([3, 0, 1], "GOAL always-within 1000001", 1),
+            ([3, 0, 1], "GOAL hard-within 1000001", 1),
+            ([3, 0, 1], "GOAL hard-always-within 4294967295", 1),
             ([3, 0, 1], "GOAL within STEPS 16", 2),
             ([3, 0, 1], "GOAL always-within STEPS 16", 2),
             ([3, 0, 1], "GOAL within STEPS 4294967295", 2),
@@ -250,6 +266,30 @@ fn values() {
             ([3, 0, 0], "START 16777216 GOAL", 0),
         ],
     );
+}
+
+/// A cost and the weight of a soft rule may be any number of 32 bits; a hard rule's weight is 0.
+#[test]
+fn amounts() {
+    for amount in [
+        0,
+        1,
+        1_000_000,
+        1_000_001,
+        1 << 24,
+        1 << 31,
+        u32::MAX - 1,
+        u32::MAX,
+    ] {
+        assert_eq!(answer(1, 1, 0, &format!("GOAL ACTION {amount}")), Ok(()));
+        for (kind, rest) in KINDS {
+            let words = format!("{kind} {amount} {rest}");
+            assert_eq!(answer(1, 0, 1, &format!("GOAL {words}")), Ok(()), "{words}");
+            let hard = answer(1, 0, 1, &format!("GOAL hard-{words}"));
+            let expected = if amount == 0 { Ok(()) } else { refused(5, 1) };
+            assert_eq!(hard, expected, "hard-{words}");
+        }
+    }
 }
 
 #[test]

@@ -6,7 +6,7 @@ use common::*;
 use peer::random::{arguments, case};
 use peer::*;
 
-const MOST: u64 = 2_048_000_000;
+const MOST: u64 = 8_796_093_020_160;
 
 /// The file of a task with a preference of each of these weights.
 fn weighted(weights: &[u32]) -> Vec<u8> {
@@ -47,7 +47,11 @@ fn costs() {
             worth_of(MOST - 1 + lost, 1 - most)
         );
         assert_eq!(settle(&file, MOST, 0), worth_of(MOST + lost, -most));
-        for cost in [MOST + 1, 1 << 31, 1 << 32, (1 << 32) + 3, 1 << 63, u64::MAX] {
+        for cost in [2_048_000_001, 1 << 31, 1 << 32, (1 << 32) + 3, 1 << 42] {
+            let worth = worth_of(cost + lost, -(cost as i64));
+            assert_eq!(settle(&file, cost, 0), worth, "{cost}");
+        }
+        for cost in [MOST + 1, MOST + (1 << 32), 1 << 43, 1 << 63, u64::MAX] {
             assert_eq!(settle(&file, cost, 0), refused(15, 0), "{cost}");
         }
     }
@@ -85,18 +89,20 @@ fn bits() {
 
 #[test]
 fn weights() {
-    let heavy = weighted(&[1_000_000; 16]);
-    let (all, sum) = (0xFFFF, 16_000_000);
-    assert_eq!(settle(&heavy, 0, all), worth_of(0, sum));
-    assert_eq!(settle(&heavy, 0, 0), worth_of(16_000_000, 0));
+    let heavy = weighted(&[u32::MAX; 16]);
+    let all = 0xFFFF;
+    assert_eq!(settle(&heavy, 0, all), worth_of(0, 68_719_476_720));
+    assert_eq!(settle(&heavy, 0, 0), worth_of(68_719_476_720, 0));
+    for (met, metric, utility) in [
+        (0, 8_864_812_496_880, -8_796_093_020_160),
+        (1 << 15, 8_860_517_529_585, -8_791_798_052_865),
+        (all, 8_796_093_020_160, -8_727_373_543_440),
+    ] {
+        assert_eq!(settle(&heavy, MOST, met), worth_of(metric, utility));
+    }
     assert_eq!(
-        settle(&heavy, MOST, 0),
+        settle(&weighted(&[1_000_000; 16]), 2_048_000_000, 0),
         worth_of(2_064_000_000, -2_048_000_000)
-    );
-    assert_eq!(settle(&heavy, MOST, all), worth_of(MOST, sum - MOST as i64));
-    assert_eq!(
-        settle(&heavy, MOST, 1 << 15),
-        worth_of(2_063_000_000, -2_047_000_000)
     );
     assert_eq!(settle(&weighted(&[0; 16]), 7, 0x5555), worth_of(7, -7));
     assert_eq!(
@@ -109,6 +115,25 @@ fn weights() {
     );
 }
 
+/// 2,048 steps of the largest cost, with sixteen of the largest weights: walked, settled and reported.
+#[test]
+fn largest_amounts() {
+    for (word, met, metric, utility) in [
+        ("HOLDS", 0, 8_864_812_496_880, -8_796_093_020_160),
+        ("LACKS", 0xFFFF, MOST, -8_727_373_543_440),
+    ] {
+        let rules = format!("always 4294967295 CLAUSE {word} 0 ").repeat(16);
+        let task = file(1, 1, 16, &format!("GOAL ACTION 4294967295 {rules}"));
+        let plan = [0; 2_048];
+        let verdict = walk(&task, &plan).map(|walked| walked.verdict);
+        assert_eq!(verdict, Ok(Verdict::Solved { cost: MOST, met }));
+        assert_eq!(settle(&task, MOST, met), worth_of(metric, utility));
+        let text = report(&task, &plan);
+        assert!(text.starts_with("solved steps 2048 cost 8796093020160\n0 always 4294967295 m"));
+        assert!(text.ends_with(&format!("\nmetric {metric} utility {utility}\n")));
+    }
+}
+
 /// A file's own refusal comes before that of the arguments.
 #[test]
 fn refused_files() {
@@ -119,7 +144,7 @@ fn refused_files() {
         (sized, 2, 0),
         (belt[..97].to_vec(), 3, 0),
         (file(1, 0, 0, "GOAL M20"), 4, 1),
-        (file(1, 0, 1, "GOAL always 1000001"), 5, 1),
+        (file(1, 0, 1, "GOAL hard-always 1"), 5, 1),
         (file(1, 0, 2, "GOAL always 1"), 6, 2),
     ] {
         for (cost, met) in [
