@@ -202,7 +202,7 @@ static uint32_t wide(uint8_t mark, uint8_t value)
     case 26: case 27: case 28: case 29: case 30: case 31: case 33: case 34: return value == 255;
     case 4: case 5: case 6: case 7: case 9: return value;
     case 19: return value % 17;
-    default: return value * 4000u; /* over a million from 251 on */
+    default: return value * 16843009u; /* the byte four times: 4,294,967,295 from 255 */
     }
 }
 
@@ -252,8 +252,8 @@ static uint64_t make_cost(Data *d)
     uint8_t how = next(d), byte = next(d);
     switch (how % 4) {
     case 0: return byte;
-    case 1: return byte * (uint64_t)8000000 + how;
-    case 2: return ROUTE_RULES_MAX_COST - 128 + (uint64_t)byte;
+    case 1: return byte * ((uint64_t)ROUTE_RULES_MAX_COST / 256) + how;
+    case 2: return (uint64_t)ROUTE_RULES_MAX_COST - 128 + byte;
     default: return (uint64_t)byte << how / 4;
     }
 }

@@ -26,6 +26,8 @@ WRONG = [
     ('FACTS a b\nFACTS a', 'line 2: a fact named twice, or by a number'),
     ('FACTS a\nGOAL\nwithin 7 6', 'line 3: too many words'),
     ('FACTS a\nGOAL\nwithin 7\nSTEPS a', 'line 4: unknown name a'),
+    ('FACTS a\nGOAL\nACTION 4294967296', 'line 3: a value over 4294967295'),
+    ('FACTS a\nGOAL\nalways 18446744073709551617', 'line 3: a value over 4294967295'),
     ('FACTS a\nGOAL\nhard-end', 'line 3: unknown mark hard-end'),
     ('FACTS a\nGOAL\nhard-GOAL', 'line 3: unknown mark hard-GOAL'),
 ]
@@ -77,6 +79,9 @@ def metrics(answers):
 def main(option=None):
     belt = os.path.join(ROOT, 'examples/belt/task')
     expect('the belt', text_of(belt + '.txt').file(), read(belt))
+    greatest = Text('FACTS 1\nGOAL\nACTION 4294967295\nalways 4294967295')
+    expect('the greatest amounts', show(greatest.file()), 'FACTS 1\nGOAL\nACTION 4294967295\nalways 4294967295\n')
+    expect('the greatest amounts', greatest.file()[-8:], b'\xff' * 8)
     for text, why in WRONG:
         expect(text, answered(lambda: Text(text).file()), why)
     for lines, source in SOURCES:

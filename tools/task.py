@@ -7,8 +7,9 @@ tools/task.py plan TEXT STEPS       writes the plan of a text: names or numbers 
 tools/task.py source TEXT PLANNED   writes the source part of what a planner prints for the translation, a line `(aN)` for each step
 
 A text has a row on each line: the documents' name of the mark, then its value; a value that is 0 may be left out. A rule that must
-hold is its kind with `hard-` before it. '#' starts a comment. FACTS and their names, or FACTS and how many, come first; a fact is then named or numbered. Behind the cost of an
-ACTION a name for it may stand. Sizes are counted. Nothing else is looked at: whether it is a task is for check to say.
+hold is its kind with `hard-` before it. '#' starts a comment. FACTS and their names, or FACTS and how many, come first; a fact is then
+named or numbered. After the cost of an ACTION a name for it may stand. Costs and weights go up to 4294967295, as all values do. Sizes are
+counted. Nothing else is looked at: whether it is a task is for check to say.
 """
 import re
 import struct
@@ -23,6 +24,7 @@ MARK.update((f'hard-{name}', MARK[name] + 16) for name in SOFT)
 NAME = {mark: name for name, mark in MARK.items()}
 PREFERENCES = SOFT + [f'hard-{name}' for name in SOFT]
 STEP = re.compile(r'\(a(0|[1-9][0-9]*)\)')
+MOST = 2 ** 32 - 1  # the greatest value of a row, and so the greatest cost and weight
 # How far the rows are set in; an EFFECT's condition stands deeper than a precondition.
 DEPTH = {'EFFECT': 1, 'CLAUSE': 1, 'HOLDS': 2, 'LACKS': 2, 'ADD': 2, 'DELETE': 2, 'SECOND': 1, 'STEPS': 1}
 
@@ -78,7 +80,10 @@ class Text:
         value, *rest = words or ['0']
         if len(rest) > (name == 'ACTION'):
             raise Wrong('too many words')
-        self.rows.append((name, number_of(value, self.facts if name in OF_FACTS else [])))
+        value = number_of(value, self.facts if name in OF_FACTS else [])
+        if value > MOST:
+            raise Wrong(f'a value over {MOST}')
+        self.rows.append((name, value))
         if name == 'ACTION':
             self.actions.append(rest[0] if rest else None)
 

@@ -10,7 +10,7 @@ import os
 import sys
 
 sys.path.insert(0, os.path.dirname(os.path.dirname(os.path.abspath(__file__))))
-from shared.files import BELT, file, goal
+from shared.files import BELT, MOST, file, goal
 from shared.programs import FOLDER, Link, faults, run
 from shared.tasks import LONGEST_DOMAIN, LONGEST_PROBLEM
 
@@ -31,7 +31,8 @@ REFUSED = [
     ('one byte more than the longest file', dict(compiled=longest_file + b'\0', **old), 'refused 3 0\n'),
     ('a million bytes', dict(compiled=longest_file + bytes(1000000), **old), 'refused 3 0\n'),
     ('a faulty row', dict(compiled=file('GOAL CLAUSE'), **old), 'refused 4 2\n'),
-    ('a faulty value in a preference', dict(compiled=file('GOAL always 1000001'), **old), 'refused 5 1\n'),
+    ('a faulty value in a preference', dict(compiled=file('GOAL within STEPS 16'), **old), 'refused 5 2\n'),
+    ('a preference of the greatest weight', dict(compiled=file(f'GOAL always {MOST}'), **old), 'refused 13 0\n'),
     ('a preference too few', dict(compiled=file('GOAL', P=1), **old), 'refused 6 1\n'),
     ('preferences', dict(compiled=belt), 'refused 13 0\n'),
     ('preferences, and old texts', dict(compiled=belt, **old), 'refused 13 0\n'),
@@ -61,18 +62,20 @@ def problem(opening, condition):
 
 
 REQUEST = file('START 1 GOAL CLAUSE HOLDS 2 CLAUSE HOLDS 0 LACKS 1 ACTION 3 CLAUSE HOLDS 0 LACKS 1 EFFECT CLAUSE HOLDS 2 ADD 0 DELETE 1 '
-               'ACTION 1000000 ACTION EFFECT', F=3)
+               'ACTION 4294967295 ACTION EFFECT ACTION 1000001', F=3)
 REQUEST_TEXTS = (
     domain(3, '(:action a0 :parameters () :precondition (and (or (f0) (not (f1)))) '
               ':effect (and (increase (total-cost) 3) (when (and (f2)) (and (f0) (not (f1))))))\n'
-              '(:action a1 :parameters () :precondition (and) :effect (and (increase (total-cost) 1000000)))\n'
-              '(:action a2 :parameters () :precondition (and) :effect (and (increase (total-cost) 0) (when (and) (and))))\n'),
+              '(:action a1 :parameters () :precondition (and) :effect (and (increase (total-cost) 4294967295)))\n'
+              '(:action a2 :parameters () :precondition (and) :effect (and (increase (total-cost) 0) (when (and) (and))))\n'
+              '(:action a3 :parameters () :precondition (and) :effect (and (increase (total-cost) 1000001)))\n'),
     problem(' (f1)', '(and (f2) (or (f0) (not (f1))))'))
 
 LONGEST_DOMAIN_TEXTS = (
-    domain(128, ''.join(f'(:action a{n} :parameters () :precondition (and) :effect (and (increase (total-cost) 1000000)'
+    domain(128, ''.join(f'(:action a{n} :parameters () :precondition (and) :effect (and (increase (total-cost) 4294967295)'
                         + ' (when (and) (and))' * (11871 if n == 127 else 0) + '))\n' for n in range(128))),
     problem('', '(and)'))
+assert len(LONGEST_DOMAIN_TEXTS[0]) == 239060
 LONGEST_PROBLEM_TEXTS = domain(128, ''), problem('', '(and (or' + ' (not (f127))' * 11998 + '))')
 
 WRITTEN = [

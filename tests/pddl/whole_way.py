@@ -24,7 +24,7 @@ sys.path.insert(0, os.path.dirname(os.path.dirname(os.path.abspath(__file__))))
 from shared import stored
 from shared.account import check
 from shared.expected import Different, expect
-from shared.files import HARD, PREFERENCES, SOFT, file, preferences, rows, spelled, words
+from shared.files import HARD, MOST, PREFERENCES, SOFT, file, preferences, rows, spelled, words
 from shared.pddl import Action, Effect, Task, Wrong, read
 from shared.planning import HORIZON, SIGNS, plan, planned, random_task
 from shared.programs import run
@@ -91,7 +91,7 @@ def heaviest():
     def effect(n):
         return ' EFFECT' + condition(n) + some(n % 5, 'ADD') + some(n % 7, 'DELETE')
 
-    actions = ''.join(f' ACTION {1000000 - 7 * n}' + condition(n) + ''.join(effect(n + m) for m in range(5)) for n in range(128))
+    actions = ''.join(f' ACTION {MOST - 7 * n}' + condition(n) + ''.join(effect(n + m) for m in range(5)) for n in range(128))
     left = 12000 - len(spelled(starts + ' GOAL CLAUSE' + actions))
     return file(starts + ' GOAL CLAUSE' + some(left, 'LACKS', 'HOLDS') + actions, F=128)
 

@@ -9,7 +9,7 @@ import sys
 
 sys.path.insert(0, os.path.dirname(os.path.dirname(os.path.abspath(__file__))))
 from shared.account import check
-from shared.files import BELT, file, goal
+from shared.files import BELT, MOST, file, goal
 from shared.programs import FOLDER, Link, faults, run
 
 belt = file(BELT, F=2)
@@ -68,6 +68,19 @@ DEADLINES = [
 ]
 
 
+# ---- the greatest cost and the greatest weight: each is copied as it stands, the weight into its forgo
+
+def greatest(weight, last=''):
+    """The translation of a task with an action of the greatest cost and one preference, at-end of fact 0, over two facts. S is 2, C 4,
+    normal 5, ended 6."""
+    return file(f'START 5 GOAL CLAUSE HOLDS 6 CLAUSE HOLDS 4 ACTION {MOST} CLAUSE HOLDS 5 ACTION 0 CLAUSE HOLDS 5 EFFECT ADD 6 DELETE 5 '
+                'EFFECT CLAUSE HOLDS 0 ADD 2 ACTION 0 CLAUSE HOLDS 6 CLAUSE LACKS 4 CLAUSE HOLDS 2 EFFECT ADD 4 '
+                f'ACTION {weight} CLAUSE HOLDS 6 CLAUSE LACKS 4 CLAUSE LACKS 2 {last} EFFECT ADD 4', F=7)
+
+
+GREATEST = [(f'at-end {MOST}', greatest(MOST)), ('at-end 1000001', greatest(1000001)), ('hard-at-end', greatest(0, 'CLAUSE LACKS 6'))]
+
+
 def with_deadline(trackers, met, missed, facts, weight=9, last=''):
     """The translation of a task with an action of cost 4 and one preference. Forgo costs its weight, and has a last clause if it is
     hard."""
@@ -112,6 +125,11 @@ def main(program):
             got = run(program, dict(task=task))
             if got != ('', '', dict(task=task, compiled=with_deadline(trackers, *closings, facts, **more))):
                 sys.exit(f'{rule}: {got}')
+    for rule, compiled in GREATEST:
+        task = file(f'GOAL ACTION {MOST} {rule} CLAUSE HOLDS 0', F=2)
+        got = run(program, dict(task=task))
+        if got != ('', '', dict(task=task, compiled=compiled)):
+            sys.exit(f'an action of the greatest cost and {rule}: {got}')
     widest = run(program, dict(task=file('GOAL within STEPS 15 always-within STEPS 15 SECOND', F=89)))
     if widest[:2] != ('', '') or widest[2]['compiled'][0] != 128:
         sys.exit('128 facts, 31 of them of deadlines')
@@ -121,7 +139,7 @@ def main(program):
     with_rule = run(program, dict(task=file(goal(11967) + ' hard-sometime')))
     if with_rule[:2] != ('', '') or len(with_rule[2]['compiled']) != 60008:
         sys.exit('the longest translation with a hard rule')
-    print(f'program translate: {len(REFUSED) + len(FAULTS) + 2 * len(DEADLINES) + 11} cases as they should be')
+    print(f'program translate: {len(REFUSED) + len(FAULTS) + 2 * len(DEADLINES) + len(GREATEST) + 11} cases as they should be')
 
 
 if __name__ == '__main__':

@@ -2,9 +2,13 @@
 
 use crate::library::{self, Verdict, Worth};
 use crate::tally::Tally;
+use crate::translating;
 use crate::walking::same;
 use peer::task::{MAX_AMOUNT, MAX_COST};
-use peer::{Kind, Preference, Task};
+use peer::{Action, Kind, Literal, Preference, Task};
+
+// The cost that callers are told settle takes.
+const _: () = assert!(MAX_COST == library::MAX_COST);
 
 const ANSWERS: [&str; 8] = [
     "refused 1",
@@ -105,7 +109,11 @@ fn edge(file: &[u8], preferences: u32) -> Result<(), String> {
         MAX_COST - 1,
         MAX_COST,
         MAX_COST + 1,
+        MAX_COST + (1 << 32),
+        1 << 31,
         1 << 32,
+        1 << 43,
+        1 << 63,
         u64::MAX,
     ] {
         for met in (0..64)
@@ -129,13 +137,64 @@ fn edge(file: &[u8], preferences: u32) -> Result<(), String> {
 
 pub fn edges() -> Result<(), String> {
     for preferences in 0..=16 {
-        for weight in [Some(0), Some(MAX_AMOUNT), None] {
+        for weight in [Some(0), Some(1_000_001), Some(MAX_AMOUNT), None] {
             for hard in 0..=2 {
                 let file = peer::encode(&task(preferences, weight, hard));
                 edge(&file, preferences as u32).map_err(|why| format!("P {preferences}: {why}"))?;
             }
         }
     }
+    for (holds, met, metric, utility) in [
+        (true, 0, 8_864_812_496_880, -8_796_093_020_160),
+        (false, 0xFFFF, 8_796_093_020_160, -8_727_373_543_440),
+    ] {
+        largest(holds, met, Worth { metric, utility })?;
+    }
     println!("edges of settle: as they should be");
     Ok(())
+}
+
+/// 2,048 steps of the largest cost on a task with 16 of the largest weights, all met or all missed: walked as bytes and as text,
+/// settled, reported and translated.
+fn largest(holds: bool, met: u64, worth: Worth) -> Result<(), String> {
+    let mut task = task(16, Some(MAX_AMOUNT), 0);
+    task.actions.push(Action {
+        cost: MAX_AMOUNT,
+        precondition: vec![],
+        effects: vec![],
+    });
+    for preference in &mut task.preferences {
+        preference.kind = Kind::Always;
+        preference.phi = vec![vec![Literal { holds, fact: 0 }]];
+    }
+    let (file, plan) = (peer::encode(&task), [0; 2_048]);
+    let solved = Ok(Verdict::Solved {
+        cost: MAX_COST,
+        met,
+    });
+    let text = "(a0)\n".repeat(2_048);
+    for (what, walked) in [
+        ("walk", library::walk(&file, &plan)),
+        ("walk_text", library::walk_text(&file, text.as_bytes())),
+    ] {
+        let verdict = walked.map(|walked| walked.verdict);
+        equal(what, verdict, solved)?;
+    }
+    equal("settle", library::settle(&file, MAX_COST, met), Ok(worth))?;
+    walked(&file, &plan)?;
+    let (out, answer) = library::report(&file, &plan, library::MAX_REPORT);
+    let shown = peer::report(&file, &plan);
+    equal("report", answer, Ok(shown.len()))?;
+    equal("report", &out[..shown.len()], shown.as_bytes())?;
+    translating::completed(&file, &plan, true)
+}
+
+/// Held to an answer that is written down here.
+fn equal<T: PartialEq + std::fmt::Debug>(what: &str, got: T, wanted: T) -> Result<(), String> {
+    match got == wanted {
+        true => Ok(()),
+        false => Err(format!(
+            "the largest amounts: {what} is {got:?}, and not {wanted:?}"
+        )),
+    }
 }

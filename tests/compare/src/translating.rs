@@ -45,7 +45,7 @@ fn metric(file: &[u8], plan: &[u8]) -> Option<u128> {
 
 /// A plan that solves, completed by end and one closing action for each preference, solves the task in the bytes that the
 /// library wrote, and its cost there is the metric. One that misses a hard rule doesn't, and has no metric.
-fn completed(file: &[u8], plan: &[u8], solves: bool) -> Result<(), String> {
+pub fn completed(file: &[u8], plan: &[u8], solves: bool) -> Result<(), String> {
     let source = peer::decode(file).expect("an accepted task");
     let (out, answer) = library::translate(file, peer::random::MAX_FILE);
     let Ok(n) = answer else { return Ok(()) };
