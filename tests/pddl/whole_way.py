@@ -130,29 +130,30 @@ def judged(programs, data, text, metric):
     return lines[1:-1]
 
 
-def both_lists(programs, data, files, horizon):
+def both_lists(programs, data, files, horizon, solutions):
     """The lines about preferences that judge writes on the cheapest and on the dearest list, by the names in SIGNS, where there is one.
-    The files have `compiled`, which is data itself or its translation."""
+    The files have `compiled`, which is data itself or its translation. Lists that cost more than 32 bits hold are counted."""
     task, compiled, outcomes = read_back(programs.pddl, files), files['compiled'], {}
     for name, sign in SIGNS.items():
         found, on_file = planned(task, horizon, sign), plan('classical', compiled, horizon, sign)
         expect(f'the cost of the {name} list', found and found[0], on_file and on_file.total)
         if found:
             cost, text = found
+            solutions['over 32 bits'] += cost >= 2 ** 32
             judged(programs, compiled, text, cost)
             source = ''.join(line for line in text.splitlines(True) if line[0] == ';' or int(STEP.fullmatch(line)[1]) < data[2])
             outcomes[name] = judged(programs, data, source, cost)
     return outcomes
 
 
-def ways(programs, data):
+def ways(programs, data, solutions):
     """The ways of a task, each with its outcomes."""
     printed, errors, files = run(programs.translate, dict(task=data))
     expect('translate prints', printed + errors, '')
     p = data[4]
-    yield 'with preferences' if p else 'without preferences', both_lists(programs, data, files, HORIZON + 1 + p)
+    yield 'with preferences' if p else 'without preferences', both_lists(programs, data, files, HORIZON + 1 + p, solutions)
     if not p:
-        yield 'as it stands', both_lists(programs, data, dict(compiled=data), HORIZON)
+        yield 'as it stands', both_lists(programs, data, dict(compiled=data), HORIZON, solutions)
 
 
 def main(pddl, translate, judge, text_vectors, count='110', seed='4'):
@@ -163,7 +164,7 @@ def main(pddl, translate, judge, text_vectors, count='110', seed='4'):
     for number in range(int(count)):
         data = random_task(r)
         try:
-            for way, outcomes in ways(programs, data):
+            for way, outcomes in ways(programs, data, solutions):
                 solutions[way, 'a plan' if outcomes else 'no plan'] += 1
                 kinds.update((kind, outcome) for lines in outcomes.values() for _, kind, _, outcome in map(str.split, lines))
         except Different as why:
@@ -171,6 +172,7 @@ def main(pddl, translate, judge, text_vectors, count='110', seed='4'):
     each = {way: [solutions[way, found] for found in ('a plan', 'no plan')] for way in WAYS}
     for way, (plans, none) in each.items():
         print(f'{way}: {plans} tasks with a plan, {none} without')
+    print(f'{solutions["over 32 bits"]} lists cost more than 32 bits hold')
     for kind in PREFERENCES:
         print(f'  {kind}: {kinds[kind, "met"]} met, {kinds[kind, "missed"]} missed')
     if any(kinds[kind, 'missed'] for kind in HARD):
@@ -178,8 +180,8 @@ def main(pddl, translate, judge, text_vectors, count='110', seed='4'):
     outcomes = [(kind, 'met') for kind in PREFERENCES] + [(kind, 'missed') for kind in SOFT]
     if each['with preferences'][0] < 50 or not all(kinds[outcome] for outcome in outcomes):
         sys.exit('fewer than 50 plans with preferences, or an outcome never came up')
-    if not all(itertools.chain(*each.values())):
-        sys.exit('a way without a plan, or where every task has one')
+    if not all([solutions['over 32 bits'], *itertools.chain(*each.values())]):
+        sys.exit('a way without a plan, or where every task has one, or no list with a great cost')
 
 
 if __name__ == '__main__':

@@ -96,10 +96,11 @@ def main(program, count='120', seed='1'):
             solutions['none for a hard rule'] += 1
         for name, solution in found.items():
             if solution:
+                solutions['over 32 bits'] += solution.total >= 2 ** 32
                 lengths[name, len(solution.steps) - 1 - len(kinds)] += 1
                 outcomes.update((kind, name, 'met' if a + 1 + 2 * k in solution.steps else 'missed') for k, kind in enumerate(kinds))
     print(f'{solutions["a solution"]} tasks with a solution, {solutions["no solution"]} without, '
-          f'{solutions["none for a hard rule"]} of these for a hard rule')
+          f'{solutions["none for a hard rule"]} of these for a hard rule; {solutions["over 32 bits"]} lists cost more than 32 bits hold')
     for name in SIGNS:
         counts = ' '.join(str(lengths[name, n]) for n in range(HORIZON + 1))
         print(f'{name} lists with 0 to {HORIZON} source steps: {counts}')
@@ -109,7 +110,7 @@ def main(program, count='120', seed='1'):
     for kind in HARD:
         if both.pop((kind, 'missed')):
             sys.exit(f'a list that misses a {kind} rule')
-    if not all([solutions['a solution'], solutions['no solution'], solutions['none for a hard rule'], *both.values()]):
+    if not all([*(solutions[name] for name in ('a solution', 'no solution', 'none for a hard rule', 'over 32 bits')), *both.values()]):
         sys.exit('an outcome never came up')
 
 
