@@ -39,7 +39,7 @@ returns-3 c =
       part (n .before .before),
       ne-eqb (numberOr (follow (numbered (a .widest)) (a .mark))) 20 (comes n),
       ne-eqb (numberOr (follow (numbered (a .context)) (a .mark))) (numberOr (follow (numbered (a .widest)) (a .mark)))
-      (λ e. c .if3 .taken (c .before .next2 .ensures ∙ e ∙ sym (n .before .next .ensures))),
+          (λ e. c .if3 .taken (c .before .next2 .ensures ∙ e ∙ sym (n .before .next .ensures))),
     )
 
 returns-4 : tie.Need-returns-4
@@ -50,7 +50,7 @@ returns-4 c =
       part (n .before .before),
       ne-eqb (numberOr (follow (numbered (a .widest)) (a .mark))) 20 (comes n),
       eq-eqb (numberOr (follow (numbered (a .context)) (a .mark))) (numberOr (follow (numbered (a .widest)) (a .mark)))
-      (sym (c .before .before .next2 .ensures) ∙ c .before .if3 .left ∙ n .before .next .ensures),
+          (sym (c .before .before .next2 .ensures) ∙ c .before .if3 .left ∙ n .before .next .ensures),
     )
     (c .value-allowed .ensures)
 
