@@ -1,8 +1,12 @@
 // What a solution is worth, from its cost and the preferences that it meets.
 ghost use mathlib.Core.Path.{_≡_};
+ghost use mathlib.Core.Bool.{false};
 ghost use Prim.Native.Nat.{ℕ, _+_, _≤_, _<_};
 ghost use lib.IntN.{pos, _-ℤ_};
+ghost use lib.ListN.{length, getD};
 ghost use Rattle.task.specs.TaskRows.{row};
+ghost use Rattle.task.specs.File.{opensPreference};
+ghost use Rattle.task.specs.Limits.{MAX-ROWS};
 ghost use Rattle.task.specs.Rows.{Rows};
 ghost use Rattle.state.specs.Member.{bit};
 ghost use Rattle.settling.specs.Settled.{argumentsAllowed};
@@ -10,6 +14,7 @@ ghost use Rattle.layout.specs.Counting.{counting, countAt};
 ghost use Rattle.settling.specs.Amounts.{AMPLE, Room, nothing, weighed, asWeights};
 use super::Worth;
 use task::limits;
+use task::marks;
 use task::rows;
 
 // So many preferences: the weights of those that are met, and of the others.
@@ -63,6 +68,30 @@ fn weigh_row(t: Weights, mark: u8, value: u32, met: u64) -> Weights
     }
 }
 
+// The bits of four marks from row i on: none of the marks is greater.
+fn four_marks(marks: &[u8], i: usize) -> u8
+    requires { ⌜ (i + 4 ≤ length (now marks)) × (length (now marks) ≤ MAX-ROWS) ⌝ }
+    ensures { λ r. ⌜ ((k : ℕ) → i ≤ k → k < i + 4 → getD (now (marks .entry)) k 0 ≤ r) ⌝ }
+{
+    marks[i] | marks[i + 1] | marks[i + 2] | marks[i + 3]
+}
+
+// Passes rows that open no preference, eight at a time: all their marks are below GOAL.
+fn past_others(marks: &[u8], from: usize) -> usize
+    requires { ⌜ (from ≤ length (now marks)) × (length (now marks) ≤ MAX-ROWS) ⌝ }
+    ensures { λ r. ⌜ (from ≤ r) × (r ≤ length (now (marks .entry))) ⌝ }
+    ensures { λ r. ⌜ ((k : ℕ) → from ≤ k → k < r → opensPreference (getD (now (marks .entry)) k 0) ≡ false) ⌝ }
+{
+    let mut i = from;
+    while i + 8 <= marks.len() {
+        if marks::GOAL <= four_marks(marks, i) | four_marks(marks, i + 4) {
+            return i;
+        }
+        i += 8;
+    }
+    i
+}
+
 // The preferences of a task, by the met ones.
 pub fn weigh(marks: &[u8], values: &[u8], met: u64) -> Weights
     requires { ⌜ Rows (now marks) (now values) ⌝ }
@@ -74,10 +103,10 @@ pub fn weigh(marks: &[u8], values: &[u8], met: u64) -> Weights
         met: 0,
         missed: 0,
     };
-    let mut i = 0;
+    let mut i = past_others(marks, 0);
     while i < marks.len() {
         t = weigh_row(t, marks[i], rows::value_at(values, i), met);
-        i += 1;
+        i = past_others(marks, i + 1);
     }
     t
 }
