@@ -9,12 +9,6 @@
 
 #include <string.h>
 
-enum { ACTION = 1, EFFECT, CLAUSE, HOLDS, LACKS, ADD, DELETE, GOAL, START, ALWAYS, SOMETIME, AT_END, AT_MOST_ONCE,
-       SOMETIME_BEFORE, SOMETIME_AFTER, SECOND, WITHIN, ALWAYS_WITHIN, STEPS, HARD_ALWAYS = 26, HARD_SECOND = 32,
-       HARD_ALWAYS_WITHIN = 34, HARD = 16 };
-
-#define MAX_AMOUNT UINT32_MAX /* a cost, or a soft rule's weight */
-#define MAX_COST (2048 * (uint64_t)MAX_AMOUNT)
 #define MAX_ROWS ROUTE_RULES_MAX_ROWS
 #define MAX_DEADLINE ROUTE_RULES_MAX_DEADLINE
 
@@ -96,7 +90,7 @@ static int read_action(Task *t)
 {
     if (t->actions < 128) t->action[t->actions] = t->at;
     t->actions++;
-    if (!take(t, MAX_AMOUNT) || !read_condition(t)) return 0;
+    if (!take(t, ROUTE_RULES_MAX_AMOUNT) || !read_condition(t)) return 0;
     while (next_is(t, EFFECT)) {
         if (!take(t, 0) || !read_condition(t)) return 0;
         while (next_is(t, ADD))
@@ -112,7 +106,7 @@ static int read_preference(Task *t)
     uint32_t open = t->at;
     int hard = opens_hard(t->marks[open]);
     uint8_t kind = t->marks[open] - (hard ? HARD : 0);
-    if (!take(t, hard ? 0 : MAX_AMOUNT)) return 0;
+    if (!take(t, hard ? 0 : ROUTE_RULES_MAX_AMOUNT)) return 0;
     if (has_steps(kind) && !need(t, STEPS, MAX_DEADLINE)) return 0;
     uint32_t phi = t->at;
     if (!read_condition(t)) return 0;
@@ -491,7 +485,7 @@ uint32_t plain_settle(const uint8_t *file, size_t length, uint64_t cost, uint64_
         answer[0] = t.place;
         return t.number;
     }
-    if (cost > MAX_COST || met >> t.preferences != 0) return ROUTE_RULES_REFUSED_ARGUMENT;
+    if (cost > ROUTE_RULES_MAX_COST || met >> t.preferences != 0) return ROUTE_RULES_REFUSED_ARGUMENT;
     for (uint32_t k = 0; k < t.preferences; k++) {
         uint64_t weight = value_at(&t, t.side[k].open);
         if (met >> k & 1)

@@ -1,147 +1,250 @@
 //! The implementations beside each other, all with the answers of include/route_rules.h.
 
-use peer::{Refusal, Verdict, Walked, Worth};
+use crate::inputs::Input;
+use peer::{text, Refusal, Sizes, Verdict, Walked, Worth};
 
 /// What a call returns, and the words of its answer.
 pub type Answer = (u32, [u64; 8]);
 
-type Walk = unsafe extern "C" fn(*const u8, usize, *const u8, usize, *mut [u64; 8]) -> u32;
-type Settle = unsafe extern "C" fn(*const u8, usize, u64, u64, *mut [u64; 8]) -> u32;
-type Translate = unsafe extern "C" fn(*const u8, usize, *mut u8, usize, *mut [u64; 8]) -> u32;
+pub const NAMES: [&str; 4] = ["library", "Rust", "plain C", "tuned C"];
 
-extern "C" {
-    fn route_rules_walk(a: *const u8, b: usize, c: *const u8, d: usize, e: *mut [u64; 8]) -> u32;
-    fn route_rules_settle(a: *const u8, b: usize, c: u64, d: u64, e: *mut [u64; 8]) -> u32;
-    fn route_rules_translate(a: *const u8, b: usize, c: *mut u8, d: usize, e: *mut [u64; 8])
-        -> u32;
-    fn route_rules_pddl(
-        file: *const u8,
-        file_length: usize,
-        domain: *mut u8,
-        domain_length: usize,
-        problem: *mut u8,
-        problem_length: usize,
-        answer: *mut [u64; 8],
-    ) -> u32;
-    fn plain_walk(a: *const u8, b: usize, c: *const u8, d: usize, e: *mut [u64; 8]) -> u32;
-    fn plain_settle(a: *const u8, b: usize, c: u64, d: u64, e: *mut [u64; 8]) -> u32;
-    fn plain_translate(a: *const u8, b: usize, c: *mut u8, d: usize, e: *mut [u64; 8]) -> u32;
-    fn tuned_walk(a: *const u8, b: usize, c: *const u8, d: usize, e: *mut [u64; 8]) -> u32;
-    fn tuned_translate(a: *const u8, b: usize, c: *mut u8, d: usize, e: *mut [u64; 8]) -> u32;
+/// The areas that outputs are written to.
+pub struct Areas {
+    pub out: Vec<u8>,
+    pub other: Vec<u8>,
 }
 
-pub const NAMES: [&str; 4] = ["library", "Rust", "plain C", "tuned C"];
+type Words = *mut [u64; 8];
+type Check = unsafe extern "C" fn(*const u8, usize, Words) -> u32;
+type Walk = unsafe extern "C" fn(*const u8, usize, *const u8, usize, Words) -> u32;
+type Settle = unsafe extern "C" fn(*const u8, usize, u64, u64, Words) -> u32;
+type Write = unsafe extern "C" fn(*const u8, usize, *mut u8, usize, Words) -> u32;
+type Report =
+    unsafe extern "C" fn(*const u8, usize, *const u8, usize, *mut u8, usize, Words) -> u32;
+type Pddl = unsafe extern "C" fn(*const u8, usize, *mut u8, usize, *mut u8, usize, Words) -> u32;
+
+/// Declares functions of one type, of the library or of C.
+macro_rules! functions {
+    ($($name:ident($($type:ty),*);)*) => {
+        extern "C" { $(fn $name($(_: $type),*, _: Words) -> u32;)* }
+    };
+}
+
+functions! {
+    route_rules_check(*const u8, usize);
+    route_rules_walk(*const u8, usize, *const u8, usize);
+    route_rules_settle(*const u8, usize, u64, u64);
+    route_rules_translate(*const u8, usize, *mut u8, usize);
+    route_rules_read_plan(*const u8, usize, *mut u8, usize);
+    route_rules_write_plan(*const u8, usize, *mut u8, usize);
+    route_rules_walk_text(*const u8, usize, *const u8, usize);
+    route_rules_pddl(*const u8, usize, *mut u8, usize, *mut u8, usize);
+    route_rules_report(*const u8, usize, *const u8, usize, *mut u8, usize);
+    plain_check(*const u8, usize);
+    plain_walk(*const u8, usize, *const u8, usize);
+    plain_settle(*const u8, usize, u64, u64);
+    plain_translate(*const u8, usize, *mut u8, usize);
+    plain_read_plan(*const u8, usize, *mut u8, usize);
+    plain_write_plan(*const u8, usize, *mut u8, usize);
+    plain_walk_text(*const u8, usize, *const u8, usize);
+    plain_pddl(*const u8, usize, *mut u8, usize, *mut u8, usize);
+    plain_report(*const u8, usize, *const u8, usize, *mut u8, usize);
+    tuned_walk(*const u8, usize, *const u8, usize);
+    tuned_translate(*const u8, usize, *mut u8, usize);
+}
+
+// ---- answers of the Rust as words
 
 fn refused(refusal: Refusal) -> Answer {
     let place = u64::from(refusal.place);
     (u32::from(refusal.number), [place, 0, 0, 0, 0, 0, 0, 0])
 }
 
-fn walked(walked: Walked) -> [u64; 8] {
+fn checked(sizes: Sizes) -> Answer {
+    let [f, a, p, n] = [sizes.facts, sizes.actions, sizes.preferences, sizes.rows].map(u64::from);
+    (0, [0, f, a, p, n, 0, 0, 0])
+}
+
+fn walked(walked: Walked) -> Answer {
     let literals = walked.literals;
-    match walked.verdict {
+    let words = match walked.verdict {
         Verdict::Solved { cost, met } => [0, 1, 0, cost, met, literals, 0, 0],
         Verdict::Stopped(step) => [0, 2, step as u64, 0, 0, literals, 0, 0],
         Verdict::GoalMissed => [0, 3, 0, 0, 0, literals, 0, 0],
         Verdict::RuleMissed(k) => [0, 4, k as u64, 0, 0, literals, 0, 0],
+    };
+    (0, words)
+}
+
+fn settled(worth: Worth) -> Answer {
+    (0, [0, worth.metric, worth.utility as u64, 0, 0, 0, 0, 0])
+}
+
+/// The Rust makes an area of its own, and its bytes are copied.
+fn written(out: &mut [u8], bytes: &[u8]) -> Answer {
+    out[..bytes.len()].copy_from_slice(bytes);
+    (0, [0, bytes.len() as u64, 0, 0, 0, 0, 0, 0])
+}
+
+// ---- calls; each pointer comes with the length of its area
+
+fn call_walk(walk: Walk, file: &[u8], plan: &[u8]) -> Answer {
+    let mut words = [0; 8];
+    let number = unsafe {
+        walk(
+            file.as_ptr(),
+            file.len(),
+            plan.as_ptr(),
+            plan.len(),
+            &mut words,
+        )
+    };
+    (number, words)
+}
+
+fn call_write(write: Write, bytes: &[u8], out: &mut [u8]) -> Answer {
+    let mut words = [0; 8];
+    let (from, to) = (bytes.as_ptr(), out.as_mut_ptr());
+    let number = unsafe { write(from, bytes.len(), to, out.len(), &mut words) };
+    (number, words)
+}
+
+pub fn check(who: usize, input: &Input) -> Answer {
+    let call = |check: Check| {
+        let mut words = [0; 8];
+        let number = unsafe { check(input.file.as_ptr(), input.file.len(), &mut words) };
+        (number, words)
+    };
+    match who {
+        0 => call(route_rules_check),
+        1 => peer::check(&input.file).map_or_else(refused, checked),
+        _ => call(plain_check),
     }
 }
 
-fn settled(worth: Worth) -> [u64; 8] {
-    [0, worth.metric, worth.utility as u64, 0, 0, 0, 0, 0]
+/// What a walk gives, the literals looked at among it. Tuned C makes tables first.
+pub fn walk(who: usize, input: &Input) -> Answer {
+    match who {
+        0 => call_walk(route_rules_walk, &input.file, &input.plan),
+        1 => peer::walk(&input.file, &input.plan).map_or_else(refused, walked),
+        2 => call_walk(plain_walk, &input.file, &input.plan),
+        _ => call_walk(tuned_walk, &input.file, &input.plan),
+    }
 }
 
-/// What a walk gives, the literals looked at among it. Tuned C makes tables first.
-pub fn walk(who: usize, file: &[u8], plan: &[u8]) -> Answer {
-    let call = |walk: Walk| {
-        let mut answer = [0; 8];
-        // Each pointer comes with the length of its area.
-        let number = unsafe {
-            walk(
-                file.as_ptr(),
-                file.len(),
-                plan.as_ptr(),
-                plan.len(),
-                &mut answer,
-            )
-        };
-        (number, answer)
-    };
+pub fn walk_text(who: usize, input: &Input) -> Answer {
     match who {
-        0 => call(route_rules_walk),
-        1 => peer::walk(file, plan).map_or_else(refused, |answer| (0, walked(answer))),
-        2 => call(plain_walk),
-        _ => call(tuned_walk),
+        0 => call_walk(route_rules_walk_text, &input.file, &input.text),
+        1 => text::walk_text(&input.file, &input.text).map_or_else(refused, walked),
+        _ => call_walk(plain_walk_text, &input.file, &input.text),
     }
 }
 
 /// What a cost and met preferences are worth. Both programs in C do the same here.
 pub fn settle(who: usize, file: &[u8], cost: u64, met: u64) -> Answer {
     let call = |settle: Settle| {
-        let mut answer = [0; 8];
-        let number = unsafe { settle(file.as_ptr(), file.len(), cost, met, &mut answer) };
-        (number, answer)
+        let mut words = [0; 8];
+        let number = unsafe { settle(file.as_ptr(), file.len(), cost, met, &mut words) };
+        (number, words)
     };
     match who {
         0 => call(route_rules_settle),
-        1 => peer::settle(file, cost, met).map_or_else(refused, |worth| (0, settled(worth))),
+        1 => peer::settle(file, cost, met).map_or_else(refused, settled),
         _ => call(plain_settle),
     }
 }
 
 /// A walk, and what settle makes of the cost and the met preferences that it gave.
-pub fn walk_and_settle(who: usize, file: &[u8], plan: &[u8]) -> [Answer; 2] {
-    let walked = walk(who, file, plan);
-    [walked, settle(who, file, walked.1[3], walked.1[4])]
+pub fn walk_and_settle(who: usize, input: &Input) -> [Answer; 2] {
+    let walked = walk(who, input);
+    [walked, settle(who, &input.file, walked.1[3], walked.1[4])]
 }
 
-/// The translation stands in `out` afterwards. The Rust makes its own area, and its bytes are copied.
-pub fn translate(who: usize, file: &[u8], out: &mut [u8]) -> Answer {
-    let mut call = |translate: Translate| {
-        let mut answer = [0; 8];
+pub fn translate(who: usize, input: &Input, areas: &mut Areas) -> Answer {
+    let out = &mut areas.out;
+    match who {
+        0 => call_write(route_rules_translate, &input.file, out),
+        1 => peer::translate(&input.file, out.len())
+            .map_or_else(refused, |bytes| written(out, &bytes)),
+        2 => call_write(plain_translate, &input.file, out),
+        _ => call_write(tuned_translate, &input.file, out),
+    }
+}
+
+pub fn read_plan(who: usize, input: &Input, areas: &mut Areas) -> Answer {
+    let out = &mut areas.out;
+    match who {
+        0 => call_write(route_rules_read_plan, &input.text, out),
+        1 => text::read(&input.text, out.len()).map_or_else(refused, |bytes| written(out, &bytes)),
+        _ => call_write(plain_read_plan, &input.text, out),
+    }
+}
+
+pub fn write_plan(who: usize, input: &Input, areas: &mut Areas) -> Answer {
+    let out = &mut areas.out;
+    match who {
+        0 => call_write(route_rules_write_plan, &input.plan, out),
+        1 => text::write(&input.plan, out.len()).map_or_else(refused, |bytes| written(out, &bytes)),
+        _ => call_write(plain_write_plan, &input.plan, out),
+    }
+}
+
+pub fn pddl(who: usize, input: &Input, areas: &mut Areas) -> Answer {
+    let (file, out, other) = (&input.file, &mut areas.out, &mut areas.other);
+    let mut call = |pddl: Pddl| {
+        let mut words = [0; 8];
+        let (domain, problem) = (out.as_mut_ptr(), other.as_mut_ptr());
         let number = unsafe {
-            translate(
+            pddl(
                 file.as_ptr(),
                 file.len(),
-                out.as_mut_ptr(),
+                domain,
                 out.len(),
-                &mut answer,
+                problem,
+                other.len(),
+                &mut words,
             )
         };
-        (number, answer)
+        (number, words)
     };
     match who {
-        0 => call(route_rules_translate),
-        1 => peer::translate(file, out.len()).map_or_else(refused, |bytes| {
-            out[..bytes.len()].copy_from_slice(&bytes);
-            (0, [0, bytes.len() as u64, 0, 0, 0, 0, 0, 0])
+        0 => call(route_rules_pddl),
+        1 => peer::pddl::write(file, out.len(), other.len()).map_or_else(refused, |texts| {
+            let (domain, _) = (
+                written(out, texts.domain.as_bytes()),
+                written(other, texts.problem.as_bytes()),
+            );
+            (
+                0,
+                [0, domain.1[1], texts.problem.len() as u64, 0, 0, 0, 0, 0],
+            )
         }),
-        2 => call(plain_translate),
-        _ => call(tuned_translate),
+        _ => call(plain_pddl),
     }
 }
 
-/// The texts stand in the two areas afterwards. The first two alone write PDDL; the Rust's texts are copied.
-pub fn pddl(who: usize, file: &[u8], domain: &mut [u8], problem: &mut [u8]) -> Answer {
-    if who == 0 {
-        let mut answer = [0; 8];
+pub fn report(who: usize, input: &Input, areas: &mut Areas) -> Answer {
+    let (file, plan, out) = (&input.file, &input.plan, &mut areas.out);
+    let mut call = |report: Report| {
+        let mut words = [0; 8];
+        let (from, steps) = (file.as_ptr(), plan.as_ptr());
         let number = unsafe {
-            route_rules_pddl(
-                file.as_ptr(),
+            report(
+                from,
                 file.len(),
-                domain.as_mut_ptr(),
-                domain.len(),
-                problem.as_mut_ptr(),
-                problem.len(),
-                &mut answer,
+                steps,
+                plan.len(),
+                out.as_mut_ptr(),
+                out.len(),
+                &mut words,
             )
         };
-        return (number, answer);
+        (number, words)
+    };
+    match who {
+        0 => call(route_rules_report),
+        1 => peer::report::write(file, plan, out.len())
+            .map_or_else(refused, |bytes| written(out, &bytes)),
+        _ => call(plain_report),
     }
-    peer::pddl::write(file, domain.len(), problem.len()).map_or_else(refused, |texts| {
-        let (d, p) = (texts.domain.len(), texts.problem.len());
-        domain[..d].copy_from_slice(texts.domain.as_bytes());
-        problem[..p].copy_from_slice(texts.problem.as_bytes());
-        (0, [0, d as u64, p as u64, 0, 0, 0, 0, 0])
-    })
 }

@@ -3,23 +3,74 @@
 use peer::random::{task_and_plan, Random, Shape, MAX_FILE};
 use peer::task::{MAX_DEADLINE, MAX_ROWS};
 use peer::{
-    encode, pddl, translate, translated, verdict, Action, Clause, Condition, Effect, Kind, Literal,
-    Preference, Task, Verdict,
+    encode, pddl, text, translate, translated, verdict, walk, Action, Clause, Condition, Effect,
+    Kind, Literal, Preference, Task, Verdict,
 };
+use std::fs;
+use std::path::Path;
 
-/// A task file and a plan.
+/// A task file and a plan, with its text, and what it costs and meets where it solves.
 pub struct Input {
     pub name: String,
     pub file: Vec<u8>,
     pub plan: Vec<u8>,
+    pub text: Vec<u8>,
+    pub cost: u64,
+    pub met: u64,
+}
+
+impl Input {
+    /// Written as files, with the name of an operation.
+    pub fn save(&self, folder: &Path, operation: &str) {
+        fs::create_dir_all(folder).expect("a folder");
+        let amounts = [self.cost.to_le_bytes(), self.met.to_le_bytes()].concat();
+        for (name, bytes) in [
+            ("operation", operation.as_bytes()),
+            ("file", &self.file),
+            ("plan", &self.plan),
+            ("text", &self.text),
+            ("amounts", &amounts),
+        ] {
+            fs::write(folder.join(name), bytes).expect("a file");
+        }
+    }
+
+    /// Read again, with the name of the operation.
+    pub fn load(folder: &Path) -> (String, Input) {
+        let read = |name: &str| fs::read(folder.join(name)).expect("a file");
+        let amount = |at: usize| {
+            let bytes = read("amounts")[at..at + 8].try_into();
+            u64::from_le_bytes(bytes.expect("eight bytes"))
+        };
+        let input = Input {
+            name: String::new(),
+            file: read("file"),
+            plan: read("plan"),
+            text: read("text"),
+            cost: amount(0),
+            met: amount(8),
+        };
+        (String::from_utf8(read("operation")).expect("a name"), input)
+    }
+}
+
+fn of_file(name: &str, file: Vec<u8>, plan: Vec<u8>) -> Input {
+    let (cost, met) = match walk(&file, &plan).map(|walked| walked.verdict) {
+        Ok(Verdict::Solved { cost, met }) => (cost, met),
+        _ => (0, 0),
+    };
+    Input {
+        name: name.to_string(),
+        text: text::write(&plan, text::MAX_TEXT).expect("a text"),
+        file,
+        plan,
+        cost,
+        met,
+    }
 }
 
 fn input(name: &str, task: &Task, plan: Vec<u8>) -> Input {
-    Input {
-        name: name.to_string(),
-        file: encode(task),
-        plan,
-    }
+    of_file(name, encode(task), plan)
 }
 
 /// The belt of document 01.
@@ -305,13 +356,26 @@ pub fn copied(rows: usize) -> Input {
     )
 }
 
+/// A task whose translation would have about a million rows, so that it is refused by 8.
+pub fn a_million_rows() -> Input {
+    let literal = |fact| Literal { holds: true, fact };
+    let rule = Preference {
+        kind: Kind::Always,
+        hard: false,
+        weight: 7,
+        phi: (0..220).map(|n| vec![literal(n % 60)]).collect(),
+        psi: vec![],
+    };
+    let actions = (0..95).map(|k| action(0, k % 2)).collect();
+    let full = task(actions, vec![rule; 16]);
+    input("refused by 8, a million rows", &full, vec![])
+}
+
 /// The translation of a task, for PDDL.
 pub fn compiled(source: Input) -> Input {
-    Input {
-        name: format!("translation of the {} task", source.name),
-        file: translate(&source.file, MAX_FILE).expect("a translation"),
-        plan: vec![],
-    }
+    let name = format!("translation: {}", source.name);
+    let file = translate(&source.file, MAX_FILE).expect("a translation");
+    of_file(&name, file, vec![])
 }
 
 /// A task of so many rows with the longest domain in PDDL.

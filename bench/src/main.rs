@@ -1,202 +1,200 @@
-//! Measures walk, settle and translate of the library, of the independent Rust and of C on the same inputs, and PDDL of the first
-//! two, and prints tables. It fails where two of them differ.
+//! Measures every operation of the library beside the independent Rust and beside C, on the same inputs, and writes the medians:
+//! `bench`. It fails where two of them differ. `bench once N WHO` makes the one call of line N, for counting its instructions.
 
 mod contenders;
 mod inputs;
 mod measure;
+mod operations;
 
-use contenders::NAMES;
+use contenders::{Answer, Areas, NAMES};
 use inputs::Input;
+use operations::Operation::{self, *};
 use peer::pddl::{MAX_DOMAIN, MAX_PROBLEM};
-use peer::random::MAX_FILE;
+use std::fs;
 use std::hint::black_box;
+use std::path::PathBuf;
 
-type Times = [f64; NAMES.len()];
+/// Where the medians and the inputs of each line are written.
+fn folder() -> PathBuf {
+    PathBuf::from(concat!(env!("CARGO_MANIFEST_DIR"), "/../target/bench"))
+}
 
-fn same<T: PartialEq + std::fmt::Debug>(name: &str, results: &[T]) {
-    for (who, result) in NAMES.iter().zip(results).skip(1) {
-        assert!(result == &results[0], "{name}: {who} differs");
+fn areas(filled: u8) -> Areas {
+    Areas {
+        out: vec![filled; MAX_DOMAIN],
+        other: vec![filled; MAX_PROBLEM],
     }
 }
 
-/// The times of calls whose answers are the same.
-fn timed<T: PartialEq + std::fmt::Debug>(name: &str, run: impl Fn(usize) -> T) -> Times {
-    same(name, &[0, 1, 2, 3].map(&run));
-    measure::medians(|who| {
-        black_box(run(who));
-    })
+/// Fails where the answers or the outputs of two implementations differ, or are refusals that are not measured as such.
+fn agree(operation: Operation, input: &Input) {
+    let result = |who| {
+        let mut areas = areas(0xA5);
+        let answers: [Answer; 2] = operation.call(who, input, &mut areas);
+        (answers, areas.out, areas.other)
+    };
+    let first = result(0);
+    let refused = first.0[0].0 != 0;
+    assert_eq!(refused, input.name.starts_with("refused"), "{}", input.name);
+    for (who, name) in NAMES.iter().enumerate().take(operation.contenders()) {
+        assert!(result(who) == first, "{}: {name} differs", input.name);
+    }
 }
 
-fn walk(input: &Input) -> Times {
-    timed(&input.name, |who| {
-        contenders::walk(who, &input.file, &input.plan)
-    })
-}
-
-/// Settle alone, of what the library's walk gives.
-fn settle(input: &Input) -> Times {
-    let (_, words) = contenders::walk(0, &input.file, &input.plan);
-    timed(&input.name, |who| {
-        contenders::settle(who, &input.file, words[3], words[4])
-    })
-}
-
-fn walk_and_settle(input: &Input) -> Times {
-    let run = |who| contenders::walk_and_settle(who, &input.file, &input.plan);
-    let [walked, settled] = run(0);
-    assert_eq!(
-        (walked.0, walked.1[1], settled.0),
-        (0, 1, 0),
-        "a plan that solves"
-    );
-    timed(&input.name, run)
-}
-
-fn translate(input: &Input) -> Times {
-    let results = [0, 1, 2, 3].map(|who| {
-        let mut out = vec![0xA5; MAX_FILE];
-        let answer = contenders::translate(who, &input.file, &mut out);
-        (answer, out)
+/// For each input the times of so many implementations; all take turns.
+fn times(operation: Operation, inputs: &[&Input], contenders: usize) -> Vec<Vec<f64>> {
+    inputs.iter().for_each(|input| agree(operation, input));
+    let mut areas = areas(0);
+    let times = measure::medians(inputs.len() * contenders, |n| {
+        let (input, who) = (inputs[n / contenders], n % contenders);
+        black_box(operation.call(who, input, &mut areas));
     });
-    assert_eq!(results[0].0 .0, 0, "a translation");
-    same(&input.name, &results);
-    let mut out = vec![0; MAX_FILE];
-    measure::medians(|who| {
-        black_box(contenders::translate(who, &input.file, &mut out));
-    })
+    times.chunks(contenders).map(<[f64]>::to_vec).collect()
 }
 
-fn pddl(input: &Input) -> [f64; 2] {
-    let results = [0, 1].map(|who| {
-        let (mut domain, mut problem) = (vec![0xA5; MAX_DOMAIN], vec![0xA5; MAX_PROBLEM]);
-        let answer = contenders::pddl(who, &input.file, &mut domain, &mut problem);
-        (answer, domain, problem)
-    });
-    assert_eq!(results[0].0 .0, 0, "two texts");
-    same(&input.name, &results);
-    let (mut domain, mut problem) = (vec![0; MAX_DOMAIN], vec![0; MAX_PROBLEM]);
-    measure::medians(|who| {
-        black_box(contenders::pddl(
-            who,
-            &input.file,
-            &mut domain,
-            &mut problem,
-        ));
-    })
+/// The lines beside the others.
+fn lines() -> Vec<(Operation, Vec<Input>)> {
+    let belt = inputs::belt;
+    let middle = inputs::middle;
+    let preferences = || inputs::in_preferences(12_000, 2_048);
+    let action = || inputs::in_action(12_000, 2_048);
+    let each_in_turn = || inputs::many_actions("each in turn", &Vec::from_iter(0..128));
+    let walked = || vec![belt(), middle(), preferences()];
+    vec![
+        (Check, vec![belt(), middle(), preferences(), action()]),
+        (
+            WalkAndSettle,
+            vec![
+                belt(),
+                middle(),
+                preferences(),
+                action(),
+                each_in_turn(),
+                inputs::in_deadlines(12_000, 2_048),
+                inputs::in_hard_rules(12_000, 2_048),
+            ],
+        ),
+        (Walk, walked()),
+        (Settle, walked()),
+        (
+            Translate,
+            vec![
+                belt(),
+                middle(),
+                inputs::in_trackers(12_000, 40),
+                inputs::in_deadline_trackers(12_000, 4),
+                inputs::in_hard_trackers(12_000, 40),
+                inputs::copied(12_000),
+                inputs::a_million_rows(),
+            ],
+        ),
+        (
+            Pddl,
+            vec![
+                inputs::compiled(belt()),
+                inputs::compiled(middle()),
+                inputs::compiled(inputs::in_trackers(12_000, 40)),
+                inputs::longest_domain(12_000),
+                inputs::longest_problem(12_000),
+            ],
+        ),
+        (ReadPlan, vec![belt(), middle(), each_in_turn()]),
+        (WritePlan, vec![belt(), middle(), each_in_turn()]),
+        (WalkText, walked()),
+        (Report, walked()),
+    ]
 }
 
-/// A time with three digits or more.
-fn shown(nanoseconds: f64) -> String {
-    if nanoseconds < 10_000.0 {
-        format!("{nanoseconds:.0} ns")
-    } else if nanoseconds < 10_000_000.0 {
-        format!("{:.1} µs", nanoseconds / 1e3)
-    } else {
-        format!("{:.1} ms", nanoseconds / 1e6)
-    }
-}
-
-fn heading(names: &[&str]) {
-    let ratios: Vec<String> = names[1..]
+fn comparison() -> String {
+    let mut table = format!("operation,input,work,of,{}\n", NAMES.join(","));
+    for (number, (operation, input)) in lines()
         .iter()
-        .map(|name| format!("{} / {name}", names[0]))
-        .collect();
-    println!(
-        "| operation | input | {} | {} |",
-        names.join(" | "),
-        ratios.join(" | ")
-    );
-    println!("|---|---|{}", "---|".repeat(2 * names.len() - 1));
+        .flat_map(|(operation, inputs)| inputs.iter().map(move |input| (*operation, input)))
+        .enumerate()
+    {
+        let times = times(operation, &[input], operation.contenders()).remove(0);
+        let (work, of) = operation.work(input, &mut areas(0));
+        input.save(&folder().join(format!("inputs/{number}")), operation.name());
+        let mut line = format!("{},\"{}\",{work},{of}", operation.name(), input.name);
+        for who in 0..NAMES.len() {
+            line += &times
+                .get(who)
+                .map_or(",".to_string(), |time| format!(",{time:.1}"));
+        }
+        println!("{line}");
+        table += &format!("{line}\n");
+    }
+    table
 }
 
-fn line(operation: &str, input: &Input, times: &[f64]) {
-    let columns: Vec<String> = times.iter().map(|&time| shown(time)).collect();
-    let ratios: Vec<String> = times[1..]
-        .iter()
-        .map(|time| format!("{:.2}", times[0] / time))
-        .collect();
-    println!(
-        "| {operation} | {} | {} | {} |",
-        input.name,
-        columns.join(" | "),
-        ratios.join(" | ")
-    );
+/// One series of the plot: an operation, what grows, and the inputs with how much of it they have.
+type Series = (Operation, &'static str, Vec<(usize, Input)>);
+
+fn grown(of: impl Fn(usize) -> Input, sizes: &[usize]) -> Vec<(usize, Input)> {
+    sizes.iter().map(|&size| (size, of(size))).collect()
 }
 
-fn comparison() {
-    heading(&NAMES);
-    let walked = [
-        inputs::belt(),
-        inputs::middle(),
-        inputs::in_preferences(12_000, 2_048),
-        inputs::in_action(12_000, 2_048),
-        inputs::many_actions("each in turn", &Vec::from_iter(0..128)),
-        inputs::in_deadlines(12_000, 2_048),
-        inputs::in_hard_rules(12_000, 2_048),
-    ];
-    for input in &walked {
-        line("walk and settle", input, &walk_and_settle(input));
-    }
-    for input in &walked[1..3] {
-        line("walk", input, &walk(input));
-        line("settle", input, &settle(input));
-    }
-    let translated = [
-        inputs::belt(),
-        inputs::middle(),
-        inputs::in_trackers(12_000, 40),
-        inputs::in_deadline_trackers(12_000, 4),
-        inputs::in_hard_trackers(12_000, 40),
-        inputs::copied(12_000),
-    ];
-    for input in &translated {
-        line("translate", input, &translate(input));
-    }
-    println!();
-    heading(&NAMES[..2]);
-    let written = [
-        inputs::compiled(inputs::belt()),
-        inputs::compiled(inputs::middle()),
-        inputs::longest_domain(12_000),
-        inputs::longest_problem(12_000),
-    ];
-    for input in &written {
-        line("pddl", input, &pddl(input));
-    }
+fn series() -> Vec<Series> {
+    let rows = [1_500, 3_000, 6_000, 12_000];
+    let steps = [128, 256, 512, 1_024, 2_048];
+    let by_rows = |rows| inputs::in_preferences(rows, 2_048);
+    let by_steps = |steps| inputs::in_preferences(12_000, steps);
+    let by_action = |k: usize| inputs::many_actions(&format!("action {k}"), &[k as u8]);
+    vec![
+        (Check, "rows", grown(by_rows, &rows)),
+        (Settle, "rows", grown(by_rows, &rows)),
+        (
+            Translate,
+            "rows written, 2 actions",
+            grown(|rows| inputs::in_trackers(rows, 2), &rows),
+        ),
+        (Walk, "rows, 2,048 steps", grown(by_rows, &rows)),
+        (Walk, "steps, 12,000 rows", grown(by_steps, &steps)),
+        (
+            Walk,
+            "number of the action, 2,048 steps",
+            grown(by_action, &[0, 31, 63, 95, 127]),
+        ),
+        (
+            Pddl,
+            "rows, the longest domain",
+            grown(inputs::longest_domain, &rows),
+        ),
+        (ReadPlan, "steps", grown(by_steps, &steps)),
+        (WritePlan, "steps", grown(by_steps, &steps)),
+    ]
 }
 
-/// A line with the library's time alone.
-fn grown(operation: &str, input: &Input, times: Times) {
-    println!("| {operation} | {} | {} |", input.name, shown(times[0]));
-}
-
-fn growth() {
-    println!("\n| operation | input | library |\n|---|---|---|");
-    for rows in [1_500, 3_000, 6_000, 12_000] {
-        let input = inputs::in_preferences(rows, 2_048);
-        grown("walk and settle", &input, walk_and_settle(&input));
-    }
-    for steps in [256, 512, 1_024, 2_048] {
-        let input = inputs::in_preferences(12_000, steps);
-        grown("walk and settle", &input, walk_and_settle(&input));
-    }
-    for k in [0, 31, 63, 95, 127] {
-        let input = inputs::many_actions(&format!("action {k}"), &[k]);
-        grown("walk and settle", &input, walk_and_settle(&input));
-    }
-    for rows in [1_500, 3_000, 6_000, 12_000] {
-        let input = inputs::in_trackers(rows, 2);
-        grown("translate", &input, translate(&input));
-    }
-    for of in [inputs::longest_domain, inputs::longest_problem] {
-        for rows in [1_500, 3_000, 6_000, 12_000] {
-            let input = of(rows);
-            println!("| pddl | {} | {} |", input.name, shown(pddl(&input)[0]));
+fn growth() -> String {
+    let mut table = format!("operation,grows,size,{}\n", NAMES[..3].join(","));
+    for (operation, grows, sized) in series() {
+        let inputs: Vec<&Input> = sized.iter().map(|(_, input)| input).collect();
+        for ((size, _), times) in sized.iter().zip(times(operation, &inputs, 3)) {
+            let [library, rust, plain] = times[..] else {
+                unreachable!("three times")
+            };
+            let name = operation.name();
+            let line = format!("{name},\"{grows}\",{size},{library:.1},{rust:.1},{plain:.1}");
+            println!("{line}");
+            table += &format!("{line}\n");
         }
     }
+    table
 }
 
 fn main() {
-    comparison();
-    growth();
+    let words: Vec<String> = std::env::args().collect();
+    if let [_, once, number, who] = words.as_slice() {
+        assert_eq!(once, "once");
+        let (name, input) = Input::load(&folder().join(format!("inputs/{number}")));
+        let operation = operations::ALL
+            .into_iter()
+            .find(|operation| operation.name() == name);
+        let operation = operation.expect("an operation");
+        let who = NAMES.iter().position(|name| name == who).expect("a name");
+        black_box(operation.call(who, &input, &mut areas(0)));
+        return;
+    }
+    fs::write(folder().join("times.csv"), comparison()).expect("times");
+    fs::write(folder().join("growth.csv"), growth()).expect("growth");
 }

@@ -21,13 +21,14 @@ fn now() -> f64 {
     time.seconds as f64 * 1e9 + time.nanoseconds as f64
 }
 
-/// Nanoseconds of one call, for each implementation. A round calls each so often that its clock reading is worth something.
-pub fn medians<const N: usize>(mut call: impl FnMut(usize)) -> [f64; N] {
-    let times: [u32; N] = std::array::from_fn(|who| repeats(|| call(who)));
+/// Nanoseconds of one call, for each of so many implementations. A round calls each so often that its clock reading is worth
+/// something.
+pub fn medians(count: usize, mut call: impl FnMut(usize)) -> Vec<f64> {
+    let times: Vec<u32> = (0..count).map(|who| repeats(|| call(who))).collect();
     let rounds = 41;
-    let mut seen = [(); N].map(|()| Vec::with_capacity(rounds));
+    let mut seen = vec![Vec::with_capacity(rounds); count];
     for _ in 0..rounds {
-        for who in 0..N {
+        for who in 0..count {
             let start = now();
             for _ in 0..times[who] {
                 call(who);
@@ -35,7 +36,7 @@ pub fn medians<const N: usize>(mut call: impl FnMut(usize)) -> [f64; N] {
             seen[who].push((now() - start) / f64::from(times[who]));
         }
     }
-    seen.map(median)
+    seen.into_iter().map(median).collect()
 }
 
 /// How many calls take about a millisecond; these calls warm the buffers.

@@ -1,0 +1,93 @@
+//! The operations that are measured, and one call of one of them.
+
+use crate::contenders::{self, Answer, Areas};
+use crate::inputs::Input;
+
+#[derive(Clone, Copy, PartialEq, Eq)]
+pub enum Operation {
+    Check,
+    WalkAndSettle,
+    Walk,
+    Settle,
+    Translate,
+    Pddl,
+    ReadPlan,
+    WritePlan,
+    WalkText,
+    Report,
+}
+
+use Operation::*;
+
+pub const ALL: [Operation; 10] = [
+    Check,
+    WalkAndSettle,
+    Walk,
+    Settle,
+    Translate,
+    Pddl,
+    ReadPlan,
+    WritePlan,
+    WalkText,
+    Report,
+];
+
+impl Operation {
+    pub fn name(self) -> &'static str {
+        match self {
+            Check => "check",
+            WalkAndSettle => "walk and settle",
+            Walk => "walk",
+            Settle => "settle",
+            Translate => "translate",
+            Pddl => "pddl",
+            ReadPlan => "read_plan",
+            WritePlan => "write_plan",
+            WalkText => "walk_text",
+            Report => "report",
+        }
+    }
+
+    /// How many implementations it has: tuned C has walk and translate alone.
+    pub fn contenders(self) -> usize {
+        match self {
+            WalkAndSettle | Walk | Translate => 4,
+            _ => 3,
+        }
+    }
+
+    pub fn call(self, who: usize, input: &Input, areas: &mut Areas) -> [Answer; 2] {
+        let none = (0, [0; 8]);
+        match self {
+            Check => [contenders::check(who, input), none],
+            WalkAndSettle => contenders::walk_and_settle(who, input),
+            Walk => [contenders::walk(who, input), none],
+            Settle => [
+                contenders::settle(who, &input.file, input.cost, input.met),
+                none,
+            ],
+            Translate => [contenders::translate(who, input, areas), none],
+            Pddl => [contenders::pddl(who, input, areas), none],
+            ReadPlan => [contenders::read_plan(who, input, areas), none],
+            WritePlan => [contenders::write_plan(who, input, areas), none],
+            WalkText => [contenders::walk_text(who, input), none],
+            Report => [contenders::report(who, input, areas), none],
+        }
+    }
+
+    /// What its work is counted in, and how many of these it has on an input.
+    pub fn work(self, input: &Input, areas: &mut Areas) -> (u64, &'static str) {
+        let rows = (input.file.len() as u64 - 8) / 5;
+        match self {
+            Check | Settle | Pddl => (rows, "rows"),
+            Translate => match self.call(0, input, areas)[0] {
+                (0, words) => ((words[1] - 8) / 5, "rows written"),
+                _ => (rows, "rows"),
+            },
+            ReadPlan | WritePlan => (input.plan.len() as u64, "steps"),
+            WalkAndSettle | Walk | WalkText | Report => {
+                (Walk.call(0, input, areas)[0].1[5], "literals")
+            }
+        }
+    }
+}

@@ -1,0 +1,21 @@
+/* What an execution lends, made from the fuzzer's bytes in this order: a byte of choices, six of rooms, two of a cost, three of met
+ * preferences, the plan's length and steps, two bytes of the text and its bytes, and the file. */
+#include "plain.h"
+
+enum { PLAN_ROOM = 4096, TEXT_ROOM = ROUTE_RULES_MAX_TEXT + 16, FILE_ROOM = ROUTE_RULES_MAX_FILE + 5 };
+
+/* Output areas, each with a room byte of its own. */
+enum { TO_TRANSLATE, TO_REPORT, TO_READ, TO_WRITE, TO_DOMAIN, TO_PROBLEM, ROOMS };
+
+typedef struct {
+    int at_end; /* areas touch the page without access with their end */
+    uint8_t rooms[ROOMS];
+    uint64_t cost, met;
+    uint8_t plan[PLAN_ROOM], text[TEXT_ROOM], file[FILE_ROOM];
+    size_t steps, text_length, file_length;
+} Input;
+
+void make_input(Input *in, const uint8_t *bytes, size_t size);
+
+/* The room for an output of this length: a byte short, any small one, just enough, or some bytes more. */
+size_t room_for(uint8_t byte, size_t length);

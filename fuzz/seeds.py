@@ -1,0 +1,146 @@
+#!/usr/bin/env python3
+"""Writes the fuzzer's first inputs: every refusal of every operation, every verdict, every form of a row and of a line.
+
+fuzz/seeds.py FOLDER
+"""
+import os
+import random
+import sys
+
+ROOT = os.path.dirname(os.path.dirname(os.path.abspath(__file__)))
+sys.path[:0] = [os.path.join(ROOT, 'tests'), os.path.join(ROOT, 'tools')]
+from shared.files import BELT, PREFERENCES, file, preference, spelled
+import task
+
+# The choices, and the modes of a room, as fuzz/inputs.c reads them.
+AT_END_OF_PAGE, MADE_FILE, ANY_STEPS, CUT_MET, MADE_TEXT, SPELLED_FILE = 1, 2, 4, 8, 16, 32
+BYTE_SHORT, SMALL, EXACT, MORE = 0, 1, 2, 3
+LONG_PLAN, LONGEST_PLAN = 253, 252  # 2,049 steps and 2,048
+FILLED, CUT, BOTH = 15, 14, 13      # a text is filled up, loses its last byte, or both
+
+
+def seed(data, plan=b'\0', text=b'(a0)\n', choice=0, room=EXACT, cost=(0, 3), met=(2, 0, 255), how=0, steps=None):
+    """An input: a file, a plan (`steps` is the byte of its length), a text, and what else fuzz/inputs.c reads."""
+    rooms = [room] * 6 if isinstance(room, int) else room
+    return bytes([choice, *rooms, *cost, *met, len(plan) if steps is None else steps, *plan, how, len(text), *text]) + data
+
+
+def made(rows, facts, repeat=0):
+    """The bytes from which fuzz/inputs.c makes a file: rows, or rows in words, each literal 256 times where `repeat` is 255."""
+    rows = spelled(rows) if isinstance(rows, str) else rows
+    return bytes([facts - 1, 0, repeat]) + bytes(byte for mark, value in rows for byte in (mark, min(value, 250)))
+
+
+def text_of(plan):
+    return b''.join(b'(a%d)\n' % step for step in plan)
+
+
+def examples():
+    """The examples' tasks; the batch house with its plans, and their texts."""
+    for name in ('belt', 'batch_house'):
+        folder = os.path.join(ROOT, 'examples', name)
+        words = task.Text(open(os.path.join(folder, 'task.txt')).read())
+        rows = made([(task.MARK[name], value) for name, value in words.rows], words.count)
+        for end in (0, AT_END_OF_PAGE):
+            yield seed(words.file(), choice=end)
+            yield seed(words.file(), choice=end, room=BYTE_SHORT, plan=b'\3\4\3', text=b'(a3)\n(a4)\n(a3)\n')
+            yield seed(rows, choice=MADE_FILE + end)
+    for name in sorted(os.listdir(os.path.join(folder, 'plans'))):
+        plan = words.plan(open(os.path.join(folder, 'plans', name)).read())
+        yield seed(words.file(), plan=plan, text=text_of(plan))
+        yield seed(rows, plan=plan, text=plan, choice=MADE_FILE + MADE_TEXT)
+
+
+def refusals():
+    """Each refusal of a file, and those of the operations."""
+    belt = file(BELT, F=2)
+    yield from (seed(data) for data in (
+        belt[:7], file(BELT, F=0), file(BELT, F=129), belt + b'\0', file('GOAL CLAUSE'), file('GOAL START'), file('START'),
+        file('GOAL CLAUSE HOLDS 4'), file('START 1 START 1 GOAL'), file(BELT, F=2, A=3), file(BELT, F=2, P=1)))
+    yield seed(file('GOAL', F=126))                                              # 7
+    yield seed(file('GOAL', F=127))
+    for actions in (127, 128):
+        yield seed(made('GOAL' + ' ACTION 1' * actions, 1), choice=MADE_FILE)
+    yield seed(file('GOAL' + preference('always', 1) * 16, F=79))
+    for effects in (81, 82, 83):                                                 # 8: 11,918 rows in the translation, and so many more
+        rows = 'GOAL' + ' ACTION 1' * 22 + ' EFFECT' * effects + ' always 1 CLAUSE HOLDS 0'
+        yield seed(made(rows, 2, repeat=255), choice=MADE_FILE)
+    yield seed(made('GOAL CLAUSE' + ' LACKS 127' * 47, 128, repeat=255), choice=MADE_FILE)  # 12,000 rows
+    for room in (BYTE_SHORT, SMALL, MORE, EXACT):                                # 9 and 14
+        yield seed(belt, room=room)
+        yield seed(file('GOAL', F=1), room=room)
+    yield seed(file('GOAL ACTION 3', F=1), room=[EXACT] * 5 + [BYTE_SHORT])
+    yield seed(file('GOAL ACTION 3', F=1), room=[EXACT] * 4 + [BYTE_SHORT, EXACT])
+    yield seed(belt, plan=b'\0' * 8, steps=LONG_PLAN)                            # 10
+    yield seed(belt, plan=b'\0' * 8, steps=LONGEST_PLAN)
+    yield seed(belt, plan=b'\0\2', text=b'(a0)\n(a2)\n')                         # 11
+    yield seed(belt, cost=(2, 128))                                              # 15: the limit, and one more
+    yield seed(belt, cost=(2, 129))
+    yield seed(belt, met=(4, 0, 255))
+    yield seed(belt, met=(3, 0, 63))
+    yield seed(belt, met=(255, 255, 255), choice=CUT_MET)
+
+
+def texts():
+    """Lines of every form, numbers of every length, and texts and plans at their limits."""
+    belt = file(BELT, F=2)
+    yield from (seed(belt, text=text) for text in (
+        b'', b'\n', b';\n', b';', b'; (a0)\n(a1)\n', b'(a0)\n;\n(a0)\n(a1)', b'(a)\n', b'(a01)\n', b'(a0\n', b'(a1))\n', b'(b1)\n',
+        b'a1)\n', b'(a1)\r\n', b'(a1) \n', b'(a:)\n', b'(a/)\n',
+        b'(a9)\n(a10)\n(a99)\n(a100)\n(a254)\n(a255)\n(a256)\n(a2560)\n(a99999999999999999999)\n'))
+    for byte in range(192, 224):                                                 # the odd lines, after good ones
+        yield seed(belt, text=bytes([1, 160, byte]), choice=MADE_TEXT)
+    for how in range(16):
+        yield seed(belt, text=bytes([1, 160, 2]), choice=MADE_TEXT, how=FILLED + 16 * how)
+        yield seed(belt, text=bytes([1, 160, 2]), choice=MADE_TEXT, how=BOTH + 16 * how)
+    yield seed(belt, text=b'\1\2', choice=MADE_TEXT, how=CUT)
+    for steps in (b'\0\x09\x0a\x63\x64\xff', bytes(range(98, 106)), b''):
+        for room in (EXACT, BYTE_SHORT):
+            yield seed(belt, plan=steps, choice=ANY_STEPS, room=room)
+
+
+def kinds():
+    """Each kind, soft and hard, met and missed, with conditions of every form."""
+    condition = 'CLAUSE HOLDS 0 CLAUSE LACKS 1 HOLDS 2'
+    actions = ' ACTION 3 EFFECT ADD 0 DELETE 1 ACTION 1000000 CLAUSE HOLDS 0 EFFECT CLAUSE HOLDS 0 LACKS 2 ADD 1 ADD 2 DELETE 0 EFFECT'
+    for kind in PREFERENCES:
+        for phi, psi in ((condition, 'CLAUSE HOLDS 1'), ('CLAUSE HOLDS 1', condition), ('', 'CLAUSE LACKS 0')):
+            rows = 'START 1 START 2 GOAL CLAUSE LACKS 3' + actions + preference(kind, 250000, phi, psi, steps=1) * 2
+            yield seed(file(rows), plan=b'\0\1', text=b'(a0)\n(a1)\n')
+            for plan in (b'', b'\0', b'\0\1', b'\0\1\0', b'\1', b'\0\1\0\1\0'):
+                yield seed(made(rows, 4), plan=plan, text=plan, choice=MADE_FILE + MADE_TEXT)
+    yield seed(file('GOAL CLAUSE HOLDS 1' + actions), plan=b'\0')                # goal missed
+
+
+def values():
+    """Of each mark the greatest value, and one more; a fact that is added and deleted."""
+    start = 'START 1 GOAL CLAUSE HOLDS 1'
+    edges = [f'{start} {mark} {amount}' for mark in ('ACTION', 'always') for amount in (1000000, 1000001, 2 ** 32 - 1)]
+    edges += ['GOAL 1', 'START 4 GOAL']
+    edges += [f'{start} {row}' for row in ('LACKS 3', 'LACKS 4', 'CLAUSE 1 HOLDS 1', 'ACTION EFFECT 1', 'ACTION EFFECT ADD 4',
+                                           'ACTION EFFECT DELETE 4', 'hard-always 1', 'sometime-before 1 SECOND 1')]
+    edges += [f'{start} {kind} STEPS {steps} {rest}' for steps in (15, 16)
+              for kind, rest in (('within', ''), ('hard-always-within', 'SECOND'))]
+    edges += [f'{start} ACTION EFFECT ADD 0 DELETE 0', f'{start} ACTION EFFECT DELETE 0 EFFECT ADD 0']
+    for rows in edges:
+        yield seed(file(rows))
+
+
+def spelled_tasks():
+    """Chance tasks in the order of rows, with plans of their first actions."""
+    chance = random.Random(1)
+    for _ in range(120):
+        plan = bytes(chance.randrange(3) for _ in range(chance.randrange(8)))
+        yield seed(chance.randbytes(250), plan=plan, text=plan, choice=SPELLED_FILE + MADE_TEXT + chance.randrange(2))
+
+
+def main(folder):
+    os.makedirs(folder, exist_ok=True)
+    for group in (examples, refusals, texts, kinds, values, spelled_tasks):
+        for number, data in enumerate(group()):
+            with open(os.path.join(folder, f'{group.__name__}_{number}'), 'wb') as out:
+                out.write(data)
+
+
+if __name__ == '__main__':
+    main(*sys.argv[1:])
