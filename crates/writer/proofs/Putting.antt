@@ -17,6 +17,7 @@ use Rattle.task.proofs.Reading.{row-at}
 use Rattle.layout.specs.Sides.{stretch}
 use Rattle.writer.specs.Writer.{rowAfter, putRow, putRows, Room, Wrote, header}
 use Rattle.writer.specs.declared.Cursor.{Cursor}
+use Rattle.writer.proofs.Blocks.{as-blocks}
 
 -- Rows put in turn
 
@@ -70,15 +71,15 @@ pub wrote-full : {b : List ℕ} {c : Cursor} (xs : List Row) → Room c b → 12
 wrote-full {b} {c} xs r l =
     record { room = r; same = refl; next = omega arith; file = sym (none-put-on b (c .rows) (c .next) xs (omega (arith, r .few))) }
 
--- a row that the file has no room for
-pub wrote-past : (b : List ℕ) (c : Cursor) (m v : ℕ) (r : Cursor) → Room c b → c .rows ≤ c .next → (r .rows ≡ c .rows) × (r .next ≡ rowAfter (c .next) 1)
-    → Wrote b c (row m v ∷ []) r b
-wrote-past b c m v r room h p =
+-- rows that the file has no room for
+pub wrote-past : (b : List ℕ) (c : Cursor) (xs : List Row) (r : Cursor) → Room c b → c .rows ≤ c .next → (r .rows ≡ c .rows) × (r .next ≡ rowAfter (c .next) (length xs))
+    → Wrote b c xs r b
+wrote-past b c xs r room h p =
     record {
       room = record { few = omega (arith, room .few, p .0); long = omega (arith, room .long, p .0) };
       same = p .0;
       next = p .1;
-      file = sym (none-put b (c .rows) (c .next) m v h);
+      file = sym (none-put-on b (c .rows) (c .next) xs h);
     }
 
 -- the same rows in another form
@@ -102,7 +103,7 @@ kept-none r = record { size = refl; room = r }
 pub kept-on : {b out out' : List ℕ} {k r : Cursor} {xs : List Row} → Kept b out k → length out' ≡ length out → Wrote out k xs r out' → Kept b out' r
 kept-on s e w = record { size = e ∙ s .size; room = w .room }
 
--- A part of the rows that a loop copies
+-- A part of the rows that a loop goes through
 
 module _ (ms vs : List ℕ) (j to : ℕ) where
   pub next-row : j < to → j < length ms → stretch ms vs j to ≡ row (getD ms j 0) (valueAt vs j) ∷ stretch ms vs (j + 1) to
@@ -119,46 +120,6 @@ sizes-put b b₁ b₂ b₃ b₄ F A P n p q r s =
     s ∙ ap (λ (l : List ℕ). sets l 6 (bytes16 n)) (r ∙ ap (λ (l : List ℕ). sets l 4 (bytes16 P)) (q ∙ ap (λ (l : List ℕ). sets l 2 (bytes16 A)) p))
 
 -- The whole file
-
-values-append : (xs ys : List Row) → valueBytes (xs ++ ys) ≡ valueBytes xs ++ valueBytes ys
-values-append [] ys = refl
-values-append (x ∷ xs) ys = ap (λ (r : List ℕ). bytes32 (x .value) ++ r) (values-append xs ys)
-
--- a store below a run of stores
-set-sets : (vs l : List ℕ) (j k a : ℕ) → j < k → set (sets l k vs) j a ≡ sets (set l j a) k vs
-set-sets [] l j k a h = refl
-set-sets (v ∷ vs) l j k a h =
-    set-sets vs (set l k v) j (suc k) a (omega arith) ∙ ap (λ (r : List ℕ). sets r (suc k) vs) (set-comm l k j v a (λ e. omega arith))
-
-sets-append : (xs ys l : List ℕ) (k : ℕ) → sets l k (xs ++ ys) ≡ sets (sets l k xs) (k + length xs) ys
-sets-append [] ys l k = rw add-zero
-sets-append (x ∷ xs) ys l k =
-    let e : suc k + length xs ≡ k + suc (length xs) = omega arith in
-    sets-append xs ys (set l k x) (suc k) ∙ rw e
-
--- the file when the rows ys are put, of n
-abbrev written : List ℕ → ℕ → List Row → List ℕ
-written b n ys = sets (sets b 8 (marks ys)) (8 + n) (valueBytes ys)
-
--- one row more, with its mark after the marks ms and its bytes vs after the bytes ws
-put-after : (ms ws vs b : List ℕ) (n i m : ℕ) → length ms ≡ i → length ws ≡ 4 * i → i < n
-    → sets (set (sets (sets b 8 ms) (8 + n) ws) (8 + i) m) (8 + n + 4 * i) vs ≡ sets (sets b 8 (ms ++ (m ∷ []))) (8 + n) (ws ++ vs)
-put-after ms ws vs b n i m p q h =
-    let l : 8 + i < 8 + n = omega arith in
-    rw (set-sets ws (sets b 8 ms) (8 + i) (8 + n) m l, sets-append ms (m ∷ []) b 8, sets-append ws vs, p, q)
-
-one-more : (b : List ℕ) (n : ℕ) (ys : List Row) (x : Row) → length ys < n
-    → putRow (written b n ys) n (length ys) (x .mark) (x .value) ≡ written b n (ys ++ (x ∷ []))
-unfolding putRow
-one-more b n ys x h = rw (lt-ltb (length ys) n h)
-    (put-after (marks ys) (valueBytes ys) (bytes32 (x .value)) b n (length ys) (x .mark) (length-map ys (λ (y : Row). y .mark)) (length-values ys) h
-    ∙ ap₂ (λ (ms ws : List ℕ). sets (sets b 8 ms) (8 + n) ws) (sym (map-append (λ (y : Row). y .mark) ys (x ∷ []))) (sym (values-append ys (x ∷ []))))
-
-all-put : (b : List ℕ) (n : ℕ) (ys xs : List Row) → length ys + length xs ≡ n → putRows (written b n ys) n (length ys) xs ≡ written b n (ys ++ xs)
-all-put b n ys [] h = ap (written b n) (sym (append-nil ys))
-all-put b n ys (x ∷ xs) h =
-    let e : length (ys ++ (x ∷ [])) ≡ length ys + 1 = length-append ys (x ∷ []) in
-    rw (one-more b n ys x (omega arith), ← e) (all-put b n (ys ++ (x ∷ [])) xs (omega arith)) ∙ ap (written b n) (append-assoc ys (x ∷ []) xs)
 
 -- a run of stores after a front
 sets-after : (front back vs : List ℕ) (k : ℕ) → length front ≡ k → length vs ≤ length back → sets (front ++ back) k vs ≡ front ++ vs ++ drop (length vs) back
@@ -181,7 +142,9 @@ split b ms ws n p q l =
 pub whole : (b : List ℕ) (xs : List Row) → 8 + 5 * length xs ≤ length b
     → putRows b (length xs) 0 xs ≡ take 8 b ++ marks xs ++ valueBytes xs ++ drop (8 + 5 * length xs) b
 whole b xs h =
-    all-put b (length xs) [] xs (omega arith)
+    let e : 8 + length xs + 4 * 0 ≡ 8 + length xs = omega arith in
+    as-blocks b (length xs) 0 xs (omega arith)
+    ∙ ap (λ (k : ℕ). sets (sets b 8 (marks xs)) k (valueBytes xs)) e
     ∙ split b (marks xs) (valueBytes xs) (length xs) (length-map xs (λ (x : Row). x .mark)) (length-values xs) h
 
 -- with the sizes already written, that is the file of the rows, and then what stood after it

@@ -8,6 +8,7 @@ use lib.ListN.{set, length}
 use lib.Seq.{sets}
 use Rattle.task.specs.TaskRows.{Row}
 use Rattle.task.specs.File.{bytes16, bytes32}
+use Rattle.layout.specs.declared.sides.Span.{Span}
 use Rattle.writer.specs.declared.Cursor.{Cursor}
 use Rattle.task.specs.Limits.{MAX-ROWS}
 
@@ -39,6 +40,11 @@ pub record Wrote (b : List ℕ) (c : Cursor) (xs : List Row) (r : Cursor) (out :
   pub same : r .rows ≡ c .rows
   pub next : r .next ≡ rowAfter (c .next) (length xs)
   pub file : out ≡ putRows b (c .rows) (c .next) xs
+
+-- the rows xs stand where s says in a file of n rows: to put them there again changes nothing
+pub record Standing (b : List ℕ) (n : ℕ) (s : Span) (xs : List Row) : Type 0 where
+  pub counted : s .to ≡ rowAfter (s .from) (length xs)
+  pub there : putRows b n (s .from) xs ≡ b
 
 -- the four sizes of a file
 abbrev pub header : ℕ → ℕ → ℕ → ℕ → List ℕ

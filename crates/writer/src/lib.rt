@@ -1,18 +1,17 @@
 // Rows, written into a file that has room for them, or only counted where the file has none.
 ghost use mathlib.Core.Path.{_≡_};
-ghost use mathlib.Core.List.{[], _∷_};
-ghost use Prim.Native.Nat.{_+_, _*_, _≤_, _<_};
-ghost use lib.ListN.{length};
+ghost use mathlib.Core.List.{List, [], _∷_};
+ghost use Prim.Native.Nat.{_+_, _*_, _-_, _≤_, _<_, min};
+ghost use lib.ListN.{length, take, drop};
 ghost use lib.Seq.{sets};
 ghost use Rattle.task.specs.Marks.{CLAUSE};
-ghost use Rattle.task.specs.TaskRows.{row};
+ghost use Rattle.task.specs.TaskRows.{Row, row};
 ghost use Rattle.task.specs.File.{bytes16, bytes32};
 ghost use Rattle.task.specs.Rows.{Rows};
 ghost use Rattle.layout.specs.Sides.{part};
-ghost use Rattle.writer.specs.Writer.{rowAfter, putRow, Room, Wrote, header};
+ghost use Rattle.writer.specs.Writer.{rowAfter, putRow, putRows, Room, Wrote, Standing, header};
 use layout::sides::Span;
 use task::marks;
-use task::rows;
 
 // One row more than a file may have: a count that has come this far stays, and every loop that counts ends.
 pub const TOO_MANY: usize = 12001;
@@ -46,18 +45,25 @@ fn store_row(out: &mut [u8], c: Cursor, mark: u8, value: u32)
     put_word(&mut *out, k, value);
 }
 
-// The cursor after one row.
-fn advance(c: Cursor) -> Cursor
-    ensures { λ r. ⌜ (r .rows ≡ c .rows) × (r .next ≡ rowAfter (c .next) 1) ⌝ }
+// The cursor after so many rows.
+fn advance(c: Cursor, many: usize) -> Cursor
+    ensures { λ r. ⌜ (r .rows ≡ c .rows) × (r .next ≡ rowAfter (c .next) many) ⌝ }
 {
     let rows = c.rows;
-    if c.next < TOO_MANY {
+    let next = c.next;
+    if TOO_MANY <= next {
+        return c;
+    }
+    if TOO_MANY - next <= many {
         return Cursor {
             rows,
-            next: c.next + 1,
+            next: TOO_MANY,
         };
     }
-    c
+    Cursor {
+        rows,
+        next: next + many,
+    }
 }
 
 // Writes the next row, if the file has room for it.
@@ -66,10 +72,45 @@ pub fn put_row(out: &mut [u8], c: Cursor, mark: u8, value: u32) -> Cursor
     ensures { λ r. ⌜ Wrote (now (out .entry)) c (row mark value ∷ []) r (now (out .exit)) ⌝ }
 {
     if c.rows <= c.next {
-        return advance(c);
+        return advance(c, 1);
     }
     store_row(&mut *out, c, mark, value);
-    advance(c)
+    advance(c, 1)
+}
+
+// How many of so many rows the file has room for.
+fn fitting(c: Cursor, many: usize) -> usize
+    requires { ⌜ c .next < c .rows ⌝ }
+    ensures { λ r. ⌜ r ≡ min many (c .rows - c .next) ⌝ }
+{
+    let left = c.rows - c.next;
+    if many <= left { many } else { left }
+}
+
+// Copies so many bytes, from byte `from` of the source to byte `at`.
+fn copy_bytes(out: &mut [u8], at: usize, source: &[u8], from: usize, many: usize)
+    requires { ⌜ (at + many ≤ length (now out)) × (from + many ≤ length (now source)) ⌝ }
+    ensures { λ r. ⌜ now (out .exit) ≡ sets (now (out .entry)) at (take many (drop from (now (source .entry)))) ⌝ }
+{
+    let mut j = 0;
+    while j < many {
+        out[at + j] = source[from + j];
+        j += 1;
+    }
+}
+
+// Writes rows of the source, for the first of which there is room.
+fn store_rows(out: &mut [u8], c: Cursor, marks: &[u8], values: &[u8], s: Span)
+    requires { ⌜ (c .next < c .rows) × Room c (now out) × Rows (now marks) (now values) × (s .from ≤ s .to) × (s .to ≤ length (now marks)) ⌝ }
+    ensures { λ r. ⌜ now (out .exit) ≡ putRows (now (out .entry)) (c .rows) (c .next) (part (now (marks .entry)) (now (values .entry)) s) ⌝ }
+{
+    let i = c.next;
+    let from = s.from;
+    let many = fitting(c, s.to - from);
+    let at = 8 + i;
+    copy_bytes(&mut *out, at, marks, from, many);
+    let beside = 8 + c.rows + 4 * i;
+    copy_bytes(&mut *out, beside, values, 4 * from, 4 * many);
 }
 
 // Copies rows of the source.
@@ -77,17 +118,53 @@ pub fn copy_rows(out: &mut [u8], c: Cursor, marks: &[u8], values: &[u8], s: Span
     requires { ⌜ Room c (now out) × Rows (now marks) (now values) × (s .to ≤ length (now marks)) ⌝ }
     ensures { λ r. ⌜ Wrote (now (out .entry)) c (part (now (marks .entry)) (now (values .entry)) s) r (now (out .exit)) ⌝ }
 {
-    let to = s.to;
-    let mut j = s.from;
-    let mut k = c;
-    while j < to {
-        if TOO_MANY <= k.next {
-            return k;
-        }
-        k = put_row(&mut *out, k, marks[j], rows::value_at(values, j));
+    if s.to <= s.from {
+        return c;
+    }
+    let many = s.to - s.from;
+    if c.next >= c.rows {
+        return advance(c, many);
+    }
+    store_rows(&mut *out, c, marks, values, s);
+    advance(c, many)
+}
+
+// Copies so many bytes of the area itself, from byte `from` to byte `at`, which lies after them.
+fn repeat_bytes(out: &mut [u8], at: usize, from: usize, many: usize)
+    requires { ⌜ (from + many ≤ at) × (at + many ≤ length (now out)) ⌝ }
+    ensures { λ r. ⌜ now (out .exit) ≡ sets (now (out .entry)) at (take many (drop from (now (out .entry)))) ⌝ }
+{
+    let mut j = 0;
+    while j < many {
+        out[at + j] = out[from + j];
         j += 1;
     }
-    k
+}
+
+// Writes rows of the file once more, for the first of which there is room.
+fn store_again(out: &mut [u8], c: Cursor, s: Span)
+    requires { ⌜ (c .next < c .rows) × Room c (now out) × (s .from ≤ s .to) × (s .to ≤ c .next) ⌝ }
+    ensures { λ r. ⌜ ((xs : List Row) → Standing (now (out .entry)) (c .rows) s xs → now (out .exit) ≡ putRows (now (out .entry)) (c .rows) (c .next) xs) ⌝ }
+{
+    let i = c.next;
+    let from = s.from;
+    let many = fitting(c, s.to - from);
+    repeat_bytes(&mut *out, 8 + i, 8 + from, many);
+    let values = 8 + c.rows;
+    repeat_bytes(&mut *out, values + 4 * i, values + 4 * from, 4 * many);
+}
+
+// Writes rows again that were written before.
+pub fn repeat_rows(out: &mut [u8], c: Cursor, s: Span) -> Cursor
+    requires { ⌜ Room c (now out) × (s .from ≤ s .to) × (s .to ≤ c .next) ⌝ }
+    ensures { λ r. ⌜ ((xs : List Row) → Standing (now (out .entry)) (c .rows) s xs → Wrote (now (out .entry)) c xs r (now (out .exit))) ⌝ }
+{
+    let many = s.to - s.from;
+    if c.next >= c.rows {
+        return advance(c, many);
+    }
+    store_again(&mut *out, c, s);
+    advance(c, many)
 }
 
 // Writes a clause of one literal.

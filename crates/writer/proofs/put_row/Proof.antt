@@ -1,5 +1,7 @@
 -- A row is put by store_row, or the file has no room for it (`wrote-past`).
+use mathlib.Core.List.{[], _∷_}
 use denote.Ref.{now}
+use Rattle.task.specs.TaskRows.{row}
 use Rattle.writer.proofs.Putting.{wrote-past}
 use borrow.Author.Needs.{needs}
 use Rattle.writer.proofs.put_row.Statement.{statement}
@@ -8,7 +10,7 @@ use Rattle.writer.proofs.put_row.Tie as tie
 returns : tie.Need-returns
 returns c =
     let a = c .before .before .before .before .args in
-    wrote-past (now (a .out)) (a .c) (a .mark) (a .value) (c .advance .result) (search needs) (search needs) (c .advance .ensures)
+    wrote-past (now (a .out)) (a .c) (row (a .mark) (a .value) ∷ []) (c .advance .result) (search needs) (search needs) (c .advance .ensures)
 
 returns-2 : tie.Need-returns-2
 returns-2 c =
