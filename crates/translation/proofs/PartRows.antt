@@ -1,5 +1,5 @@
 -- The rows that the parts of the translated task are written with are theirs.
-use mathlib.Core.Path.{_≡_, refl, sym, ap, _∙_}
+use mathlib.Core.Path.{_≡_, refl, sym, ap, _∙_, subst⁻¹}
 use mathlib.Core.Bool.{Bool, true, false}
 use mathlib.Core.List.{List, [], _∷_, _++_, map, append-assoc}
 use Prim.Native.Nat.{ℕ, zero, suc, _+_, _-_, _≤_, _<_}
@@ -18,16 +18,18 @@ use Rattle.task.proofs.Positions.{drop-next, drop-after, tailRows, tail-stops, 
 use Rattle.classical.specs.Translation.{holdsFact, alone, factC, normal, allTrackers, sourceAction, endAction}
 use Rattle.classical.specs.Translation.{allClosed}
 use Rattle.layout.specs.Sides.{stretch, endAt}
+use Rattle.layout.specs.declared.sides.Span.{Span}
 use Rattle.layout.proofs.Ends.{end-after, part-is, condition-between}
-use Rattle.writer.specs.Writer.{Room, Wrote}
+use Rattle.writer.specs.Writer.{Room, Wrote, Standing}
 use Rattle.writer.specs.declared.Cursor.{Cursor}
 use Rattle.writer.proofs.Putting.{Onward, Kept, kept-none, kept-on, then, wrote-none, wrote-full, as-rows}
+use Rattle.writer.proofs.Copying.{stands, still-stands}
 use Rattle.effects.specs.Effects.{singleRows}
 use Rattle.trackers.specs.Trackers.{trackersBy, allTrackerRows}
 use Rattle.effects.proofs.EffectRows.{rows-append, effects-append}
 use Rattle.trackers.proofs.TrackerRows.{all-are}
 use Rattle.translation.specs.Parts
-use Rattle.translation.specs.Parts.{readTask, Placed, source, sourceActions}
+use Rattle.translation.specs.Parts.{readTask, Placed, Before, ownRows, sourceActions}
 use Rattle.translation.specs.Parts.{preferencesTo, closedRows}
 
 -- Source actions
@@ -50,9 +52,10 @@ source-is F qs a N e =
 abbrev actsRows : ℕ → List Preference → List Action → List Row
 actsRows F qs l = concatMap actionRows (map (sourceAction F qs) l)
 
--- what holds before row j is read: the actions that are left stand from there on
-pub record Acting (ms vs : List ℕ) (F : ℕ) (b : List ℕ) (c : Cursor) (out : List ℕ) (k : Cursor) (j : ℕ) : Type 0 where
+-- what holds before row j is read: the actions that are left stand from there on, and the rows t hold the trackers xs, if any
+pub record Acting (ms vs : List ℕ) (F : ℕ) (xs : List Row) (b : List ℕ) (c : Cursor) (out : List ℕ) (k : Cursor) (j : ℕ) (t : Span) : Type 0 where
   pub so-far : Kept b out k
+  pub before : Before out k t xs
   pub left : List Action
   pub rest : drop j (paired ms vs) ≡ tailRows left (readTask F ms vs .preferences)
   pub onward : Onward b c (sourceActions ms vs F) out k (actsRows F (readTask F ms vs .preferences) left)
@@ -65,16 +68,37 @@ module _ (ms vs : List ℕ) (F from to N : ℕ) (starts : List ℕ) (placed : Pl
   pub tracked : (last : Bool) → trackersBy ms vs starts F last ≡ allTrackerRows last F qs
   tracked last = all-are ms vs F last qs (placed .timed) to (placed .prefs) starts (placed .begun) (placed .many)
 
-  pub acting-none : {b : List ℕ} {c : Cursor} → Room c b → Acting ms vs F b c b c from
-  acting-none room = record { so-far = kept-none room; left = readTask F ms vs .actions; rest = placed .acts; onward = λ r o w. w }
+  abbrev tracking : List Row
+  tracking = trackersBy ms vs starts F false
 
-  module _ {b : List ℕ} {c : Cursor} {out : List ℕ} {k : Cursor} {j : ℕ} (t : Acting ms vs F b c out k j) where
+  pub acting-none : {b : List ℕ} {c : Cursor} → Room c b → Acting ms vs F tracking b c b c from (record { from = 0; to = 0 })
+  acting-none room =
+      record {
+        so-far = kept-none room;
+        before = record { below = omega arith; held = λ h. absurd (omega arith) };
+        left = readTask F ms vs .actions;
+        rest = placed .acts;
+        onward = λ r o w. w;
+      }
+
+  module _ {b : List ℕ} {c : Cursor} {out : List ℕ} {k : Cursor} {j : ℕ} {s : Span} (t : Acting ms vs F tracking b c out k j s) where
+    -- after the action's own rows the trackers of the action before stand as they stood
+    pub before-own : {xs : List Row} {o : Cursor} {mid : List ℕ} → Wrote out k xs o mid → Before mid o s tracking
+    before-own {xs} {o} {mid} w =
+        record {
+          below = omega (arith, t .before .below, w .next);
+          held = λ h. subst⁻¹ (λ (n : ℕ). Standing mid n s tracking) (w .same)
+              (still-stands (t .before .held h) refl (t .before .below) (t .so-far .room .few) w);
+        }
+
     pub acted-on : j < to → (mid next : ℕ) → mid ≡ endAt CLAUSE LACKS ms (j + 1) → next ≡ endAt EFFECT DELETE ms mid
-        → {out' : List ℕ} {k' : Cursor} → length out' ≡ length out → Wrote out k (source ms vs (record { from = j; mid = mid; next = next }) starts F N) k' out'
-        → Acting ms vs F b c out' k' next
-    acted-on h mid next mid-at next-at {out'} {k'} same w = go (t .left) (t .rest) (t .onward)
+        → {out₁ out' : List ℕ} {o k' : Cursor} → length out' ≡ length out₁ → length out₁ ≡ length out
+        → Wrote out k (ownRows ms vs (record { from = j; mid = mid; next = next }) N) o out₁ → Wrote out₁ o tracking k' out'
+        → Acting ms vs F tracking b c out' k' next (record { from = o .next; to = k' .next })
+    acted-on h mid next mid-at next-at {out₁} {out'} {o} {k'} same₁ same own tracks = go (t .left) (t .rest) (t .onward)
       where
-        go : (l : List Action) → drop j (paired ms vs) ≡ tailRows l qs → Onward b c (sourceActions ms vs F) out k (actsRows F qs l) → Acting ms vs F b c out' k' next
+        go : (l : List Action) → drop j (paired ms vs) ≡ tailRows l qs → Onward b c (sourceActions ms vs F) out k (actsRows F qs l)
+            → Acting ms vs F tracking b c out' k' next (record { from = o .next; to = k' .next })
         go [] e on =
             absurd (omega (
               arith,
@@ -104,12 +128,21 @@ module _ (ms vs : List ℕ) (F from to N : ℕ) (starts : List ℕ) (placed : Pl
             let first : stretch ms vs j mid ≡ row ACTION (a .cost) ∷ pre =
             part-is ms vs j mid (row ACTION (a .cost) ∷ pre) (effects ++ more) here (omega (arith, mid-is)) in
             let second : stretch ms vs mid next ≡ effects = part-is ms vs mid next effects more after-pre next-is in
+            let w : Wrote out k (ownRows ms vs (record { from = j; mid = mid; next = next }) N ++ tracking) k' out' = then own tracks in
+            let grouped : ownRows ms vs (record { from = j; mid = mid; next = next }) N ++ tracking
+                ≡ stretch ms vs j mid ++ (singleRows HOLDS N ++ (stretch ms vs mid next ++ tracking)) =
+            append-assoc (stretch ms vs j mid) (singleRows HOLDS N ++ stretch ms vs mid next) tracking
+            ∙ ap (λ (ys : List Row). stretch ms vs j mid ++ ys) (append-assoc (singleRows HOLDS N) (stretch ms vs mid next) tracking) in
             record {
-              so-far = kept-on (t .so-far) same w;
+              so-far = kept-on (t .so-far) (same₁ ∙ same) w;
+              before = record {
+                below = omega arith;
+                held = λ u. subst⁻¹ (λ (n : ℕ). Standing out' n (record { from = o .next; to = k' .next }) tracking) (tracks .same) (stands tracks);
+              };
               left = l;
               rest = ap (λ (n : ℕ). drop n (paired ms vs)) next-is ∙ drop-after mid (paired ms vs) effects more after-pre;
               onward = λ x o v. on x o
-                  (then (as-rows ((λ z. first z ++ (singleRows HOLDS N ++ (second z ++ tracked false z))) ∙ source-is F qs a N (placed .normal-is)) w) v);
+                  (then (as-rows (grouped ∙ (λ z. first z ++ (singleRows HOLDS N ++ (second z ++ tracked false z))) ∙ source-is F qs a N (placed .normal-is)) w) v);
             }
 
     pub acted-all : to ≤ j → Wrote b c (sourceActions ms vs F) k out

@@ -2,7 +2,7 @@
 use mathlib.Core.Path.{_≡_}
 use mathlib.Core.Bool.{true, false}
 use mathlib.Core.List.{List, [], _∷_, _++_, map}
-use Prim.Native.Nat.{ℕ, zero, suc, _+_, _*_, _-_, _/_, _≤_}
+use Prim.Native.Nat.{ℕ, zero, suc, _+_, _*_, _-_, _/_, _≤_, _<_}
 use lib.Dec.{T}
 use lib.ListN.{length, drop}
 use Rattle.lists.specs.Lists.{all, concatMap}
@@ -14,6 +14,8 @@ use Rattle.task.specs.Spelling.{kindSpellable, spellable}
 use Rattle.classical.specs.Translation.{factC, normal, sourceAction, endAction, closings}
 use Rattle.layout.specs.Sides.{stretch, startsFrom}
 use Rattle.layout.specs.declared.sides.Span.{Span}
+use Rattle.writer.specs.Writer.{Standing}
+use Rattle.writer.specs.declared.Cursor.{Cursor}
 use Rattle.effects.specs.Effects.{singleRows}
 use Rattle.trackers.specs.Trackers.{trackersBy}
 use Rattle.translation.specs.declared.parts.Body.{Body}
@@ -53,10 +55,14 @@ pub record BodyInside (ms : List ℕ) (a : Body) : Type 0 where
   pub mid-inside : a .mid ≤ length ms
   pub next-inside : a .next ≤ length ms
 
--- a source action, with the trackers of the preferences that begin at the rows `starts`
-abbrev pub source : List ℕ → List ℕ → Body → List ℕ → ℕ → ℕ → List Row
-source ms vs a starts F N =
-    stretch ms vs (a .from) (a .mid) ++ (singleRows HOLDS N ++ (stretch ms vs (a .mid) (a .next) ++ trackersBy ms vs starts F false))
+-- a source action, up to its trackers
+abbrev pub ownRows : List ℕ → List ℕ → Body → ℕ → List Row
+ownRows ms vs a N = stretch ms vs (a .from) (a .mid) ++ (singleRows HOLDS N ++ stretch ms vs (a .mid) (a .next))
+
+-- the rows t stand before the next one, and hold the rows xs, if any
+pub record Before (b : List ℕ) (c : Cursor) (t : Span) (xs : List Row) : Type 0 where
+  pub below : t .to ≤ c .next
+  pub held : t .from < t .to → Standing b (c .rows) t xs
 
 -- all of them
 abbrev pub sourceActions : List ℕ → List ℕ → ℕ → List Row

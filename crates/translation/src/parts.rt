@@ -1,11 +1,13 @@
 // The actions of the translated task, and what its goal has beside the source's.
+ghost use mathlib.Core.Bool.{false};
 ghost use Prim.Native.Nat.{_+_, _≤_, _<_};
 ghost use lib.ListN.{length};
 ghost use Rattle.task.specs.Marks.{EFFECT, ADD};
 ghost use Rattle.task.specs.TaskRows.{row};
 ghost use Rattle.task.specs.Rows.{Rows};
 ghost use Rattle.writer.specs.Writer.{Room, Wrote};
-ghost use Rattle.translation.specs.Parts.{Placed, BodyInside, source, sourceActions, endAt};
+ghost use Rattle.trackers.specs.Trackers.{trackersBy};
+ghost use Rattle.translation.specs.Parts.{Placed, BodyInside, Before, ownRows, sourceActions, endAt};
 ghost use Rattle.closings.specs.Closings.{closed};
 ghost use Rattle.translation.specs.Parts.{preferencesTo, closedRows};
 use layout::sides;
@@ -21,19 +23,17 @@ pub(crate) struct Body {
     pub next: usize,
 }
 
-// A source action.
-fn put_action(
+// A source action, up to its trackers.
+fn put_own(
     out: &mut [u8],
     c: Cursor,
     marks: &[u8],
     values: &[u8],
     a: Body,
-    starts: &[usize],
-    facts: u32,
     normal: u32,
 ) -> Cursor
-    requires { ⌜ Room c (now out) × Rows (now marks) (now values) × BodyInside (now marks) a × (length (now starts) ≤ 16) × (facts ≤ 128) ⌝ }
-    ensures { λ r. ⌜ Wrote (now (out .entry)) c (source (now (marks .entry)) (now (values .entry)) a (now (starts .entry)) facts normal) r (now (out .exit)) ⌝ }
+    requires { ⌜ Room c (now out) × Rows (now marks) (now values) × BodyInside (now marks) a ⌝ }
+    ensures { λ r. ⌜ Wrote (now (out .entry)) c (ownRows (now (marks .entry)) (now (values .entry)) a normal) r (now (out .exit)) ⌝ }
 {
     let mid = a.mid;
     let head = Span {
@@ -46,8 +46,26 @@ fn put_action(
     };
     let k = writer::copy_rows(&mut *out, c, marks, values, head);
     let k = writer::put_single(&mut *out, k, marks::HOLDS, normal);
-    let k = writer::copy_rows(&mut *out, k, marks, values, tail);
-    trackers::all_trackers(&mut *out, k, marks, values, starts, facts, false)
+    writer::copy_rows(&mut *out, k, marks, values, tail)
+}
+
+// The trackers of a source action: where rows t are those of the action before, they are written again.
+fn put_trackers(
+    out: &mut [u8],
+    c: Cursor,
+    marks: &[u8],
+    values: &[u8],
+    starts: &[usize],
+    facts: u32,
+    t: Span,
+) -> Cursor
+    requires { ⌜ Room c (now out) × Rows (now marks) (now values) × (length (now starts) ≤ 16) × (facts ≤ 128) × Before (now out) c t (trackersBy (now marks) (now values) (now starts) facts false) ⌝ }
+    ensures { λ r. ⌜ Wrote (now (out .entry)) c (trackersBy (now (marks .entry)) (now (values .entry)) (now (starts .entry)) facts false) r (now (out .exit)) ⌝ }
+{
+    if t.from < t.to {
+        return writer::repeat_rows(&mut *out, c, t);
+    }
+    trackers::all_trackers(&mut *out, c, marks, values, starts, facts, false)
 }
 
 // The source's actions, which stand in the rows s; the preferences begin after them.
@@ -67,6 +85,7 @@ pub fn put_actions(
     let to = s.to;
     let mut k = c;
     let mut j = s.from;
+    let mut t = Span { from: 0, to: 0 };
     while j < to {
         if writer::TOO_MANY <= k.next {
             return k;
@@ -74,7 +93,12 @@ pub fn put_actions(
         let mid = sides::skip_marks(marks, j + 1, marks::CLAUSE, marks::LACKS);
         let next = sides::skip_marks(marks, mid, marks::EFFECT, marks::DELETE);
         let a = Body { from: j, mid, next };
-        k = put_action(&mut *out, k, marks, values, a, starts, facts, normal);
+        let own = put_own(&mut *out, k, marks, values, a, normal);
+        k = put_trackers(&mut *out, own, marks, values, starts, facts, t);
+        t = Span {
+            from: own.next,
+            to: k.next,
+        };
         j = next;
     }
     k

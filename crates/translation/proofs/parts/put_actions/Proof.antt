@@ -1,18 +1,20 @@
 -- The actions that are left make up all of them: a loop over the actions, by `acted-on`.
 use Prim.Native.Nat.{_-_}
+use mathlib.Core.Bool.{false}
 use denote.Ref.{now}
+use Rattle.trackers.specs.Trackers.{trackersBy}
 use Rattle.writer.proofs.Putting.{kept-none}
 use Rattle.translation.specs.Parts.{Placed}
-use Rattle.translation.proofs.PartRows.{Acting, acting-none, acted-on, acted-all, acted-full}
+use Rattle.translation.proofs.PartRows.{Acting, acting-none, before-own, acted-on, acted-all, acted-full}
 use borrow.Author.Needs.{needs}
 use Rattle.translation.proofs.parts.put_actions.Statement.{statement}
 use Rattle.translation.proofs.parts.put_actions.Tie as tie
 
 abbrev Inv-loop : tie.InvT-loop
-Inv-loop out₀ marks values starts facts normal to c₀ from out k j = Acting marks values facts out₀ c₀ out k j
+Inv-loop out₀ marks values starts facts normal to c₀ from t₀ out k j t = Acting marks values facts (trackersBy marks values starts facts false) out₀ c₀ out k j t
 
 abbrev μ-loop : tie.MeasureT-loop
-μ-loop out₀ marks values starts facts normal to c₀ from out k j = to - j
+μ-loop out₀ marks values starts facts normal to c₀ from t₀ out k j t = to - j
 
 loop-holds : tie.Need-loop-holds Inv-loop μ-loop
 loop-holds c =
@@ -30,16 +32,32 @@ returns c =
     let a = st .args in
     acted-full (now (a .marks)) (now (a .values)) (a .facts) (a .s .from) (a .s .to) (a .normal) (now (a .starts)) (st .pre .2) (l .loop .inv) (search needs)
 
+put-trackers-requires : tie.Need-put-trackers-requires Inv-loop μ-loop
+put-trackers-requires c κs =
+    let u = c .before .before .before in
+    let l = u .before .before .before .before .before .before .before in
+    let st = l .before .before .before .before .before in
+    let a = st .args in
+    let p = st .pre .2 in (
+      u .put-own .ensures .room,
+      st .pre .1,
+      p .few-starts,
+      p .few-facts,
+      before-own (now (a .marks)) (now (a .values)) (a .facts) (a .s .from) (a .s .to) (a .normal) (now (a .starts)) p (l .loop .inv) (u .put-own .ensures),
+    )
+
 loop-again : tie.Need-loop-again Inv-loop μ-loop
 loop-again c =
-    let u = c .before .before in
+    let w = c .before .before in
+    let u = w .before .before .before .before in
     let v = u .before .before in
     let n = v .before .before .before .before in
     let l = n .before in
     let st = l .before .before .before .before .before in
     let a = st .args in
     acted-on (now (a .marks)) (now (a .values)) (a .facts) (a .s .from) (a .s .to) (a .normal) (now (a .starts)) (st .pre .2) (l .loop .inv) (n .loop-test .taken)
-    (v .before .skip-marks .result) (v .skip-marks2 .result) (v .before .skip-marks .ensures .1) (v .skip-marks2 .ensures .1) (u .put-action .kept .0) (u .put-action .ensures)
+    (v .before .skip-marks .result) (v .skip-marks2 .result) (v .before .skip-marks .ensures .1) (v .skip-marks2 .ensures .1)
+    (w .put-trackers .kept .0) (u .put-own .kept .0) (u .put-own .ensures) (w .put-trackers .ensures)
 
 same-length-2 : tie.Need-same-length-2 Inv-loop μ-loop
 same-length-2 c = c .before .loop .inv .so-far .size
@@ -56,4 +74,4 @@ put-actions-spec =
     tie.close
     (tie.spec
     Inv-loop μ-loop loop-holds same-length returns (λ c. search needs) (λ c κs. search needs) (λ c κs. search needs)
-    (λ c κs. search needs) (λ c. search needs) loop-again same-length-2 returns-2)
+    (λ c κs. search needs) put-trackers-requires (λ c. search needs) loop-again same-length-2 returns-2)
