@@ -1,25 +1,24 @@
 -- The facts D1, D2, … counted over the rows of a task are those of its preferences.
-use mathlib.Core.Path.{_≡_, refl, sym, ap, ap₂, _∙_}
-use mathlib.Core.Bool.{Bool, true, false, not, cond, _&&_, _||_}
-use mathlib.Core.List.{List, [], _∷_, _++_, map, append-nil}
-use Prim.Native.Nat.{ℕ, _+_, _*_, _%_, _≤_, _<_}
+use mathlib.Core.Path.{_≡_, refl, sym, ap}
+use mathlib.Core.Bool.{Bool, true, false, not, _&&_, _||_}
+use mathlib.Core.List.{List, [], _∷_, _++_}
+use Prim.Native.Nat.{ℕ, _+_, _*_, _≤_, _<_}
 use native.Mathlib.Nat.{zero-add}
 use native.Mathlib.Omega.{arith}
-use lib.Dec.{T, leb, leb→le}
+use lib.Dec.{T, leb→le}
 use lib.ListN.{length, drop, getD}
-use Rattle.lists.specs.Lists.{all, concatMap, sum}
-use Rattle.task.specs.Marks.{START, GOAL, WITHIN, STEPS, HARD}
-use Rattle.meaning.specs.Task.{Kind, always, sometime, at-end, at-most-once, sometime-before, sometime-after, within, always-within, Action, Preference, Task}
+use Rattle.lists.specs.Lists.{all, concatMap}
+use Rattle.task.specs.Marks.{WITHIN, STEPS, HARD}
+use Rattle.meaning.specs.Task.{Kind, always, sometime, at-end, at-most-once, sometime-before, sometime-after, within, always-within, Preference, Task}
 use Rattle.task.specs.TaskRows.{Row, row}
-use Rattle.task.specs.TaskRows.{openingMark, stepsRows, conditionRows, effectRows, actionRows, preferenceRows, taskRows}
+use Rattle.task.specs.TaskRows.{openingMark, stepsRows, preferenceRows}
 use Rattle.task.specs.File.{hasMark, paired}
 use Rattle.task.specs.Spelling.{kindSpellable, preferenceSpellable, spellable}
 use Rattle.task.specs.Rows.{valueAt}
 use Rattle.classical.specs.Translation.{furtherFacts, further}
-use Rattle.lists.proofs.Tests.{tests, as-false, all-both, all-map, all-concat}
-use Rattle.task.proofs.Passing.{conditionsOf, condition-passes, effects-pass, conditions-pass}
+use Rattle.lists.proofs.Tests.{tests, as-false}
+use Rattle.task.proofs.Passing.{conditionsOf, conditions-pass}
 use Rattle.task.proofs.Reading.{row-at, row-end}
-use Rattle.task.proofs.Positions.{front}
 use Rattle.translation.specs.Further.{furtherRow, furtherRows}
 use Rattle.task.specs.Limits.{MAX-DEADLINE}
 
@@ -80,40 +79,20 @@ preferences-further (q ∷ qs) t =
       preferences-further qs (search tests),
     )
 
--- A task
-
-action-quiet : (a : Action) → T (all quiet (actionRows a))
-action-quiet a =
-    all-both quiet (conditionRows (a .precondition)) (concatMap effectRows (a .effects))
-    (condition-passes quiet (λ v. tt) (λ v. tt) (λ v. tt) (a .precondition))
-    (effects-pass quiet (λ v. tt) (λ v. tt) (λ v. tt) (λ v. tt) (λ v. tt) (λ v. tt) (a .effects))
-
-front-quiet : (t : Task) → T (all quiet (front t))
-front-quiet t =
-    all-both quiet (map (row START) (t .start) ++ (row GOAL 0 ∷ conditionRows (t .goal))) (concatMap actionRows (t .actions))
-    (all-both quiet (map (row START) (t .start)) (row GOAL 0 ∷ conditionRows (t .goal)) (all-map quiet (row START) (λ v. tt) (t .start))
-    (condition-passes quiet (λ v. tt) (λ v. tt) (λ v. tt) (t .goal)))
-    (all-concat quiet actionRows action-quiet (t .actions))
-
-pub task-further : (t : Task) → T (spellable t) → furtherRows (taskRows t) ≡ further (t .preferences)
-task-further t s =
-    omega (
-      arith,
-      further-append (front t) (concatMap preferenceRows (t .preferences)),
-      quiet-rows (front t) (front-quiet t),
-      preferences-further (t .preferences) (search tests),
-    )
+-- the preferences of a spellable task
+pub task-further : (t : Task) → T (spellable t) → furtherRows (concatMap preferenceRows (t .preferences)) ≡ further (t .preferences)
+task-further t s = preferences-further (t .preferences) (search tests)
 
 -- The loop over the rows
 
--- what holds before row i is read
-pub record Counting (ms vs : List ℕ) (d i : ℕ) : Type 0 where
+-- what holds before row i is read, the first being row `at`
+pub record Counting (ms vs : List ℕ) (at d i : ℕ) : Type 0 where
   pub rows-left : i ≤ length ms
   pub few : d ≤ 16 * i
-  pub so-far : d + furtherRows (drop i (paired ms vs)) ≡ furtherRows (paired ms vs)
+  pub so-far : d + furtherRows (drop i (paired ms vs)) ≡ furtherRows (drop at (paired ms vs))
 
-module _ (ms vs : List ℕ) (d i : ℕ) (so-far : Counting ms vs d i) where
-  pub one-more : i < length ms → (r : ℕ) → r ≡ furtherRow (row (getD ms i 0) (valueAt vs i)) → r ≤ 16 → Counting ms vs (d + r) (i + 1)
+module _ (ms vs : List ℕ) (at d i : ℕ) (so-far : Counting ms vs at d i) where
+  pub one-more : i < length ms → (r : ℕ) → r ≡ furtherRow (row (getD ms i 0) (valueAt vs i)) → r ≤ 16 → Counting ms vs at (d + r) (i + 1)
   one-more h r e l =
       record {
         rows-left = omega arith;
@@ -121,5 +100,5 @@ module _ (ms vs : List ℕ) (d i : ℕ) (so-far : Counting ms vs d i) where
         so-far = omega (arith, ap furtherRows (row-at ms vs i h), so-far .so-far);
       }
 
-  pub all-rows : length ms ≤ i → d ≡ furtherRows (paired ms vs)
+  pub all-rows : length ms ≤ i → d ≡ furtherRows (drop at (paired ms vs))
   all-rows h = omega (arith, ap furtherRows (row-end ms vs i h), so-far .so-far)

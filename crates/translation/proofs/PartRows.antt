@@ -130,7 +130,7 @@ module _ (ms vs : List ℕ) (F from to N : ℕ) (starts : List ℕ) (placed : Pl
             let second : stretch ms vs mid next ≡ effects = part-is ms vs mid next effects more after-pre next-is in
             let w : Wrote out k (ownRows ms vs (record { from = j; mid = mid; next = next }) N ++ tracking) k' out' = then own tracks in
             let grouped : ownRows ms vs (record { from = j; mid = mid; next = next }) N ++ tracking
-                ≡ stretch ms vs j mid ++ (singleRows HOLDS N ++ (stretch ms vs mid next ++ tracking)) =
+            ≡ stretch ms vs j mid ++ (singleRows HOLDS N ++ (stretch ms vs mid next ++ tracking)) =
             append-assoc (stretch ms vs j mid) (singleRows HOLDS N ++ stretch ms vs mid next) tracking
             ∙ ap (λ (ys : List Row). stretch ms vs j mid ++ ys) (append-assoc (singleRows HOLDS N) (stretch ms vs mid next) tracking) in
             record {

@@ -1,7 +1,7 @@
 -- The rows of the translated task, from the rows that spell its source.
 use mathlib.Core.Path.{_≡_, refl, sym, ap, _∙_}
 use mathlib.Core.List.{List, [], _∷_, _++_, map, append-assoc, append-nil, map-append}
-use Prim.Native.Nat.{ℕ, _+_, _*_, _≤_}
+use Prim.Native.Nat.{ℕ, _+_, _*_}
 use native.Mathlib.Omega.{arith}
 use lib.Dec.{T}
 use lib.ListN.{length, drop}
@@ -22,8 +22,9 @@ use Rattle.writer.specs.declared.Cursor.{Cursor}
 use Rattle.task.specs.Rows.{between, Stops}
 use Rattle.layout.specs.Sides.{stretch, endAt, startsFrom}
 use Rattle.effects.specs.Effects.{singleRows}
-use Rattle.translation.specs.Parts.{readTask, Source, Placed, allActions, preferencesTo, openingRows, openingAt, closedRows}
+use Rattle.translation.specs.Parts.{readTask, Source, Found, Placed, allActions, preferencesTo, openingRows, openingAt, closedRows}
 use Rattle.translation.specs.Whole.{translatedRows}
+use Rattle.translation.specs.declared.places.Places.{Places}
 use Rattle.writer.proofs.Putting.{then, as-rows}
 use Rattle.layout.proofs.Ends.{end-after, part-is, condition-between}
 use Rattle.lists.proofs.Tests.{concat-append}
@@ -144,22 +145,31 @@ module _ (t : Task) where
 timed : (t : Task) → T (spellable t) → T (all (λ (q : Preference). kindSpellable (q .kind)) (t .preferences))
 timed t s = all-implies preferenceSpellable (λ (q : Preference). kindSpellable (q .kind)) (λ q p. search tests) (t .preferences) (search tests)
 
+-- the sections of a task that the rows spell
+pub found : (ms vs : List ℕ) (t : Task) → paired ms vs ≡ taskRows t → (p : Places) → Found ms p → Sections ms vs t (p .goal) (p .from) (p .to)
+found ms vs t spelled p f =
+    sections ms vs t spelled (p .goal) (endAt GOAL GOAL ms (p .goal)) (p .from) (p .to) (f .goal-at) refl (f .from-at) (f .to-at)
+
 -- the source, with its sections found and its preferences noted
-module _ (ms vs : List ℕ) (F P goal mid from to : ℕ) (source : Source ms vs F P)
-    (goal-at : goal ≡ endAt START START ms 0) (mid-at : mid ≡ endAt GOAL GOAL ms goal) (from-at : from ≡ endAt CLAUSE LACKS ms mid)
-    (to-at : to ≡ endAt ACTION DELETE ms from) where
+module _ (ms vs : List ℕ) (F P : ℕ) (p : Places) (source : Source ms vs F P) (f : Found ms p) where
   abbrev task : Task
   task = readTask F ms vs
 
-  found : Sections ms vs task goal from to
-  found = sections ms vs task (source .spelled) goal mid from to goal-at mid-at from-at to-at
+  abbrev from : ℕ
+  from = p .from
 
-  pub placed : to ≤ length ms → (starts : List ℕ) → starts ≡ startsFrom ms to P → length starts ≡ P → Placed ms vs F (record { from = from; to = to }) starts (F + 3 * P)
-  placed h starts begun many =
+  abbrev to : ℕ
+  to = p .to
+
+  parts : Sections ms vs task (p .goal) from to
+  parts = found ms vs task (source .spelled) p f
+
+  pub placed : (starts : List ℕ) → starts ≡ startsFrom ms to P → length starts ≡ P → Placed ms vs F (record { from = from; to = to }) starts (F + 3 * P)
+  placed starts begun many =
       record {
-        acts = found .acts;
-        prefs = found .prefs;
-        inside = h;
+        acts = parts .acts;
+        prefs = parts .prefs;
+        inside = f .inside;
         begun = begun ∙ ap (startsFrom ms to) (source .many);
         many = many ∙ source .many;
         timed = timed task (source .spelling);
@@ -171,11 +181,11 @@ module _ (ms vs : List ℕ) (F P goal mid from to : ℕ) (source : Source ms vs 
       }
 
   -- its parts written one after the other
-  pub task-wrote : {b o₁ o₂ : List ℕ} {c k r : Cursor} → Wrote b c (openingAt ms vs goal from F (F + 3 * P)) k o₁ → Wrote o₁ k (allActions ms vs F) r o₂
+  pub task-wrote : {b o₁ o₂ : List ℕ} {c k r : Cursor} → Wrote b c (openingAt ms vs (p .goal) from F (F + 3 * P)) k o₁ → Wrote o₁ k (allActions ms vs F) r o₂
       → Wrote b c (translatedRows ms vs F) r o₂
   task-wrote opened acted =
       let all : preferencesTo F (F + 3 * P + 1) ≡ P = omega arith in
-      as-rows ((λ z. openingRows F (F + 3 * P) (all z) (found .opening z) (found .clauses z) ++ allActions ms vs F)
+      as-rows ((λ z. openingRows F (F + 3 * P) (all z) (parts .opening z) (parts .clauses z) ++ allActions ms vs F)
       ∙ (λ z. openingRows F (F + 3 * source .many z) (source .many z) (map (row START) (task .start)) (row GOAL 0 ∷ conditionRows (task .goal)) ++ allActions ms vs F)
       ∙ task-is task)
       (then opened acted)

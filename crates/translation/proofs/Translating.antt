@@ -32,7 +32,8 @@ use Rattle.translation.specs.Further.{furtherRows}
 use Rattle.translation.proofs.FurtherRows.{task-further}
 use Rattle.writer.specs.Writer.{rowAfter, putRows, Wrote, header}
 use Rattle.writer.specs.declared.Cursor.{Cursor}
-use Rattle.translation.specs.Parts.{readTask, Source}
+use Rattle.translation.specs.Parts.{readTask, Source, Found}
+use Rattle.translation.specs.declared.places.Places.{Places}
 use Rattle.translation.specs.Whole.{Sized, Fitted}
 use Rattle.outcome.specs.Outcome.{written, refused, areaAfter}
 use Rattle.outcome.specs.Answers.{answer}
@@ -43,6 +44,7 @@ use Rattle.classical.specs.Claim.{Faithful}
 use Rattle.writer.proofs.Putting.{whole-file}
 use Rattle.classical.proofs.Spellable.{translated-sizes}
 use Rattle.classical.proofs.Written.{Written, written as written-file}
+use Rattle.translation.proofs.TaskRows.{found}
 
 -- The header
 
@@ -216,18 +218,27 @@ module _ (b area : List ℕ) (x : Checked) (e : checked x ≡ check b) where
     pub within : (z .rows ≤ 12000) × (1 ≤ z .facts) × (z .facts ≤ 128) × (z .actions ≤ 128) × (z .preferences ≤ 16)
     within = limits (asSizes z) (spelling .allowed)
 
-    -- d facts D were counted
-    abbrev Counted : ℕ → Type 0
-    Counted d = d ≡ furtherRows (paired (take (8 + z .rows - 8) (drop 8 b)) (take (length b - (8 + z .rows)) (drop (8 + z .rows) b)))
+    abbrev ms : List ℕ
+    ms = take (8 + z .rows - 8) (drop 8 b)
 
-    counted-is : (d : ℕ) → Counted d → d ≡ further (taskOf b .preferences)
-    counted-is d e = e ∙ ap furtherRows (parts-spell b (asSizes z) accepted) ∙ task-further (taskOf b) (spelling .spelling)
+    abbrev vs : List ℕ
+    vs = take (length b - (8 + z .rows)) (drop (8 + z .rows) b)
 
-    test-is : (d : ℕ) → Counted d → (x : Bool) → smallEnough (asSizes z) d ≡ x → smallEnough (asSizes z) (further (taskOf b .preferences)) ≡ x
-    test-is d e x h = ap (smallEnough (asSizes z)) (sym (counted-is d e)) ∙ h
+    -- d facts D were counted, from the first preference on
+    abbrev Counted : Places → ℕ → Type 0
+    Counted p d = Found ms p × (d ≡ furtherRows (drop (p .to) (paired ms vs)))
 
-    pub too-large : (d : ℕ) → Counted d → smallEnough (asSizes z) d ≡ false → (r : Outcome) → answer r ≡ refused 7 0 → Promised b area r area
-    too-large d e h r p = refuses r 7 0 p (rw (test-is d e false h) at on-task)
+    counted-is : (p : Places) (d : ℕ) → Counted p d → d ≡ further (taskOf b .preferences)
+    counted-is p d e =
+        e .1
+        ∙ ap furtherRows (found ms vs (taskOf b) (parts-spell b (asSizes z) accepted) p (e .0) .prefs)
+        ∙ task-further (taskOf b) (spelling .spelling)
+
+    test-is : (p : Places) (d : ℕ) → Counted p d → (x : Bool) → smallEnough (asSizes z) d ≡ x → smallEnough (asSizes z) (further (taskOf b .preferences)) ≡ x
+    test-is p d e x h = ap (smallEnough (asSizes z)) (sym (counted-is p d e)) ∙ h
+
+    pub too-large : (p : Places) (d : ℕ) → Counted p d → smallEnough (asSizes z) d ≡ false → (r : Outcome) → answer r ≡ refused 7 0 → Promised b area r area
+    too-large p d e h r q = refuses r 7 0 q (rw (test-is p d e false h) at on-task)
 
     pub small : (d : ℕ) → smallEnough (asSizes z) d ≡ true → (z .facts + 3 * z .preferences + 2 + d ≤ 128) × (z .actions + 2 * z .preferences + 1 ≤ 128)
     small d h =
@@ -235,12 +246,6 @@ module _ (b area : List ℕ) (x : Checked) (e : checked x ≡ check b) where
           leb→le (z .facts + 3 * z .preferences + 2 + d) 128 (search tests),
           leb→le (z .actions + 2 * z .preferences + 1) 128 (search tests),
         )
-
-    abbrev ms : List ℕ
-    ms = take (8 + z .rows - 8) (drop 8 b)
-
-    abbrev vs : List ℕ
-    vs = take (length b - (8 + z .rows)) (drop (8 + z .rows) b)
 
     sized : asSizes z ≡ sizesOf (taskOf b)
     sized = sym (spelling .sized)
@@ -251,8 +256,8 @@ module _ (b area : List ℕ) (x : Checked) (e : checked x ≡ check b) where
         (λ i. taskOfRows (sized i .facts) (parts-spell b (asSizes z) accepted i))
         ∙ task-back (taskOf b) (all-implies preferenceSpellable (λ (q : Preference). two-sided (q .kind) || isEmpty (q .second)) (λ q p. search tests) (taskOf b .preferences) (spelled-preferences (taskOf b) (spelling .spelling)))
 
-    pub put-source : (d : ℕ) → Counted d → smallEnough (asSizes z) d ≡ true → Sized ms vs (z .facts) (z .actions) (z .preferences) d
-    put-source d e h =
+    pub put-source : (p : Places) (d : ℕ) → Counted p d → smallEnough (asSizes z) d ≡ true → Sized ms vs (z .facts) (z .actions) (z .preferences) d
+    put-source p d e h =
         record {
           source = record {
             spelled = parts-spell b (asSizes z) accepted ∙ ap taskRows (sym reads);
@@ -263,13 +268,13 @@ module _ (b area : List ℕ) (x : Checked) (e : checked x ≡ check b) where
             few-preferences = within .4;
           };
           actions-are = ap (λ (y : File.Sizes). y .actions) sized ∙ ap (λ (t : Task). length (t .actions)) (sym reads);
-          further-are = counted-is d e ∙ ap (λ (t : Task). further (t .preferences)) (sym reads);
+          further-are = counted-is p d e ∙ ap (λ (t : Task). further (t .preferences)) (sym reads);
           few-facts = small d h .0;
           few-actions = small d h .1;
         }
 
-    pub put : (d : ℕ) → Counted d → smallEnough (asSizes z) d ≡ true → (r : Outcome) (out : List ℕ)
+    pub put : (p : Places) (d : ℕ) → Counted p d → smallEnough (asSizes z) d ≡ true → (r : Outcome) (out : List ℕ)
         → Fitted (readTask (z .facts) ms vs) area r out → Promised b area r out
-    put d e h r out fits =
+    put p d e h r out fits =
         let f : Fitted (taskOf b) area r out = subst (λ (t : Task). Fitted t area r out) reads fits in
-        promised b area r out (f .answering ∙ (rw (test-is d e true h) at on-task)) (f .area)
+        promised b area r out (f .answering ∙ (rw (test-is p d e true h) at on-task)) (f .area)

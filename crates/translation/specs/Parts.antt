@@ -6,12 +6,13 @@ use Prim.Native.Nat.{ℕ, zero, suc, _+_, _*_, _-_, _/_, _≤_, _<_}
 use lib.Dec.{T}
 use lib.ListN.{length, drop}
 use Rattle.lists.specs.Lists.{all, concatMap}
-use Rattle.task.specs.Marks.{ACTION, EFFECT, HOLDS, ADD, DELETE, START}
+use Rattle.task.specs.Marks.{ACTION, EFFECT, CLAUSE, HOLDS, LACKS, ADD, DELETE, GOAL, START}
 use Rattle.meaning.specs.Task.{Preference, Task}
 use Rattle.task.specs.TaskRows.{Row, row, actionRows, preferenceRows, taskRows}
 use Rattle.task.specs.File.{paired, taskOfRows}
 use Rattle.task.specs.Spelling.{kindSpellable, spellable}
 use Rattle.classical.specs.Translation.{factC, normal, sourceAction, endAction, closings}
+use Rattle.layout.specs.Sides
 use Rattle.layout.specs.Sides.{stretch, startsFrom}
 use Rattle.layout.specs.declared.sides.Span.{Span}
 use Rattle.writer.specs.Writer.{Standing}
@@ -19,6 +20,7 @@ use Rattle.writer.specs.declared.Cursor.{Cursor}
 use Rattle.effects.specs.Effects.{singleRows}
 use Rattle.trackers.specs.Trackers.{trackersBy}
 use Rattle.translation.specs.declared.parts.Body.{Body}
+use Rattle.translation.specs.declared.places.Places.{Places}
 
 -- The source
 
@@ -34,6 +36,15 @@ pub record Source (ms vs : List ℕ) (F P : ℕ) : Type 0 where
   pub some-facts : 1 ≤ F
   pub few-facts : F + 3 * P + 2 ≤ 128
   pub few-preferences : P ≤ 16
+
+-- where the parts of the task begin: START rows, GOAL and its clauses, actions, and then the preferences
+pub record Found (ms : List ℕ) (p : Places) : Type 0 where
+  pub goal-at : p .goal ≡ Sides.endAt START START ms 0
+  pub from-at : p .from ≡ Sides.endAt CLAUSE LACKS ms (Sides.endAt GOAL GOAL ms (p .goal))
+  pub to-at : p .to ≡ Sides.endAt ACTION DELETE ms (p .from)
+  pub goal-first : p .goal ≤ p .from
+  pub from-inside : p .from ≤ length ms
+  pub inside : p .to ≤ length ms
 
 -- its actions stand in the rows s, its preferences after them, beginning at the rows `starts`; N is the fact *normal*
 pub record Placed (ms vs : List ℕ) (F : ℕ) (s : Span) (starts : List ℕ) (N : ℕ) : Type 0 where

@@ -1,6 +1,7 @@
 // The facts D1, D2 and so on of all preferences.
 ghost use mathlib.Core.Path.{_≡_};
 ghost use Prim.Native.Nat.{_≤_};
+ghost use lib.ListN.{length, drop};
 ghost use Rattle.task.specs.TaskRows.{row};
 ghost use Rattle.task.specs.File.{paired};
 ghost use Rattle.task.specs.Rows.{Rows};
@@ -19,13 +20,13 @@ fn count_row(mark: u8, value: u32) -> u32
     }
 }
 
-// How many there are.
-pub fn count(marks: &[u8], values: &[u8]) -> u32
-    requires { ⌜ Rows (now marks) (now values) ⌝ }
-    ensures { λ r. ⌜ (r ≡ furtherRows (paired (now (marks .entry)) (now (values .entry)))) × (r ≤ 192000) ⌝ }
+// How many there are, of preferences that begin at row `at`.
+pub fn count(marks: &[u8], values: &[u8], at: usize) -> u32
+    requires { ⌜ Rows (now marks) (now values) × (at ≤ length (now marks)) ⌝ }
+    ensures { λ r. ⌜ (r ≡ furtherRows (drop at (paired (now (marks .entry)) (now (values .entry))))) × (r ≤ 192000) ⌝ }
 {
     let mut d = 0;
-    let mut i = 0;
+    let mut i = at;
     while i < marks.len() {
         d += count_row(marks[i], rows::value_at(values, i));
         i += 1;

@@ -24,14 +24,7 @@ pub(crate) struct Body {
 }
 
 // A source action, up to its trackers.
-fn put_own(
-    out: &mut [u8],
-    c: Cursor,
-    marks: &[u8],
-    values: &[u8],
-    a: Body,
-    normal: u32,
-) -> Cursor
+fn put_own(out: &mut [u8], c: Cursor, marks: &[u8], values: &[u8], a: Body, normal: u32) -> Cursor
     requires { ⌜ Room c (now out) × Rows (now marks) (now values) × BodyInside (now marks) a ⌝ }
     ensures { λ r. ⌜ Wrote (now (out .entry)) c (ownRows (now (marks .entry)) (now (values .entry)) a normal) r (now (out .exit)) ⌝ }
 {
@@ -59,7 +52,8 @@ fn put_trackers(
     facts: u32,
     t: Span,
 ) -> Cursor
-    requires { ⌜ Room c (now out) × Rows (now marks) (now values) × (length (now starts) ≤ 16) × (facts ≤ 128) × Before (now out) c t (trackersBy (now marks) (now values) (now starts) facts false) ⌝ }
+    requires { ⌜ Room c (now out) × Rows (now marks) (now values) × (length (now starts) ≤ 16) × (facts ≤ 128) ⌝ }
+    requires { ⌜ Before (now out) c t (trackersBy (now marks) (now values) (now starts) facts false) ⌝ }
     ensures { λ r. ⌜ Wrote (now (out .entry)) c (trackersBy (now (marks .entry)) (now (values .entry)) (now (starts .entry)) facts false) r (now (out .exit)) ⌝ }
 {
     if t.from < t.to {

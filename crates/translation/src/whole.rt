@@ -4,9 +4,10 @@ ghost use Prim.Native.Nat.{_+_, _≤_};
 ghost use lib.ListN.{length};
 ghost use Rattle.task.specs.Rows.{Rows};
 ghost use Rattle.writer.specs.Writer.{rowAfter, Room, Wrote};
-ghost use Rattle.translation.specs.Parts.{readTask, Source, Placed, openingAt, allActions};
+ghost use Rattle.translation.specs.Parts.{readTask, Source, Found, Placed, openingAt, allActions};
 ghost use Rattle.translation.specs.Whole.{translatedRows, Sized, Fitted};
 use super::parts;
+use super::places::Places;
 use layout::sides;
 use layout::sides::Span;
 use outcome::Outcome;
@@ -68,22 +69,21 @@ fn put_task(
     c: Cursor,
     marks: &[u8],
     values: &[u8],
+    p: Places,
     facts: u32,
     preferences: u32,
 ) -> Cursor
-    requires { ⌜ Room c (now out) × Rows (now marks) (now values) × Source (now marks) (now values) facts preferences ⌝ }
+    requires { ⌜ Room c (now out) × Rows (now marks) (now values) × Found (now marks) p × Source (now marks) (now values) facts preferences ⌝ }
     ensures { λ r. ⌜ Wrote (now (out .entry)) c (translatedRows (now (marks .entry)) (now (values .entry)) facts) r (now (out .exit)) ⌝ }
 {
     let normal = facts + 3 * preferences;
-    let goal = sides::skip_marks(marks, 0, marks::START, marks::START);
-    let mid = sides::skip_marks(marks, goal, marks::GOAL, marks::GOAL);
-    let from = sides::skip_marks(marks, mid, marks::CLAUSE, marks::LACKS);
-    let to = sides::skip_marks(marks, from, marks::ACTION, marks::DELETE);
+    let from = p.from;
+    let to = p.to;
     let mut table: [usize; 16] = [0; 16];
     let many = preferences as usize;
     sides::note_starts(marks, to, many, &mut table);
     let s = Span { from, to };
-    let k = put_opening(&mut *out, c, marks, values, goal, from, facts, normal);
+    let k = put_opening(&mut *out, c, marks, values, p.goal, from, facts, normal);
     put_all_actions(
         &mut *out,
         k,
@@ -97,13 +97,13 @@ fn put_task(
 }
 
 // How many rows that translation has, up to 12,001: it is written into a file of no rows.
-fn count_rows(marks: &[u8], values: &[u8], facts: u32, preferences: u32) -> usize
-    requires { ⌜ Rows (now marks) (now values) × Source (now marks) (now values) facts preferences ⌝ }
+fn count_rows(marks: &[u8], values: &[u8], p: Places, facts: u32, preferences: u32) -> usize
+    requires { ⌜ Rows (now marks) (now values) × Found (now marks) p × Source (now marks) (now values) facts preferences ⌝ }
     ensures { λ r. ⌜ r ≡ rowAfter 0 (length (translatedRows (now (marks .entry)) (now (values .entry)) facts)) ⌝ }
 {
     let mut nothing: [u8; 8] = [0; 8];
     let c = Cursor { rows: 0, next: 0 };
-    let k = put_task(&mut nothing, c, marks, values, facts, preferences);
+    let k = put_task(&mut nothing, c, marks, values, p, facts, preferences);
     k.next
 }
 
@@ -112,15 +112,16 @@ pub fn put_file(
     out: &mut [u8],
     marks: &[u8],
     values: &[u8],
+    p: Places,
     facts: u32,
     actions: u32,
     preferences: u32,
     further: u32,
 ) -> Outcome
-    requires { ⌜ Rows (now marks) (now values) × Sized (now marks) (now values) facts actions preferences further ⌝ }
+    requires { ⌜ Rows (now marks) (now values) × Found (now marks) p × Sized (now marks) (now values) facts actions preferences further ⌝ }
     ensures { λ r. ⌜ Fitted (readTask facts (now (marks .entry)) (now (values .entry))) (now (out .entry)) r (now (out .exit)) ⌝ }
 {
-    let n = count_rows(marks, values, facts, preferences);
+    let n = count_rows(marks, values, p, facts, preferences);
     if limits::MAX_ROWS < n {
         return outcome::refuse(refused::TRANSLATION_ROWS, 0);
     }
@@ -132,6 +133,6 @@ pub fn put_file(
     let all_actions = actions + 2 * preferences + 1;
     writer::put_sizes(&mut *out, all_facts, all_actions, 0, n as u32);
     let c = Cursor { rows: n, next: 0 };
-    let _ = put_task(&mut *out, c, marks, values, facts, preferences);
+    let _ = put_task(&mut *out, c, marks, values, p, facts, preferences);
     Outcome::Written(length)
 }

@@ -1,21 +1,15 @@
 -- Runs of stores: apart they may change places, a run is copied byte by byte, and rows put in turn are two runs, of marks and of values.
 use mathlib.Core.Path.{_≡_, refl, sym, ap, _∙_}
-use mathlib.Core.Bool.{Bool, true, false}
 use mathlib.Core.List.{List, [], _∷_, _++_, append-assoc}
-use Prim.Native.Nat.{ℕ, zero, suc, _+_, _*_, _-_, _/_, _%_, _<_, _≤_}
+use Prim.Native.Nat.{ℕ, suc, _+_, _*_, _-_, _<_, _≤_}
 use native.Mathlib.Nat.{add-zero}
 use native.Mathlib.Numerals.{add-one}
 use native.Mathlib.Omega.{arith}
-use lib.Dec.{ltb}
-use lib.ListN.{length, getD, take, drop, set, length-append, length-map, length-drop, take-append-drop}
-use lib.Seq.{sets, sets-eq, length-sets, set-set, set-comm, getD-set-other, getD-drop, drop-cons, drop-drop, take-suc, take-nil, take-all, take-append-seam, drop-at, length-take-le}
-use borrow.Author.Tests.{lt-ltb, le-ltb, ltb-true, ltb-false}
-use Rattle.task.specs.TaskRows.{Row, row}
-use Rattle.task.specs.File.{bytes32, word32, marks, valueBytes, paired}
-use Rattle.task.specs.Rows.{valueAt}
-use Rattle.task.proofs.Bytes.{length-values}
-use Rattle.task.proofs.Reading.{row-at}
-use Rattle.layout.specs.Sides.{stretch}
+use lib.ListN.{length, getD, take, drop, set, length-map, length-drop}
+use lib.Seq.{sets, sets-eq, length-sets, set-set, set-comm, getD-set-other, getD-drop, take-suc, take-append-seam, drop-at, length-take-le}
+use borrow.Author.Tests.{lt-ltb}
+use Rattle.task.specs.TaskRows.{Row}
+use Rattle.task.specs.File.{bytes32, marks, valueBytes}
 use Rattle.writer.specs.Writer.{putRow, putRows}
 
 -- Runs of stores

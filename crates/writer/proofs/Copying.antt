@@ -9,14 +9,14 @@ use lib.Dec.{leb}
 use lib.ListN.{length, getD, take, drop, set, length-map, length-drop, take-append-drop, drop-of-length-le}
 use lib.Seq.{sets, length-sets, drop-cons, drop-set-lt, take-nil, take-take, take-append-add, length-take-le}
 use borrow.Author.Tests.{leb-true, leb-false}
-use Rattle.task.specs.TaskRows.{Row, row}
+use Rattle.task.specs.TaskRows.{Row}
 use Rattle.task.specs.File.{bytes32, word32, marks, valueBytes, paired}
 use Rattle.task.specs.Rows.{Rows, valueAt}
 use Rattle.task.proofs.Bytes.{length-values, length-paired}
 use Rattle.task.proofs.Reading.{row-at}
 use Rattle.layout.specs.Sides.{stretch}
 use Rattle.layout.specs.declared.sides.Span.{Span}
-use Rattle.writer.specs.Writer.{rowAfter, putRows, Wrote, Standing}
+use Rattle.writer.specs.Writer.{putRows, Wrote, Standing}
 use Rattle.writer.specs.declared.Cursor.{Cursor}
 use Rattle.writer.proofs.Blocks.{sets-sets, sets-again, sets-read, blocks, as-blocks}
 use Rattle.writer.proofs.Putting.{put-append, none-put-on}

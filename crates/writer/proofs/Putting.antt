@@ -1,16 +1,16 @@
 -- Laws of rows that are put: rows put in turn, and the file that all rows of it make.
 use mathlib.Core.Path.{_≡_, refl, sym, ap, ap₂, _∙_, subst}
 use mathlib.Core.Bool.{Bool, true, false}
-use mathlib.Core.List.{List, [], _∷_, _++_, append-assoc, append-nil, map-append}
+use mathlib.Core.List.{List, [], _∷_, _++_}
 use Prim.Native.Nat.{ℕ, suc, _+_, _*_, _-_, _<_, _≤_}
 use native.Mathlib.Nat.{add-zero}
 use native.Mathlib.Omega.{arith}
 use lib.Dec.{leb}
-use lib.ListN.{length, getD, take, drop, set, length-append, length-map, length-drop}
-use lib.Seq.{sets, sets-eq, set-comm, take-at, drop-append-add, length-take-le, drop-drop}
-use borrow.Author.Tests.{leb-true, leb-false, lt-ltb, le-ltb}
+use lib.ListN.{length, getD, take, drop, length-append, length-map, length-drop}
+use lib.Seq.{sets, sets-eq, take-at, drop-append-add, length-take-le, drop-drop}
+use borrow.Author.Tests.{leb-true, leb-false, le-ltb}
 use Rattle.task.specs.TaskRows.{Row, row}
-use Rattle.task.specs.File.{bytes16, bytes32, marks, valueBytes, fileOfRows}
+use Rattle.task.specs.File.{bytes16, marks, valueBytes, fileOfRows}
 use Rattle.task.specs.Rows.{valueAt}
 use Rattle.task.proofs.Bytes.{length-values}
 use Rattle.task.proofs.Reading.{row-at}

@@ -45,8 +45,22 @@ fn store_row(out: &mut [u8], c: Cursor, mark: u8, value: u32)
     put_word(&mut *out, k, value);
 }
 
-// The cursor after so many rows.
-fn advance(c: Cursor, many: usize) -> Cursor
+// The cursor after one row.
+fn advance(c: Cursor) -> Cursor
+    ensures { λ r. ⌜ (r .rows ≡ c .rows) × (r .next ≡ rowAfter (c .next) 1) ⌝ }
+{
+    let rows = c.rows;
+    if c.next < TOO_MANY {
+        return Cursor {
+            rows,
+            next: c.next + 1,
+        };
+    }
+    c
+}
+
+// The cursor after so many rows, without going through them.
+fn advance_by(c: Cursor, many: usize) -> Cursor
     ensures { λ r. ⌜ (r .rows ≡ c .rows) × (r .next ≡ rowAfter (c .next) many) ⌝ }
 {
     let rows = c.rows;
@@ -72,10 +86,10 @@ pub fn put_row(out: &mut [u8], c: Cursor, mark: u8, value: u32) -> Cursor
     ensures { λ r. ⌜ Wrote (now (out .entry)) c (row mark value ∷ []) r (now (out .exit)) ⌝ }
 {
     if c.rows <= c.next {
-        return advance(c, 1);
+        return advance(c);
     }
     store_row(&mut *out, c, mark, value);
-    advance(c, 1)
+    advance(c)
 }
 
 // How many of so many rows the file has room for.
@@ -123,10 +137,10 @@ pub fn copy_rows(out: &mut [u8], c: Cursor, marks: &[u8], values: &[u8], s: Span
     }
     let many = s.to - s.from;
     if c.next >= c.rows {
-        return advance(c, many);
+        return advance_by(c, many);
     }
     store_rows(&mut *out, c, marks, values, s);
-    advance(c, many)
+    advance_by(c, many)
 }
 
 // Copies so many bytes of the area itself, from byte `from` to byte `at`, which lies after them.
@@ -161,10 +175,10 @@ pub fn repeat_rows(out: &mut [u8], c: Cursor, s: Span) -> Cursor
 {
     let many = s.to - s.from;
     if c.next >= c.rows {
-        return advance(c, many);
+        return advance_by(c, many);
     }
     store_again(&mut *out, c, s);
-    advance(c, many)
+    advance_by(c, many)
 }
 
 // Writes a clause of one literal.

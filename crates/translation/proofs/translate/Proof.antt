@@ -31,22 +31,28 @@ returns c =
 add-middle : tie.Need-add-middle
 add-middle c = let h = parts (c .before) in search needs
 
+part-find-end : tie.Need-part-find-end
+part-find-end c = let h = parts (c .before) in search needs
+
 part-count-end : tie.Need-part-count-end
-part-count-end c = let h = parts (c .before) in search needs
+part-count-end c = let h = parts (c .before .before .before) in search needs
 
 sub-count-2 : tie.Need-sub-count-2
-sub-count-2 c = let h = parts (c .before .before) in search needs
+sub-count-2 c = let h = parts (c .before .before .before .before) in search needs
 
 part-count-start-2 : tie.Need-part-count-start-2
-part-count-start-2 c = let h = parts (c .before .before) in search needs
+part-count-start-2 c = let h = parts (c .before .before .before .before) in search needs
 
 count-requires : tie.Need-count-requires
 count-requires c κs =
-    let h = parts (c .before .before .before) in
-    record { few = simp (length-take, length-drop) (omega arith); values = simp (length-take, length-drop) (omega arith) }
+    let f = c .before .before in
+    let h = parts (f .before .before .before) in (
+      record { few = simp (length-take, length-drop) (omega arith); values = simp (length-take, length-drop) (omega arith) },
+      f .find .ensures .inside,
+    )
 
 small-enough-requires : tie.Need-small-enough-requires
-small-enough-requires c κs = let h = parts (c .before .before .before .before) in search needs
+small-enough-requires c κs = let h = parts (c .before .before .before .before .before .before) in search needs
 
 refuse-requires : tie.Need-refuse-requires
 refuse-requires c κs = search needs
@@ -54,60 +60,63 @@ refuse-requires c κs = search needs
 returns-2 : tie.Need-returns-2
 returns-2 c =
     let m = c .before .before in
-    let n = m .before .before .before .before .before in
+    let f = m .before .before .before .before in
+    let n = f .before .before .before in
     let k = n .before .before .before in
     let a = k .before .before .before .args in
     too-large (now (a .file)) (now (a .out)) (k .check .result) (k .check .ensures) (n .before .c .given .0 .0) (n .before .c .given .1)
-    (m .before .count .result) (m .before .count .ensures .0)
+    (f .find .result) (m .before .count .result) (f .find .ensures, m .before .count .ensures .0)
     (sym (m .small-enough .ensures) ∙ not-true (m .small-enough .result) (c .before .if1 .taken)) (c .refuse .result) (c .refuse .ensures)
 
 cast-facts : tie.Need-cast-facts
 cast-facts c =
     let l = c .before in
-    let h = parts (l .before .before .before .before .before .before) in
+    let h = parts (l .before .before .before .before .before .before .before .before) in
     search needs
 
 cast-actions : tie.Need-cast-actions
 cast-actions c =
     let l = c .before .before in
-    let h = parts (l .before .before .before .before .before .before) in
+    let h = parts (l .before .before .before .before .before .before .before .before) in
     search needs
 
 cast-preferences : tie.Need-cast-preferences
 cast-preferences c =
     let l = c .before .before .before in
-    let h = parts (l .before .before .before .before .before .before) in
+    let h = parts (l .before .before .before .before .before .before .before .before) in
     search needs
 
 part-put-file-end : tie.Need-part-put-file-end
 part-put-file-end c =
     let l = c .before .before .before .before in
-    let h = parts (l .before .before .before .before .before .before) in
+    let h = parts (l .before .before .before .before .before .before .before .before) in
     search needs
 
 sub-put-file-2 : tie.Need-sub-put-file-2
 sub-put-file-2 c =
     let l = c .before .before .before .before .before in
-    let h = parts (l .before .before .before .before .before .before) in
+    let h = parts (l .before .before .before .before .before .before .before .before) in
     search needs
 
 part-put-file-start-2 : tie.Need-part-put-file-start-2
 part-put-file-start-2 c =
     let l = c .before .before .before .before .before in
-    let h = parts (l .before .before .before .before .before .before) in
+    let h = parts (l .before .before .before .before .before .before .before .before) in
     search needs
 
 put-file-requires : tie.Need-put-file-requires
 put-file-requires c κs =
     let l = c .before .before .before .before .before .before in
     let m = l .before in
-    let n = m .before .before .before .before .before in
+    let f = m .before .before .before .before in
+    let n = f .before .before .before in
     let k = n .before .before .before in
     let a = k .before .before .before .args in
     let h = parts n in (
       record { few = simp (length-take, length-drop) (omega arith); values = simp (length-take, length-drop) (omega arith) },
+      f .find .ensures,
       put-source (now (a .file)) (now (a .out)) (k .check .result) (k .check .ensures) (n .before .c .given .0 .0) (n .before .c .given .1)
-          (m .before .count .result) (m .before .count .ensures .0)
+          (f .find .result) (m .before .count .result) (f .find .ensures, m .before .count .ensures .0)
           (sym (m .small-enough .ensures) ∙ not-false (m .small-enough .result) (l .if1 .left)),
     )
 
@@ -116,11 +125,12 @@ returns-3 c =
     let p = c .before .before in
     let l = c .before .before .before .before .before .before .before .before .before in
     let m = l .before in
-    let n = m .before .before .before .before .before in
+    let f = m .before .before .before .before in
+    let n = f .before .before .before in
     let k = n .before .before .before in
     let a = k .before .before .before .args in
     put (now (a .file)) (now (a .out)) (k .check .result) (k .check .ensures) (n .before .c .given .0 .0) (n .before .c .given .1)
-    (m .before .count .result) (m .before .count .ensures .0)
+    (f .find .result) (m .before .count .result) (f .find .ensures, m .before .count .ensures .0)
     (sym (m .small-enough .ensures) ∙ not-false (m .small-enough .result) (l .if1 .left)) (p .put-file .result) (p .put-file .last .0) (p .put-file .ensures)
 
 pub translate-spec : {M : Type 1} → statement M
@@ -133,6 +143,10 @@ translate-spec =
     (λ c κs. search needs)
     returns
     add-middle
+    (λ c. search needs)
+    (λ c. search needs)
+    part-find-end
+    (λ c κs. search needs)
     (λ c. search needs)
     (λ c. search needs)
     part-count-end

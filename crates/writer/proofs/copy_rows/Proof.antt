@@ -1,6 +1,5 @@
 -- No rows, rows that the file has no room for (`wrote-past`), or rows that store_rows puts.
 use mathlib.Core.Path.{sym, ap, _∙_}
-use Prim.Native.Nat.{ℕ}
 use denote.Ref.{now}
 use Rattle.layout.specs.Sides.{part}
 use borrow.Author.Needs.{needs}
@@ -24,8 +23,8 @@ returns-2 c =
     let ms = now (a .marks) in
     let vs = now (a .values) in
     let long = stretch-long ms vs (a .s .from) (a .s .to) (search needs) (search needs) in
-    wrote-past (now (a .out)) (a .c) (part ms vs (a .s)) (c .advance .result) (search needs) (search needs)
-    (c .advance .ensures .0, c .advance .ensures .1 ∙ ap (rowAfter (a .c .next)) (sym long))
+    wrote-past (now (a .out)) (a .c) (part ms vs (a .s)) (c .advance-by .result) (search needs) (search needs)
+    (c .advance-by .ensures .0, c .advance-by .ensures .1 ∙ ap (rowAfter (a .c .next)) (sym long))
 
 returns-3 : tie.Need-returns-3
 returns-3 c =
@@ -36,8 +35,8 @@ returns-3 c =
     let long = stretch-long (now (a .marks)) (now (a .values)) (a .s .from) (a .s .to) (search needs) (search needs) in
     record {
       room = search needs;
-      same = c .advance2 .ensures .0;
-      next = c .advance2 .ensures .1 ∙ ap (rowAfter (a .c .next)) (sym long);
+      same = c .advance-by2 .ensures .0;
+      next = c .advance-by2 .ensures .1 ∙ ap (rowAfter (a .c .next)) (sym long);
       file = w .store-rows .ensures;
     }
 

@@ -1,13 +1,12 @@
 -- One byte more in each turn, by `copied-on`: those that are read lie below the run, and are as they were (`sets-below`).
 use mathlib.Core.Path.{refl, ap, _∙_}
 use mathlib.Core.List.{List}
-use Prim.Native.Nat.{_+_, _-_}
+use Prim.Native.Nat.{ℕ, _+_, _-_}
 use native.Mathlib.Omega.{arith}
 use denote.Ref.{now}
 use lib.ListN.{getD, take, drop}
 use borrow.Author.Needs.{needs}
 use Rattle.writer.proofs.Blocks.{Copying, size, copied-on, copied-all, sets-below}
-use Prim.Native.Nat.{ℕ}
 use Rattle.writer.proofs.repeat_bytes.Statement.{statement}
 use Rattle.writer.proofs.repeat_bytes.Tie as tie
 

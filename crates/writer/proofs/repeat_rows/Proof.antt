@@ -10,8 +10,8 @@ returns : tie.Need-returns
 returns c =
     let st = c .before .before .before .before .before in
     let a = st .args in
-    λ xs held. wrote-past (now (a .out)) (a .c) xs (c .advance .result) (st .pre .0) (search needs)
-    (c .advance .ensures .0, omega (arith, c .advance .ensures .1, held .counted, st .pre .1, st .pre .2))
+    λ xs held. wrote-past (now (a .out)) (a .c) xs (c .advance-by .result) (st .pre .0) (search needs)
+    (c .advance-by .ensures .0, omega (arith, c .advance-by .ensures .1, held .counted, st .pre .1, st .pre .2))
 
 returns-2 : tie.Need-returns-2
 returns-2 c =
@@ -19,8 +19,8 @@ returns-2 c =
     let st = w .before .before .before .before .before .before in
     λ xs held. record {
       room = search needs;
-      same = c .advance2 .ensures .0;
-      next = omega (arith, c .advance2 .ensures .1, held .counted, st .pre .1, st .pre .2);
+      same = c .advance-by2 .ensures .0;
+      next = omega (arith, c .advance-by2 .ensures .1, held .counted, st .pre .1, st .pre .2);
       file = w .store-again .ensures xs held;
     }
 

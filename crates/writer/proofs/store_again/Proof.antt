@@ -1,6 +1,5 @@
 -- The blocks where the rows stand are those that are to be put, by `repeated`.
 use mathlib.Core.Path.{_∙_}
-use native.Mathlib.Omega.{arith}
 use borrow.Author.Needs.{needs}
 use Rattle.writer.proofs.Copying.{repeated}
 use Rattle.writer.proofs.store_again.Statement.{statement}

@@ -3,8 +3,6 @@ use Prim.Native.Nat.{_-_}
 use mathlib.Core.Bool.{false}
 use denote.Ref.{now}
 use Rattle.trackers.specs.Trackers.{trackersBy}
-use Rattle.writer.proofs.Putting.{kept-none}
-use Rattle.translation.specs.Parts.{Placed}
 use Rattle.translation.proofs.PartRows.{Acting, acting-none, before-own, acted-on, acted-all, acted-full}
 use borrow.Author.Needs.{needs}
 use Rattle.translation.proofs.parts.put_actions.Statement.{statement}
@@ -39,10 +37,7 @@ put-trackers-requires c κs =
     let st = l .before .before .before .before .before in
     let a = st .args in
     let p = st .pre .2 in (
-      u .put-own .ensures .room,
-      st .pre .1,
-      p .few-starts,
-      p .few-facts,
+      (u .put-own .ensures .room, st .pre .1, p .few-starts, p .few-facts),
       before-own (now (a .marks)) (now (a .values)) (a .facts) (a .s .from) (a .s .to) (a .normal) (now (a .starts)) p (l .loop .inv) (u .put-own .ensures),
     )
 

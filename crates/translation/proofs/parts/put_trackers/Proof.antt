@@ -9,7 +9,7 @@ use Rattle.translation.proofs.parts.put_trackers.Tie as tie
 repeat-rows-requires : tie.Need-repeat-rows-requires
 repeat-rows-requires c κs =
     let st = c .before .before .before .before .before .before .before in
-    (st .pre .0, search needs, st .pre .4 .below)
+    (st .pre .0 .0, search needs, st .pre .1 .below)
 
 returns : tie.Need-returns
 returns c =
@@ -17,7 +17,7 @@ returns c =
     let i = w .before .before in
     let st = i .before .before .before .before .before .before in
     let a = st .args in
-    w .repeat-rows .ensures (trackersBy (now (a .marks)) (now (a .values)) (now (a .starts)) (a .facts) false) (st .pre .4 .held (i .if1 .taken))
+    w .repeat-rows .ensures (trackersBy (now (a .marks)) (now (a .values)) (now (a .starts)) (a .facts) false) (st .pre .1 .held (i .if1 .taken))
 
 pub put-trackers-spec : {M : Type 1} → statement M
 put-trackers-spec =

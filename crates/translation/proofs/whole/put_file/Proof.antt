@@ -11,7 +11,7 @@ use Rattle.translation.proofs.whole.put_file.Statement.{statement}
 use Rattle.translation.proofs.whole.put_file.Tie as tie
 
 count-rows-requires : tie.Need-count-rows-requires
-count-rows-requires c κs = let st = c .before .before .before in (st .pre .0, st .pre .1 .source)
+count-rows-requires c κs = let st = c .before .before .before in (st .pre .0, st .pre .1, st .pre .2 .source)
 
 returns : tie.Need-returns
 returns c =
@@ -33,7 +33,7 @@ put-task-requires : tie.Need-put-task-requires
 put-task-requires c κs =
     let n = c .before .before .before .before .before .before .before in
     let st = n .before .before .before .before in
-    (record { few = search needs; long = search needs }, st .pre .0, st .pre .1 .source)
+    (record { few = search needs; long = search needs }, st .pre .0, st .pre .1, st .pre .2 .source)
 
 returns-3 : tie.Need-returns-3
 returns-3 c =
@@ -42,7 +42,7 @@ returns-3 c =
     let n = m .before .before .before .before in
     let st = n .before .before .before .before in
     let a = st .args in
-    let z = st .pre .1 in
+    let z = st .pre .2 in
     let t = readTask (a .facts) (now (a .marks)) (now (a .values)) in
     let counted = n .count-rows .ensures in
     record {
