@@ -101,7 +101,10 @@ def reached(log):
 
 def fuzzed():
     log = logged('fuzz/log')
-    executions = int(re.search(r'number_of_executed_units: *(\d+)', log)[1])
+    count = re.search(r'number_of_executed_units: *(\d+)', log)
+    if not count:
+        raise FileNotFoundError(2, 'a run that has not ended', 'end of the log')
+    executions = int(count[1])
     clean = 'no finding' if not re.search('finding|ERROR', log) else 'WITH FINDINGS'
     cells = []
     for name, *numbers in reached(log):
