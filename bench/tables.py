@@ -128,7 +128,8 @@ def mistakes():
     for operation, what, how in lines:
         found.setdefault(operation, []).append(what + (f' ({int(how.split()[-1]):,})' if how.startswith('found') else ' (**not found**)'))
     count = sum(how.startswith('found') for _, _, how in lines)
-    return f'{count} of {len(lines)} were found:\n\n' + table(
+    first = len(os.listdir(os.path.join(ROOT, 'target', 'fuzz', 'seeds')))
+    return f'{count} of {len(lines)} were found. There are {first} first inputs, which come before all others.\n\n' + table(
         ['operation', 'put in, and the execution that found it'], [[name, '; '.join(words)] for name, words in found.items()])
 
 
