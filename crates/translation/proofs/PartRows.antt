@@ -5,7 +5,7 @@ use mathlib.Core.List.{List, [], _∷_, _++_, map, append-assoc}
 use Prim.Native.Nat.{ℕ, zero, suc, _+_, _-_, _≤_, _<_}
 use native.Mathlib.Omega.{arith}
 use lib.ListN.{length, drop, length-drop, length-append}
-use Rattle.lists.specs.Lists.{all, singleton, concatMap}
+use Rattle.lists.specs.Lists.{singleton, concatMap}
 use Rattle.task.specs.Marks.{ACTION, EFFECT, CLAUSE, HOLDS, LACKS, ADD, DELETE}
 use Rattle.meaning.specs.Task.{Action, Preference}
 use Rattle.task.specs.TaskRows.{Row, row, conditionRows, effectRows, actionRows, preferenceRows}

@@ -32,7 +32,7 @@ use Rattle.translation.specs.Further.{furtherRows}
 use Rattle.translation.proofs.FurtherRows.{task-further}
 use Rattle.writer.specs.Writer.{rowAfter, putRows, Wrote, header}
 use Rattle.writer.specs.declared.Cursor.{Cursor}
-use Rattle.translation.specs.Parts.{readTask, Source, Found}
+use Rattle.translation.specs.Parts.{readTask, Found}
 use Rattle.translation.specs.declared.places.Places.{Places}
 use Rattle.translation.specs.Whole.{Sized, Fitted}
 use Rattle.outcome.specs.Outcome.{written, refused, areaAfter}
