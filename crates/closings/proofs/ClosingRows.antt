@@ -12,7 +12,7 @@ use borrow.Author.Tests.{ne-eqb, eq-eqb, lt-leb}
 use Rattle.lists.specs.Lists.{all, singleton, concatMap, concatFrom}
 use Rattle.task.specs.Marks.{LACKS}
 use Rattle.meaning.specs.Task.{Condition, Preference}
-use Rattle.task.specs.TaskRows.{Row, row, clauseRows, conditionRows, actionRows, preferenceRows}
+use Rattle.task.specs.TaskRows.{Row, clauseRows, conditionRows, actionRows, preferenceRows}
 use Rattle.task.specs.File.{paired, opensHard, softMark, kindOf}
 use Rattle.meaning.specs.Meaning.{noPreference}
 use Rattle.task.specs.Rows.{valueAt, stepsAt}

@@ -9,7 +9,6 @@ use Rattle.task.specs.TaskRows.{Row, row}
 use Rattle.task.specs.File.{hasMark}
 use Rattle.task.specs.Rows.{valueAt}
 use Rattle.layout.specs.Sides.{part}
-use Rattle.layout.specs.declared.sides.Span.{Span}
 use Rattle.effects.specs.declared.Guard.{Guard}
 use Rattle.effects.specs.declared.Guard.the-variants.{Nothing, Holds, Lacks, BothHold, BothLack, Rows}
 use Rattle.effects.specs.declared.Change.{Change}

@@ -20,7 +20,6 @@ use Rattle.task.proofs.Positions.{drop-next, drop-after, tailRows, tail-stops, 
 use Rattle.state.specs.Member.{empty}
 use Rattle.reading.specs.Conditions.{inCondition, begin, readAs, evaluateAt}
 use Rattle.reading.specs.Effects.{inEffects, EffectsAt}
-use Rattle.reading.specs.declared.effects.Changed.{Changed}
 use Rattle.reading.specs.Opening.{openAt}
 use Rattle.reading.proofs.OpeningRows.{opening-at}
 use Rattle.reading.proofs.ConditionRows.{condition-at}

@@ -25,7 +25,7 @@ use Rattle.text.specs.Ascii.{ascii}
 use Rattle.text.specs.Text.{decimal, integer}
 use Rattle.text.proofs.Decimal.{few-digits}
 use Rattle.outcome.specs.Outcome.{written}
-use Rattle.report_lines.specs.Lines.{kindWord, hardWord, fullKind, outcomeWord, solvedLine, preferenceLine, amountsLine, stoppedLine, ruleMissedLine}
+use Rattle.report_lines.specs.Lines.{kindWord, fullKind, outcomeWord, solvedLine, preferenceLine, amountsLine, stoppedLine, ruleMissedLine}
 use Rattle.report.specs.Report.{preferenceLines, verdictText, reportOf, reportOn, reportOutcome}
 use Rattle.task.specs.Limits.{MAX-AMOUNT}
 

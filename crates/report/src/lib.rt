@@ -2,7 +2,7 @@
 mod preferences;
 
 ghost use mathlib.Core.Path.{_≡_};
-ghost use Prim.Native.Nat.{_*_, _≤_};
+ghost use Prim.Native.Nat.{_*_};
 ghost use lib.ListN.{length};
 ghost use Rattle.task.specs.File.{paired};
 ghost use Rattle.task.specs.Rows.{Rows};

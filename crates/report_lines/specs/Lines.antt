@@ -3,9 +3,7 @@ use mathlib.Core.Bool.{Bool, true, false}
 use mathlib.Core.List.{List, [], _++_}
 use Prim.Native.Nat.{ℕ}
 use lib.IntN.{ℤ}
-use lib.ListN.{length}
 use Rattle.meaning.specs.Task.{Kind, always, sometime, at-end, at-most-once, sometime-before, sometime-after, within, always-within}
-use Rattle.meaning.specs.Verdict.{solved, stopped}
 use Rattle.text.specs.Ascii.{ascii}
 use Rattle.text.specs.Text.{decimal, integer}
 

@@ -9,7 +9,6 @@ use native.Mathlib.Omega.{arith}
 use lib.Dec.{T, leb, eqb, ltb, ltb→lt, lt→ltb}
 use lib.ListN.{length, take, drop, getD}
 use borrow.Author.Tests.{le-leb, leb-true}
-use Rattle.lists.specs.Lists.{all}
 use Rattle.task.specs.Marks.{ACTION}
 use Rattle.task.specs.TaskRows.{Row, row}
 use Rattle.task.specs.File.{Sizes, sizes, word32, paired, rows, hasMark, opensSoft}

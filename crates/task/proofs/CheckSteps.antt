@@ -6,7 +6,7 @@ use mathlib.Core.Option.{some}
 use Prim.Native.Nat.{ℕ, _+_, _<_, _≤_}
 use native.Mathlib.Omega.{arith}
 use lib.Dec.{T, eqb, eqb→eq, leb→le}
-use lib.ListN.{length, drop, getD}
+use lib.ListN.{length, getD}
 use borrow.Author.Tests.{eq-eqb, ne-eqb}
 use Rattle.lists.proofs.Tests.{tests, as-true, as-false, not-both}
 use Rattle.task.specs.Marks.{ACTION, EFFECT, DELETE, START}
@@ -14,7 +14,7 @@ use Rattle.task.specs.TaskRows.{row}
 use Rattle.task.specs.File
 use Rattle.task.specs.File.{paired}
 use Rattle.task.specs.Check
-use Rattle.task.specs.Check.{Answer, Context, refused, follow, valueAllowed, nextProgress, firstProgress, finish, checkRows}
+use Rattle.task.specs.Check.{Context, refused, follow, valueAllowed, nextProgress, firstProgress, finish, checkRows}
 use Rattle.task.specs.Rows.{valueAt, between}
 use Rattle.task.specs.Contexts.{numberOr, numbered, leadsAlike}
 use Rattle.task.specs.Answers.{asSizes, asProgress, inContext, checkFrom}

@@ -12,7 +12,7 @@ use Rattle.meaning.specs.Task.{Kind, Effect, Action, Preference, Task}
 use Rattle.task.specs.TaskRows.{Row, row, openingMark, conditionRows, effectRows, actionRows, preferenceRows, taskRows}
 use Rattle.task.specs.File.{isPreference}
 use Rattle.task.specs.Rows.{Stops}
-use Rattle.lists.proofs.Tests.{tests, noneOf, without, all-both, all-map, all-concat, takeUntil-none, as-true, as-false}
+use Rattle.lists.proofs.Tests.{noneOf, without, all-both, all-map, all-concat, takeUntil-none, as-true, as-false}
 use Rattle.task.proofs.Passing.{condition-passes, effects-pass, kindMarks, opening-passes}
 use Rattle.task.proofs.RoundTrip.{fromGoal, task-grouped}
 

@@ -9,13 +9,13 @@ use Rattle.task.specs.Marks.{ACTION, EFFECT, CLAUSE, HOLDS, LACKS, ADD, 
 use Rattle.lists.specs.Lists.{all, filter, takeUntil, concatMap, isEmpty}
 use Rattle.meaning.specs.Task.{Kind, always, sometime, at-end, at-most-once, sometime-before, sometime-after, within, always-within, Literal}
 use Rattle.meaning.specs.Task.{Clause, Condition, Effect, Action, Preference, Task, two-sided}
-use Rattle.task.specs.TaskRows.{Row, row, kindMark, openingMark, stepsRows, literalRow, clauseRows, conditionRows, effectRows}
+use Rattle.task.specs.TaskRows.{Row, row, kindMark, openingMark, stepsRows, literalRow, conditionRows, effectRows}
 use Rattle.task.specs.TaskRows.{actionRows, preferenceRows, taskRows}
 use Rattle.task.specs.File.{Part, Parts, cut, hasMark, isPreference, values, literalOf, conditionOf, isSection, kindOf, preferenceOf, sections}
 use Rattle.task.specs.File.{isChange, effectOf, actionOf, taskOfRows}
-use Rattle.lists.proofs.Tests.{tests, noneOf, without, and-both, as-true, as-false, all-both, all-map, map-back, map-undo}
+use Rattle.lists.proofs.Tests.{tests, noneOf, without, as-true, as-false, all-both, all-map, map-back, map-undo}
 use Rattle.lists.proofs.Tests.{filter-append, filter-all, filter-none, takeUntil-none}
-use Rattle.task.proofs.Passing.{Passes, literal-passes, condition-passes, changes-pass, effects-pass, opening-passes, secondRows, conditionsOf, sideRows}
+use Rattle.task.proofs.Passing.{Passes, literal-passes, condition-passes, changes-pass, effects-pass, opening-passes, conditionsOf, sideRows}
 use Rattle.task.proofs.Passing.{stepRows, sides-pass}
 use Rattle.task.proofs.Hard.{soft-back, hard-back}
 

@@ -2,7 +2,7 @@
 use mathlib.Core.Path.{_≡_, refl, sym, ap, _∙_}
 use mathlib.Core.Bool.{Bool, true, false}
 use mathlib.Core.List.{List, [], _∷_, _++_, map, append-assoc, append-nil}
-use Prim.Native.Nat.{ℕ, zero, suc, _+_, _*_, _≤_, _<_}
+use Prim.Native.Nat.{ℕ, zero, suc, _+_, _*_, _<_}
 use native.Mathlib.Nat.{le-of-suc-le-suc, not-suc-le-zero}
 use native.Mathlib.Numerals.{add-one}
 use native.Mathlib.Omega.{arith}
@@ -27,7 +27,7 @@ use Rattle.layout.proofs.Starting.{within-rows, at-sides, after-is}
 use Rattle.kind_trackers.specs.declared.Facts.{Facts}
 use Rattle.effects.specs.Effects.{singleRows}
 use Rattle.effects.proofs.EffectRows.{effects-append, effect-rows, add-rows, delete-rows, false-is}
-use Rattle.kind_trackers.specs.Rows.{changeRows, alwaysRows, beforeRows, afterRows, onwardRows, withinRows, waitRows, resetRows, soonRows, trackerRows}
+use Rattle.kind_trackers.specs.Rows.{changeRows, beforeRows, afterRows, onwardRows, withinRows, waitRows, resetRows, soonRows, trackerRows}
 use Rattle.trackers.specs.Trackers.{factsFrom, trackersAt, furtherAt, trackersFrom, trackersBy, allTrackerRows}
 
 -- parts that are made one after the other

@@ -2,13 +2,10 @@
 ghost use mathlib.Core.Bool.{false};
 ghost use Prim.Native.Nat.{_+_, _≤_, _<_};
 ghost use lib.ListN.{length};
-ghost use Rattle.task.specs.Marks.{EFFECT, ADD};
-ghost use Rattle.task.specs.TaskRows.{row};
 ghost use Rattle.task.specs.Rows.{Rows};
 ghost use Rattle.writer.specs.Writer.{Room, Wrote};
 ghost use Rattle.trackers.specs.Trackers.{trackersBy};
 ghost use Rattle.translation.specs.Parts.{Placed, BodyInside, Before, ownRows, sourceActions, endAt};
-ghost use Rattle.closings.specs.Closings.{closed};
 ghost use Rattle.translation.specs.Parts.{preferencesTo, closedRows};
 use layout::sides;
 use layout::sides::Span;

@@ -2,7 +2,7 @@
 use mathlib.Core.Path.{_≡_, refl, sym, ap, _∙_, subst⁻¹}
 use mathlib.Core.Bool.{Bool, true, false}
 use mathlib.Core.List.{List, [], _∷_, _++_}
-use Prim.Native.Nat.{ℕ, zero, suc, _+_, _*_, _-_, _/_, _%_, _<_, _≤_, min}
+use Prim.Native.Nat.{ℕ, zero, suc, _+_, _*_, _-_, _<_, _≤_, min}
 use native.Mathlib.Numerals.{add-one}
 use native.Mathlib.Omega.{arith}
 use lib.Dec.{leb}
@@ -12,7 +12,7 @@ use borrow.Author.Tests.{leb-true, leb-false}
 use Rattle.task.specs.TaskRows.{Row}
 use Rattle.task.specs.File.{bytes32, word32, marks, valueBytes, paired}
 use Rattle.task.specs.Rows.{Rows, valueAt}
-use Rattle.task.proofs.Bytes.{length-values, length-paired}
+use Rattle.task.proofs.Bytes.{bytes32-back, length-values, length-paired}
 use Rattle.task.proofs.Reading.{row-at}
 use Rattle.layout.specs.Sides.{stretch}
 use Rattle.layout.specs.declared.sides.Span.{Span}
@@ -52,22 +52,6 @@ module _ (b : List ℕ) (n i : ℕ) (xs : List Row) (k : ℕ) (h : i ≤ n) (fit
 abbrev pub Bytes : List ℕ → Type 0
 Bytes vs = (i : ℕ) → getD vs i 0 < 256
 
-module _ (a b c d : ℕ) (ha : a < 256) (hb : b < 256) (hc : c < 256) (hd : d < 256) where
-  byte0 : (a + 256 * b + 65536 * c + 16777216 * d) % 256 ≡ a
-  byte0 = omega arith
-
-  byte1 : (a + 256 * b + 65536 * c + 16777216 * d) / 256 % 256 ≡ b
-  byte1 = omega arith
-
-  byte2 : (a + 256 * b + 65536 * c + 16777216 * d) / 65536 % 256 ≡ c
-  byte2 = omega arith
-
-  byte3 : (a + 256 * b + 65536 * c + 16777216 * d) / 16777216 % 256 ≡ d
-  byte3 = omega arith
-
-  bytes-back : bytes32 (a + 256 * b + 65536 * c + 16777216 * d) ≡ a ∷ b ∷ c ∷ d ∷ []
-  bytes-back = cc (byte0, byte1, byte2, byte3)
-
 -- a value's bytes, and m after them
 value-bytes : (vs : List ℕ) (j m : ℕ) → j + 4 ≤ length vs → Bytes vs
     → bytes32 (word32 (drop j vs)) ++ take m (drop (j + 4) vs) ≡ take (4 + m) (drop j vs)
@@ -85,7 +69,7 @@ value-bytes vs j m h bytes =
     ∙ ap (λ (l : List ℕ). c ∷ l) (drop-cons vs (suc (suc (suc j))) 0 (omega arith) ∙ ap (λ (n : ℕ). d ∷ drop n vs) p))) in
     let q : 4 + m ≡ suc (suc (suc (suc m))) = omega arith in
     ap (λ (l : List ℕ). bytes32 (word32 l) ++ take m r) e
-    ∙ ap (λ (l : List ℕ). l ++ take m r) (bytes-back a b c d (bytes j) (bytes (suc j)) (bytes (suc (suc j))) (bytes (suc (suc (suc j)))))
+    ∙ ap (λ (l : List ℕ). l ++ take m r) (bytes32-back a b c d (bytes j) (bytes (suc j)) (bytes (suc (suc j))) (bytes (suc (suc (suc j)))))
     ∙ sym (ap (λ (l : List ℕ). take (4 + m) l) e ∙ ap (λ (n : ℕ). take n (a ∷ b ∷ c ∷ d ∷ r)) q)
 
 module _ (ms vs : List ℕ) where

@@ -1,5 +1,4 @@
 -- Collect and forgo by the kind, the mark and the weight that were read; none where there is no row.
-use mathlib.Core.Path.{sym}
 use mathlib.Core.List.{[]}
 use lib.ListN.{length}
 use borrow.Author.Tests.{le-leb, lt-leb}

@@ -1,6 +1,5 @@
 -- The changed facts, if an effect is open.
 use borrow.Author.Tests.{not-true, not-false}
-use denote.Ref.{now}
 use Rattle.writer.proofs.Putting.{wrote-none}
 use borrow.Author.Needs.{needs}
 use Rattle.effects.proofs.close_effect.Statement.{statement}

@@ -1,6 +1,5 @@
 -- By whether the mark is HOLDS.
 use borrow.Author.Tests.{ne-eqb}
-use borrow.Author.Needs.{needs}
 use Rattle.effects.proofs.denied.Statement.{statement}
 use Rattle.effects.proofs.denied.Tie as tie
 

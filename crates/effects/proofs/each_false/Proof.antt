@@ -1,6 +1,5 @@
 -- The rows that are left make up all of them: a loop over the condition, by `next-false` and `then`.
 use mathlib.Core.Path.{_∙_}
-use mathlib.Core.Bool.{_||_}
 use Prim.Native.Nat.{_-_}
 use denote.Ref.{now}
 use Rattle.layout.specs.Sides.{stretch}

@@ -1,6 +1,6 @@
 -- The walk from row i on answers as that from row `from` on: Kept of CheckSteps, which each plain row keeps by one-part.
 use borrow.Author.Needs.{needs}
-use mathlib.Core.Path.{_≡_, refl, sym, _∙_}
+use mathlib.Core.Path.{refl, sym, _∙_}
 use mathlib.Core.Bool.{_&&_}
 use Prim.Native.Nat.{_-_}
 use denote.Ref.{now}

@@ -1,6 +1,6 @@
 -- Each test decides a part of the conjunction: is_part's answer, what the table says of both contexts, and value_allowed's.
 use borrow.Author.Needs.{needs}
-use mathlib.Core.Path.{_≡_, refl, sym, _∙_}
+use mathlib.Core.Path.{_≡_, sym, _∙_}
 use mathlib.Core.Bool.{true, false}
 use borrow.Author.Tests.{not-true, not-false, eq-eqb, ne-eqb}
 use Rattle.task.specs.Marks.{EFFECT, DELETE}

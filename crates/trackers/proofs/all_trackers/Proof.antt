@@ -1,5 +1,4 @@
 -- The trackers that are left make up all of them: a loop over the preferences, by `tracked-on`.
-use mathlib.Core.Path.{refl, ap, ap₂, _∙_}
 use Prim.Native.Nat.{_-_}
 use native.Mathlib.Omega.{arith}
 use denote.Ref.{now}

@@ -5,7 +5,7 @@ use Prim.Native.Nat.{_+_, _*_, _≤_}
 use native.Mathlib.Omega.{arith}
 use denote.Ref.{now}
 use lib.ListN.{length, length-take, length-drop}
-use Rattle.translation.proofs.Translating.{turned-down, exact, within, too-large, small, put-source, put}
+use Rattle.translation.proofs.Translating.{turned-down, exact, within, too-large, put-source, put}
 use borrow.Author.Needs.{needs}
 use Rattle.translation.proofs.translate.Statement.{statement}
 use Rattle.translation.proofs.translate.Tie as tie

@@ -1,6 +1,5 @@
 -- The effect, where it is wanted.
 use borrow.Author.Tests.{not-true, not-false}
-use denote.Ref.{now}
 use Rattle.writer.proofs.Putting.{wrote-none}
 use borrow.Author.Needs.{needs}
 use Rattle.kind_trackers.proofs.kinds.reached.Statement.{statement}

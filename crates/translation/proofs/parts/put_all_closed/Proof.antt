@@ -1,7 +1,6 @@
 -- The clauses that are left make up all of them: a loop over the facts C, by `ending-on`.
 use Prim.Native.Nat.{_-_}
 use native.Mathlib.Omega.{arith}
-use denote.Ref.{now}
 use Rattle.writer.proofs.Putting.{kept-none, kept-on}
 use Rattle.translation.specs.Parts.{preferencesTo}
 use Rattle.translation.proofs.PartRows.{AllClosing, ending-on, ending-all, ending-full}
