@@ -1,0 +1,9 @@
+-- Rows by rising fact
+pub mod LowestBit
+pub mod RisingRows
+-- The rows of a task, row by row
+pub mod Running
+pub mod TaskSpelled
+-- The file
+pub mod Fitting
+pub mod Answering
