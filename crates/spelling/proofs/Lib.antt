@@ -1,3 +1,4 @@
+pub mod Examples
 -- Rows by rising fact
 pub mod LowestBit
 pub mod RisingRows
@@ -7,3 +8,4 @@ pub mod TaskSpelled
 -- The file
 pub mod Fitting
 pub mod Answering
+pub mod Longest
