@@ -1,5 +1,5 @@
-/* Route rules: check a task file, translate a task with soft and hard rules into a classical task, write that as PDDL, walk a
- * plan on a task, given as bytes or as planners print it, and settle what it is worth.
+/* Route rules: check a task file, write the one spelling of its task, translate a task with soft and hard rules into a classical
+ * task, write that as PDDL, walk a plan on a task, given as bytes or as planners print it, and settle what it is worth.
  *
  * Link target/staticlib/libroute_rules.a, which `rt staticlib route_rules` writes. Every function is proved: it answers every
  * input as the definitions say (crates/words/specs/Numbers.antt has the words of the answers), always returns, and
@@ -43,13 +43,15 @@ extern "C" {
 #define ROUTE_RULES_MAX_REPORT 2048
 
 /* That no area of these four lengths is refused by 9 or 14 is proved: never-too-short in crates/plan_text/proofs/Longest.antt,
- * crates/translation/proofs/Longest.antt and crates/pddl_text/proofs/Longest.antt, and Longest of report; that no accepted file
+ * crates/translation/proofs/Longest.antt, crates/spelling/proofs/Longest.antt and crates/pddl_text/proofs/Longest.antt, and Longest
+ * of report; that no accepted file
  * is longer than MAX_FILE: longest in crates/task/proofs/Longest.antt. */
 
 /* Refusals, with their place. 1 to 3 are tried in order. Rows then go from the first; the first faulty row decides, 4 before
  * 5 on one row; 6 comes after all rows. 7 to 9 are translate's, 10 and 11 walk's, in that order, after 1 to 6.
  * Of a plan's text 12 comes after 6, and before 10 and 11; reading alone is refused by 12, then 10, then 9. 13 and 14 are
- * pddl's, in that order, after 1 to 6; 15 is settle's, after 1 to 6. A report is refused as walk is, and then by 9. */
+ * pddl's, in that order, after 1 to 6; 15 is settle's, after 1 to 6. A spelling is refused by 1 to 6, and then by 9; a report as
+ * walk is, and then by 9. */
 enum {
     ROUTE_RULES_REFUSED_SHORT_FILE = 1,       /* under 8 bytes; 0 */
     ROUTE_RULES_REFUSED_SIZE = 2,             /* a size out of range; 0 */
@@ -97,6 +99,23 @@ typedef struct route_rules_translated {
  * task, each of one solution only, and a solution's cost is its source part's metric. */
 uint32_t route_rules_translate(const uint8_t *file, size_t file_length, uint8_t *out, size_t out_length,
                                route_rules_translated *answer);
+
+/* The length of the spelling in bytes, 8 + 5 * N of its own rows. */
+typedef struct route_rules_spelled {
+    uint64_t place;
+    uint64_t length;
+    uint64_t spare[6];
+} route_rules_spelled;
+
+/* Writes the one spelling of the task in a file, which is itself a task file: in each clause the literals rise by fact, HOLDS before
+ * LACKS of one fact, and repeats are dropped; so do the ADD rows of an effect, and its DELETE rows. Clauses and everything else keep
+ * their order. It fills the first `length` bytes of the output and no others; or it is refused by 1 to 6 or 9, and the output is as
+ * it was.
+ *
+ * Two accepted files have equal spellings exactly when their tasks differ only in that order and those repeats. A spelling has no
+ * more rows than its source, and is its own spelling. On both every plan gets the same verdict, cost, metric and utility, and meets
+ * the same preferences; the number of literals looked at may differ. */
+uint32_t route_rules_spell(const uint8_t *file, size_t file_length, uint8_t *out, size_t out_length, route_rules_spelled *answer);
 
 /* A verdict; 0 where the call was refused. Stopped comes before goal missed, and that before rule missed. */
 enum {
@@ -188,6 +207,7 @@ uint32_t route_rules_report(const uint8_t *file, size_t file_length, const uint8
 
 /* Every answer has eight words; the functions write them all. */
 typedef char route_rules_answers_have_eight_words[sizeof(route_rules_checked) == 64 && sizeof(route_rules_translated) == 64 &&
+                                                          sizeof(route_rules_spelled) == 64 &&
                                                           sizeof(route_rules_walked) == 64 && sizeof(route_rules_settled) == 64 &&
                                                           sizeof(route_rules_length) == 64 && sizeof(route_rules_texts) == 64 &&
                                                           sizeof(route_rules_reported) == 64

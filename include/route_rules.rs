@@ -95,6 +95,13 @@ extern "C" {
         out_length: usize,
         answer: *mut Answer,
     ) -> u32;
+    fn route_rules_spell(
+        file: *const u8,
+        file_length: usize,
+        out: *mut u8,
+        out_length: usize,
+        answer: *mut Answer,
+    ) -> u32;
     fn route_rules_walk(
         file: *const u8,
         file_length: usize,
@@ -198,6 +205,13 @@ fn filled(fill: Filling, input: &[u8], out: &mut [u8]) -> Result<usize, Refusal>
 /// and the output is as it was.
 pub fn translate(file: &[u8], out: &mut [u8]) -> Result<usize, Refusal> {
     filled(route_rules_translate, file, out)
+}
+
+/// Writes the one spelling of the task in a file into the start of the output, and answers the length written; or it is refused by
+/// 1 to 6 or 9, and the output is as it was. Two accepted files have equal spellings exactly when their tasks differ only in the
+/// order and the repeats of literals in clauses, of ADD rows and of DELETE rows.
+pub fn spell(file: &[u8], out: &mut [u8]) -> Result<usize, Refusal> {
+    filled(route_rules_spell, file, out)
 }
 
 /// The walk of a plan, or of the plan in a text.

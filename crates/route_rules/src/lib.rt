@@ -11,6 +11,8 @@ ghost use Rattle.classical.specs.Translation.{compiled};
 ghost use Rattle.outcome.specs.Outcome.{written, areaAfter};
 ghost use Rattle.translation.specs.Translated.{outcome, Delivered};
 ghost use Rattle.route_rules.specs.Corollary.{CostIsMetric};
+ghost use Rattle.canonical.specs.Canonical.{respelled};
+ghost use Rattle.spelling.specs.Outcome.{outcome as spelled};
 ghost use Rattle.plan_lines.specs.PlanText.{textOf};
 ghost use Rattle.plan_text.specs.Outcomes.{readOutcome, stepsIn, writeOutcome, textWalked};
 ghost use Rattle.pddl_text.specs.Outcomes.{outcomeOver as texts, domainOver, problemOver};
@@ -33,6 +35,15 @@ pub extern "C" fn route_rules_translate(file: &[u8], out: &mut [u8], answer: &mu
     ensures { λ r. ⌜ ((n : ℕ) → outcome (now (file .entry)) (length (now (out .entry))) ≡ written n → CostIsMetric (now (file .entry)) (now (out .exit)) n) ⌝ }
 {
     words::put_outcome(translation::translate(file, out), answer)
+}
+
+// Writes the one spelling of the task in a file into the area `out`. A refusal leaves that area as it was.
+#[no_mangle]
+pub extern "C" fn route_rules_spell(file: &[u8], out: &mut [u8], answer: &mut [u64; 8]) -> u32
+    ensures { λ r. ⌜ call r (now (answer .exit)) ≡ ofOutcome (spelled (now (file .entry)) (length (now (out .entry)))) ⌝ }
+    ensures { λ r. ⌜ now (out .exit) ≡ areaAfter (respelled (now (file .entry))) (now (out .entry)) (spelled (now (file .entry)) (length (now (out .entry)))) ⌝ }
+{
+    words::put_outcome(spelling::spell(file, out), answer)
 }
 
 // Walks a plan on the task in a file.

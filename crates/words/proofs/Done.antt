@@ -23,6 +23,8 @@ use Rattle.outcome.specs.Outcome
 use Rattle.outcome.specs.Outcome.{Outcome, written, fitted}
 use Rattle.classical.specs.Translation.{further, compiledRows}
 use Rattle.translation.specs.Translated.{rowsFitted, smallEnough, outcomeBy, outcome}
+use Rattle.canonical.specs.Canonical.{respelledRows}
+use Rattle.spelling.specs.Outcome.{outcomeBy as spelledBy, outcome as spelled}
 use Rattle.plan_lines.specs.PlanText.{textOf, Read, plan, faulty, readPlan}
 use Rattle.plan_text.specs.Outcomes.{planFitted, readBy, readOutcome, writeOutcome, refusedAfter, textWalkedBy, textWalked}
 use Rattle.pddl_text.specs.Pddl.{domainText, problemText}
@@ -117,6 +119,14 @@ translate-done b room = go (check b) (check-done b)
     go (Check.accepted z) e =
         outcome-else (smallEnough z (further (taskOf b .preferences))) (rowsFitted (compiledRows b) room) 7 0
         (outcome-else (leb (compiledRows b) 12000) (fitted (8 + 5 * compiledRows b) room) 8 0 (fitted-done (8 + 5 * compiledRows b) room) refl) refl
+
+spell-done : (b : List ℕ) (room : ℕ) → OutcomeDone (spelled b room)
+unfolding spelled
+spell-done b room = go (check b) (check-done b)
+  where
+    go : (a : Answer) → CheckDone a → OutcomeDone (spelledBy b room a)
+    go (Check.refused n i) e = e
+    go (Check.accepted z) e = fitted-done (8 + 5 * respelledRows b) room
 
 plan-done : (steps bytes room : ℕ) → OutcomeDone (planFitted steps bytes room)
 plan-done steps bytes room = outcome-else (leb steps 2048) (fitted bytes room) 10 0 (fitted-done bytes room) refl
@@ -223,6 +233,7 @@ settled-done b cost met = go (check b) (check-done b)
 pub record ZeroMeansDone (b p t : List ℕ) (cost : ℕ) (met : ℕ → Bool) (room more : ℕ) : Type 0 where
   pub checking : returnsZero (ofCheck (check b)) ≡ isAccepted (check b)
   pub translating : returnsZero (ofOutcome (outcome b room)) ≡ isWritten (outcome b room)
+  pub spelling : returnsZero (ofOutcome (spelled b room)) ≡ isWritten (spelled b room)
   pub walking : returnsZero (ofWalk (walked b p)) ≡ isGiven (walked b p)
   pub settling : returnsZero (ofSettle (settled b cost met)) ≡ isWorth (settled b cost met)
   pub reading : returnsZero (ofOutcome (readOutcome t room)) ≡ isWritten (readOutcome t room)
@@ -236,6 +247,7 @@ zero-means-done b p t cost met room more =
     record {
       checking = check-done b;
       translating = translate-done b room;
+      spelling = spell-done b room;
       walking = walked-done b p;
       settling = settled-done b cost met;
       reading = read-done t room;

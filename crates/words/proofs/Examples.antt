@@ -12,6 +12,8 @@ use Rattle.plan.specs.Walked.{given, stopped, rule-missed, walked}
 use Rattle.settling.specs.Settled.{settled}
 use Rattle.classical.specs.Translation.{translated}
 use Rattle.translation.specs.Translated.{outcome}
+use Rattle.canonical.specs.Canonical.{canonical}
+use Rattle.spelling.specs.Outcome.{outcome as spelled}
 use Rattle.words.specs.Numbers.{Call, call, bits, ofCheck, ofOutcome, ofWalk, ofSettle}
 
 pub record Example : Type 0 where
@@ -28,6 +30,9 @@ examples =
     ∷ example (ofCheck (check [])) 1 (0 ∷ 0 ∷ 0 ∷ 0 ∷ 0 ∷ 0 ∷ 0 ∷ 0 ∷ [])
     ∷ example (ofOutcome (outcome belt 473)) 0 (0 ∷ 473 ∷ 0 ∷ 0 ∷ 0 ∷ 0 ∷ 0 ∷ 0 ∷ [])
     ∷ example (ofOutcome (outcome belt 472)) 9 (0 ∷ 0 ∷ 0 ∷ 0 ∷ 0 ∷ 0 ∷ 0 ∷ 0 ∷ [])
+    -- the belt's 18 rows stay
+    ∷ example (ofOutcome (spelled belt 98)) 0 (0 ∷ 98 ∷ 0 ∷ 0 ∷ 0 ∷ 0 ∷ 0 ∷ 0 ∷ [])
+    ∷ example (ofOutcome (spelled belt 97)) 9 (0 ∷ 0 ∷ 0 ∷ 0 ∷ 0 ∷ 0 ∷ 0 ∷ 0 ∷ [])
     -- preference 1 is met, so bit 1 is set; 5 literals are looked at
     ∷ example (ofWalk (walked belt (0 ∷ []))) 0 (0 ∷ 1 ∷ 0 ∷ 3 ∷ 2 ∷ 5 ∷ 0 ∷ 0 ∷ [])
     ∷ example (ofSettle (settled belt 3 (bit 2))) 0 (0 ∷ 8 ∷ 4 ∷ 0 ∷ 0 ∷ 0 ∷ 0 ∷ 0 ∷ [])
@@ -46,5 +51,5 @@ examples =
     ∷ []
 
 pub as-said : map (λ (e : Example). e .given) examples ≡ map (λ (e : Example). call (e .number) (e .words)) examples
-unfolding check checkRows judged verdict literals walked settled bit translated outcome bits
+unfolding check checkRows judged verdict literals walked settled bit translated outcome canonical spelled bits
 as-said = refl
