@@ -12,11 +12,11 @@ pub struct Row {
 /// sizes of any tree must fit 16 bits.
 pub fn encode(task: &Task) -> Vec<u8> {
     let sizes = [task.facts, task.actions.len(), task.preferences.len()];
-    spell(sizes.map(to_size), &rows(task))
+    to_bytes(sizes.map(to_size), &rows(task))
 }
 
 /// The bytes of a file with the sizes F, A, P and these rows, N being their number.
-pub fn spell(sizes: [u16; 3], rows: &[Row]) -> Vec<u8> {
+pub fn to_bytes(sizes: [u16; 3], rows: &[Row]) -> Vec<u8> {
     let mut file = Vec::with_capacity(8 + 5 * rows.len());
     for size in sizes {
         file.extend(size.to_le_bytes());

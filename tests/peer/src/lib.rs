@@ -1,6 +1,6 @@
-//! Task files with soft and hard rules: check a file, walk a plan on it, settle what that
-//! is worth, translate it into a classical task, write that as PDDL. Written
-//! plainly from the specification, to compare another implementation with.
+//! Task files with soft and hard rules: check a file, give it its one spelling, walk a
+//! plan on it, settle what that is worth, translate it into a classical task, write that
+//! as PDDL. Written plainly from the specification, to compare another implementation with.
 
 pub mod decode;
 pub mod encode;
@@ -9,6 +9,7 @@ pub mod pddl;
 pub mod random;
 pub mod report;
 pub mod settle;
+pub mod spelling;
 pub mod task;
 pub mod text;
 pub mod translate;
@@ -19,6 +20,7 @@ pub use encode::encode;
 pub use meaning::run;
 pub use report::{refused_text, report};
 pub use settle::{settle, worth, Worth};
+pub use spelling::{alike, spell};
 pub use task::{Action, Clause, Condition, Effect, Kind, Literal, Preference, Task};
 pub use translate::{complete, translate, translated};
 pub use walk::{verdict, walk, walked, Verdict, Walked};

@@ -2,7 +2,9 @@
 
 use peer::random::{arguments, case, MAX_FILE};
 use peer::settle::is_met;
-use peer::{check, decode, pddl, refused_text, report, settle, translate, walk, Verdict};
+use peer::{
+    check, decode, pddl, refused_text, report, settle, spell, translate, walk, Refusal, Verdict,
+};
 use std::collections::BTreeMap;
 use std::fs;
 
@@ -10,6 +12,7 @@ const USAGE: &str = "usage:
   peer check FILE
   peer judge TASK PLAN
   peer translate TASK OUT
+  peer spell TASK OUT
   peer pddl TASK DOMAIN PROBLEM
   peer case SEED DIR      write the files task and plan of a random case
   peer tally FIRST COUNT  count the answers on the cases of seeds from FIRST";
@@ -33,7 +36,8 @@ fn answer(words: &[&str]) -> Option<String> {
     match words {
         ["check", file] => Some(check_file(file)),
         ["judge", task, plan] => Some(judge_files(task, plan)),
-        ["translate", task, out] => Some(translate_file(task, out)),
+        ["translate", task, out] => Some(write_file(translate, task, out)),
+        ["spell", task, out] => Some(write_file(spell, task, out)),
         ["pddl", task, domain, problem] => Some(write_pddl(task, domain, problem)),
         ["case", seed, folder] => Some(write_case(seed.parse().ok()?, folder)),
         ["tally", first, count] => Some(tally(first.parse().ok()?, count.parse().ok()?)),
@@ -61,12 +65,15 @@ fn judge_files(task: &str, plan: &str) -> String {
     report(&task, &plan)
 }
 
-/// The output file is opened only once the translation stands.
-fn translate_file(task: &str, out: &str) -> String {
+/// An operation that makes a task file, with the room that it is given.
+type Write = fn(&[u8], usize) -> Result<Vec<u8>, Refusal>;
+
+/// The output file is opened only once its bytes stand.
+fn write_file(operation: Write, task: &str, out: &str) -> String {
     let Ok(task) = fs::read(task) else {
         return NO_FILE.to_string();
     };
-    match translate(&task, MAX_FILE) {
+    match operation(&task, MAX_FILE) {
         Ok(bytes) => match fs::write(out, bytes) {
             Ok(()) => String::new(),
             Err(_) => NO_FILE.to_string(),
@@ -131,6 +138,10 @@ fn tally(first: u64, count: u64) -> String {
         add(match translate(&case.file, case.room) {
             Ok(_) => "translate written".to_string(),
             Err(refusal) => format!("translate refused {:2}", refusal.number),
+        });
+        add(match spell(&case.file, case.room) {
+            Ok(_) => "spell written".to_string(),
+            Err(refusal) => format!("spell refused {:2}", refusal.number),
         });
         if let Ok(Verdict::Solved { met, .. }) =
             walk(&case.file, &case.plan).map(|walked| walked.verdict)

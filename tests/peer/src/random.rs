@@ -1,8 +1,9 @@
 //! Random cases by seed: a task file, often damaged, a plan and an output room.
 //! Shapes and choices are weighed so that every answer comes up often.
 
-use crate::encode::{encode, rows, spell, Row};
+use crate::encode::{encode, rows, to_bytes, Row};
 use crate::meaning::{after, condition_true, opening, State};
+use crate::spelling::{lists, List};
 use crate::task::*;
 use crate::translate::{deadline_facts, translate, translated};
 
@@ -527,11 +528,53 @@ fn damaged(r: &mut Random, task: &Task) -> Vec<u8> {
     for _ in 0..in_rows {
         damage_rows(r, &mut sizes, &mut rows);
     }
-    let mut file = spell(sizes, &rows);
+    let mut file = to_bytes(sizes, &rows);
     for _ in 0..in_bytes {
         damage_bytes(r, &mut file);
     }
     file
+}
+
+/// The same task in another spelling: its literals and the facts added and deleted in
+/// another order, some of them repeated, as far as the rows allow.
+pub fn respelled(r: &mut Random, task: &Task) -> Task {
+    let mut other = task.clone();
+    let mut left = MAX_ROWS.saturating_sub(task.rows());
+    for list in lists(&mut other) {
+        match list {
+            List::Literals(clause) => shuffle(r, clause, &mut left),
+            List::Facts(facts) => shuffle(r, facts, &mut left),
+        }
+    }
+    other
+}
+
+fn shuffle<T: Copy>(r: &mut Random, list: &mut Vec<T>, left: &mut usize) {
+    while !list.is_empty() && *left > 0 && r.chance(30) {
+        list.push(r.pick(list));
+        *left -= 1;
+    }
+    for at in 1..list.len() {
+        list.swap(at, r.below(at + 1));
+    }
+}
+
+/// The file of a task with one row changed, gone, repeated or exchanged with the next.
+pub fn altered(r: &mut Random, task: &Task) -> Vec<u8> {
+    let sizes = [task.facts, task.actions.len(), task.preferences.len()].map(|s| s as u16);
+    let mut rows = rows(task);
+    let (at, count) = (r.below(rows.len()), rows.len());
+    match r.below(6) {
+        // HOLDS and LACKS, or ADD and DELETE.
+        0 => rows[at].mark ^= 1,
+        1 | 2 => rows[at].value = r.below(task.facts) as u32,
+        3 => rows.swap(at, (at + 1) % count),
+        4 => {
+            rows.remove(at);
+        }
+        _ => rows.insert(at, rows[at]),
+    }
+    to_bytes(sizes, &rows)
 }
 
 /// Rows without order.

@@ -4,7 +4,7 @@
 mod common;
 
 use common::*;
-use peer::encode::spell;
+use peer::encode::to_bytes;
 use peer::*;
 
 const ROOM: usize = 60_008;
@@ -303,7 +303,7 @@ fn trackers_by_kind() {
         );
         assert_eq!(
             translate(&source, ROOM),
-            Ok(spell([facts, 4, 0], &rows(&words))),
+            Ok(to_bytes([facts, 4, 0], &rows(&words))),
             "{preference}"
         );
     }
@@ -342,7 +342,7 @@ fn facts_of_several_preferences() {
         ACTION 5 CLAUSE HOLDS 17 CLAUSE HOLDS 12 CLAUSE LACKS 15 CLAUSE LACKS 13 EFFECT ADD 15";
     assert_eq!(
         translate(&source, ROOM),
-        Ok(spell([23, 11, 0], &rows(words)))
+        Ok(to_bytes([23, 11, 0], &rows(words)))
     );
 }
 

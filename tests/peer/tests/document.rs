@@ -3,7 +3,7 @@
 mod common;
 
 use common::*;
-use peer::encode::spell;
+use peer::encode::to_bytes;
 use peer::*;
 
 const ROOM: usize = 60_008;
@@ -114,7 +114,7 @@ fn belt_translated() {
         ACTION 5 CLAUSE HOLDS 9 CLAUSE LACKS 4 CLAUSE HOLDS 3 EFFECT ADD 4 \
         ACTION 0 CLAUSE HOLDS 9 CLAUSE HOLDS 4 CLAUSE LACKS 7 CLAUSE HOLDS 5 EFFECT ADD 7 \
         ACTION 7 CLAUSE HOLDS 9 CLAUSE HOLDS 4 CLAUSE LACKS 7 CLAUSE LACKS 5 EFFECT ADD 7";
-    assert_eq!(bytes, spell([10, 7, 0], &rows(words)));
+    assert_eq!(bytes, to_bytes([10, 7, 0], &rows(words)));
     let source = decode(&belt()).unwrap();
     assert_eq!(complete(&source, &[0]), [0, 2, 4, 5]);
     assert_eq!(run(&decode(&bytes).unwrap(), &[0, 2, 4, 5]), Some(8));
@@ -196,7 +196,7 @@ fn trackers_by_kind() {
         );
         assert_eq!(
             translate(&source, ROOM),
-            Ok(spell([8, 4, 0], &rows(&words))),
+            Ok(to_bytes([8, 4, 0], &rows(&words))),
             "{preference}"
         );
     }

@@ -4,7 +4,7 @@
 mod common;
 
 use common::*;
-use peer::encode::spell;
+use peer::encode::to_bytes;
 use peer::*;
 
 const ROOM: usize = 60_008;
@@ -252,7 +252,7 @@ fn rows_of_a_translation() {
         let task = file(1, 1, 1, &format!("GOAL ACTION 2 {rule} CLAUSE HOLDS 0"));
         assert_eq!(
             translate(&task, ROOM),
-            Ok(spell([6, 4, 0], &rows(&expected)))
+            Ok(to_bytes([6, 4, 0], &rows(&expected)))
         );
     }
 }

@@ -1,7 +1,7 @@
 //! Rows written as words, and tasks whose conditions follow a given course.
 #![allow(dead_code)]
 
-use peer::encode::{spell, Row};
+use peer::encode::{to_bytes, Row};
 use peer::{Action, Condition, Effect, Kind, Literal, Preference, Refusal, Task, Verdict, Walked};
 
 /// Rows from words such as `START 1 GOAL CLAUSE LACKS 1`; no number means 0.
@@ -60,7 +60,7 @@ fn mark(word: &str) -> u8 {
 
 /// A file with F, A, P and the rows in words.
 pub fn file(facts: u16, actions: u16, preferences: u16, words: &str) -> Vec<u8> {
-    spell([facts, actions, preferences], &rows(words))
+    to_bytes([facts, actions, preferences], &rows(words))
 }
 
 pub fn refused<T>(number: u8, place: u16) -> Result<T, Refusal> {
