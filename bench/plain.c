@@ -1,8 +1,8 @@
-/* check, walk, settle and translate in C, written from documents 01 and 02 for speed, to measure the library beside. The answers
- * are those of include/route_rules.h.
+/* check, walk, settle, translate and spell in C, written from documents 01 and 02 for speed, to measure the library beside. The
+ * answers are those of include/route_rules.h.
  *
  * plain_ reads the rows where they lie: parts of a file are found once, a condition is left as soon as it is decided, parts of
- * the source are copied by memcpy. tuned_ also makes tables before it begins: walk turns every literal into a byte and every
+ * the source are copied by memcpy, the members of a list are put in order as bits. tuned_ also makes tables before it begins: walk turns every literal into a byte and every
  * effect into masks over the state, translate writes the trackers of all preferences once and copies them into each action.
  * Settle reads each weight once, so there is no table to make. */
 #include "plain.h"
@@ -782,4 +782,68 @@ uint32_t plain_translate(const uint8_t *file, size_t length, uint8_t *out, size_
 uint32_t tuned_translate(const uint8_t *file, size_t length, uint8_t *out, size_t room, uint64_t answer[8])
 {
     return translate(file, length, out, room, answer, 1);
+}
+
+/* ---- spell */
+
+/* The literals from row `at` on by rising fact, HOLDS before LACKS; answers the row after them. */
+static uint32_t put_literals(Writer *w, uint32_t at)
+{
+    const Task *t = w->source;
+    State held = {{0, 0}}, lacked = {{0, 0}};
+    for (; at < t->rows && (t->marks[at] == HOLDS || t->marks[at] == LACKS); at++)
+        set(t->marks[at] == HOLDS ? &held : &lacked, value_at(t, at));
+    for (uint32_t i = 0; i < 2; i++)
+        for (uint64_t left = held.word[i] | lacked.word[i]; left != 0; left &= left - 1) {
+            uint32_t fact = 64 * i + __builtin_ctzll(left);
+            if (holds(held, fact)) put(w, HOLDS, fact);
+            if (holds(lacked, fact)) put(w, LACKS, fact);
+        }
+    return at;
+}
+
+/* The facts of the rows of one mark, likewise. */
+static uint32_t put_facts(Writer *w, uint32_t at, uint8_t mark)
+{
+    const Task *t = w->source;
+    State facts = {{0, 0}};
+    for (; at < t->rows && t->marks[at] == mark; at++) set(&facts, value_at(t, at));
+    for (uint32_t i = 0; i < 2; i++)
+        for (uint64_t left = facts.word[i]; left != 0; left &= left - 1) put(w, mark, 64 * i + __builtin_ctzll(left));
+    return at;
+}
+
+/* All rows, into an area of their own, since their number is known at the end. */
+static void put_rows(Writer *w)
+{
+    const Task *t = w->source;
+    for (uint32_t at = 0; at < t->rows;)
+        switch (t->marks[at]) {
+        case HOLDS:
+        case LACKS: at = put_literals(w, at); break;
+        case ADD:
+        case DELETE: at = put_facts(w, at, t->marks[at]); break;
+        default: put(w, t->marks[at], value_at(t, at)); at++;
+        }
+}
+
+uint32_t plain_spell(const uint8_t *file, size_t length, uint8_t *out, size_t room, uint64_t answer[8])
+{
+    Task t;
+    uint8_t marks[MAX_ROWS], values[4 * MAX_ROWS];
+    Writer w = {&t, marks, values, 0};
+    memset(answer, 0, 64);
+    if (!check(&t, file, length)) {
+        answer[0] = t.place;
+        return t.number;
+    }
+    put_rows(&w);
+    size_t made = 8 + 5 * (size_t)w.at;
+    if (room < made) return ROUTE_RULES_REFUSED_SHORT_OUTPUT;
+    memcpy(out, file, 6);
+    put_size(out + 6, w.at);
+    memcpy(out + 8, marks, w.at);
+    memcpy(out + 8 + w.at, values, 4 * (size_t)w.at);
+    answer[1] = made;
+    return 0;
 }

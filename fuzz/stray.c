@@ -22,6 +22,14 @@ uint32_t route_rules_translate(const uint8_t *file, size_t file_length, uint8_t 
     return number;
 }
 
+uint32_t route_rules_spell(const uint8_t *file, size_t file_length, uint8_t *out, size_t out_length, route_rules_spelled *answer)
+{
+    uint32_t number = plain_spell(file, file_length, out, out_length, WORDS(answer));
+    if (STRAY == 11 && number == 9 && out_length > 0) out[0] = 0; /* writes on a refusal */
+    if (STRAY == 12 && number == 0 && answer->length < out_length) out[out_length - 1] = 0; /* writes after the output */
+    return number;
+}
+
 uint32_t route_rules_walk(const uint8_t *file, size_t file_length, const uint8_t *plan, size_t plan_length,
                           route_rules_walked *answer)
 {

@@ -35,6 +35,7 @@ functions! {
     route_rules_walk(*const u8, usize, *const u8, usize);
     route_rules_settle(*const u8, usize, u64, u64);
     route_rules_translate(*const u8, usize, *mut u8, usize);
+    route_rules_spell(*const u8, usize, *mut u8, usize);
     route_rules_read_plan(*const u8, usize, *mut u8, usize);
     route_rules_write_plan(*const u8, usize, *mut u8, usize);
     route_rules_walk_text(*const u8, usize, *const u8, usize);
@@ -44,6 +45,7 @@ functions! {
     plain_walk(*const u8, usize, *const u8, usize);
     plain_settle(*const u8, usize, u64, u64);
     plain_translate(*const u8, usize, *mut u8, usize);
+    plain_spell(*const u8, usize, *mut u8, usize);
     plain_read_plan(*const u8, usize, *mut u8, usize);
     plain_write_plan(*const u8, usize, *mut u8, usize);
     plain_walk_text(*const u8, usize, *const u8, usize);
@@ -168,6 +170,15 @@ pub fn translate(who: usize, input: &Input, areas: &mut Areas) -> Answer {
             .map_or_else(refused, |bytes| written(out, &bytes)),
         2 => call_write(plain_translate, &input.file, out),
         _ => call_write(tuned_translate, &input.file, out),
+    }
+}
+
+pub fn spell(who: usize, input: &Input, areas: &mut Areas) -> Answer {
+    let out = &mut areas.out;
+    match who {
+        0 => call_write(route_rules_spell, &input.file, out),
+        1 => peer::spell(&input.file, out.len()).map_or_else(refused, |bytes| written(out, &bytes)),
+        _ => call_write(plain_spell, &input.file, out),
     }
 }
 

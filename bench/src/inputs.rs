@@ -371,6 +371,44 @@ pub fn a_million_rows() -> Input {
     input("refused by 8, a million rows", &full, vec![])
 }
 
+/// A goal of one clause of so many literals, in no order.
+pub fn one_clause(literals: usize) -> Input {
+    let literal = |n: usize| Literal {
+        holds: n % 3 > 0,
+        fact: 37 * n % 128,
+    };
+    let goal = vec![(0..literals).map(literal).collect()];
+    spelled(&format!("one clause of {literals} literals"), goal)
+}
+
+/// A goal of so many clauses of two literals, which rise by fact or fall.
+pub fn clauses_of_two(clauses: usize, rising: bool) -> Input {
+    let literal = |fact, n: usize| Literal {
+        holds: n % 3 > 0,
+        fact,
+    };
+    let pair = |n: usize| {
+        let (low, high) = (literal(n % 64, n), literal(64 + n % 63, n + 1));
+        match rising {
+            true => vec![low, high],
+            false => vec![high, low],
+        }
+    };
+    let order = if rising { "rising" } else { "falling" };
+    let name = format!("{clauses} clauses of two literals, {order}");
+    spelled(&name, (0..clauses).map(pair).collect())
+}
+
+/// A goal alone, to be spelled.
+fn spelled(name: &str, goal: Condition) -> Input {
+    let full = Task {
+        facts: 128,
+        goal,
+        ..task(vec![], vec![])
+    };
+    input(name, &full, vec![])
+}
+
 /// The translation of a task, for PDDL.
 pub fn compiled(source: Input) -> Input {
     let name = format!("translation: {}", source.name);

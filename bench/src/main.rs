@@ -89,6 +89,17 @@ fn lines() -> Vec<(Operation, Vec<Input>)> {
             ],
         ),
         (
+            Spell,
+            vec![
+                belt(),
+                middle(),
+                preferences(),
+                inputs::one_clause(11_998),
+                inputs::clauses_of_two(3_999, true),
+                inputs::clauses_of_two(3_999, false),
+            ],
+        ),
+        (
             Pddl,
             vec![
                 inputs::compiled(belt()),
@@ -147,6 +158,11 @@ fn series() -> Vec<Series> {
             Translate,
             "rows written, 2 actions",
             grown(|rows| inputs::in_trackers(rows, 2), &rows),
+        ),
+        (
+            Spell,
+            "rows, clauses of two",
+            grown(|rows| inputs::clauses_of_two((rows - 1) / 3, false), &rows),
         ),
         (Walk, "rows, 2,048 steps", grown(by_rows, &rows)),
         (Walk, "steps, 12,000 rows", grown(by_steps, &steps)),

@@ -10,6 +10,7 @@ pub enum Operation {
     Walk,
     Settle,
     Translate,
+    Spell,
     Pddl,
     ReadPlan,
     WritePlan,
@@ -19,12 +20,13 @@ pub enum Operation {
 
 use Operation::*;
 
-pub const ALL: [Operation; 10] = [
+pub const ALL: [Operation; 11] = [
     Check,
     WalkAndSettle,
     Walk,
     Settle,
     Translate,
+    Spell,
     Pddl,
     ReadPlan,
     WritePlan,
@@ -40,6 +42,7 @@ impl Operation {
             Walk => "walk",
             Settle => "settle",
             Translate => "translate",
+            Spell => "spell",
             Pddl => "pddl",
             ReadPlan => "read_plan",
             WritePlan => "write_plan",
@@ -67,6 +70,7 @@ impl Operation {
                 none,
             ],
             Translate => [contenders::translate(who, input, areas), none],
+            Spell => [contenders::spell(who, input, areas), none],
             Pddl => [contenders::pddl(who, input, areas), none],
             ReadPlan => [contenders::read_plan(who, input, areas), none],
             WritePlan => [contenders::write_plan(who, input, areas), none],
@@ -79,7 +83,7 @@ impl Operation {
     pub fn work(self, input: &Input, areas: &mut Areas) -> (u64, &'static str) {
         let rows = (input.file.len() as u64 - 8) / 5;
         match self {
-            Check | Settle | Pddl => (rows, "rows"),
+            Check | Settle | Spell | Pddl => (rows, "rows"),
             Translate => match self.call(0, input, areas)[0] {
                 (0, words) => ((words[1] - 8) / 5, "rows written"),
                 _ => (rows, "rows"),

@@ -29,6 +29,10 @@ pub fn translate(file: &[u8], room: usize) -> Left {
     left(room, |out| route_rules::translate(file, out))
 }
 
+pub fn spell(file: &[u8], room: usize) -> Left {
+    left(room, |out| route_rules::spell(file, out))
+}
+
 pub fn read_plan(text: &[u8], room: usize) -> Left {
     left(room, |out| route_rules::read_plan(text, out))
 }

@@ -7,6 +7,7 @@
 mod library;
 mod pddl;
 mod settling;
+mod spelling;
 mod tally;
 mod texts;
 mod translating;
@@ -26,6 +27,9 @@ fn main() {
         .and_then(|()| settling::compare(first, count))
         .and_then(|()| translating::edges())
         .and_then(|()| translating::compare(first, count))
+        .and_then(|()| spelling::edges())
+        .and_then(|()| spelling::compare(first, count))
+        .and_then(|()| spelling::properties(first, count / 4))
         .and_then(|()| texts::compare(first, count))
         .and_then(|()| pddl::edges())
         .and_then(|()| pddl::compare(first, count / 10));
