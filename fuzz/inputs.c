@@ -3,7 +3,7 @@
 #include <string.h>
 
 /* Choices. */
-enum { AT_END_OF_PAGE = 1, MADE_FILE = 2, ANY_STEPS = 4, CUT_MET = 8, MADE_TEXT = 16, SPELLED_FILE = 32 };
+enum { AT_END_OF_PAGE = 1, MADE_FILE = 2, ANY_STEPS = 4, CUT_MET = 8, MADE_TEXT = 16, TASK_FILE = 32 };
 
 typedef struct { const uint8_t *at; size_t left; } Data;
 
@@ -173,7 +173,7 @@ static size_t make_file(Data *d, uint8_t *file)
     return put_file(&r, file);
 }
 
-static void spell_condition(Data *d, Rows *r)
+static void add_condition(Data *d, Rows *r)
 {
     for (uint8_t clauses = next(d) % 4; clauses > 0; clauses--) {
         add_row(r, CLAUSE, 0);
@@ -184,33 +184,33 @@ static void spell_condition(Data *d, Rows *r)
     }
 }
 
-static void spell_action(Data *d, Rows *r)
+static void add_action(Data *d, Rows *r)
 {
     add_row(r, ACTION, wide(ACTION, next(d)));
-    spell_condition(d, r);
+    add_condition(d, r);
     for (uint8_t effects = next(d) % 3; effects > 0; effects--) {
         add_row(r, EFFECT, 0);
-        spell_condition(d, r);
+        add_condition(d, r);
         uint8_t adds = next(d), deletes = adds / 4 % 4;
         for (adds %= 4; adds > 0; adds--) add_row(r, ADD, next(d) % r->facts);
         for (; deletes > 0; deletes--) add_row(r, DELETE, next(d) % r->facts);
     }
 }
 
-static void spell_preference(Data *d, Rows *r)
+static void add_preference(Data *d, Rows *r)
 {
     static const uint8_t KINDS[8] = {ALWAYS, SOMETIME, AT_END, AT_MOST_ONCE, SOMETIME_BEFORE, SOMETIME_AFTER, WITHIN, ALWAYS_WITHIN};
     uint8_t byte = next(d), kind = KINDS[byte % 8], mark = kind + (byte & 8 ? HARD : 0);
     add_row(r, mark, byte & 8 ? 0 : wide(mark, next(d)));
     if (kind >= WITHIN) add_row(r, STEPS, byte / 16);
-    spell_condition(d, r);
+    add_condition(d, r);
     if (kind != SOMETIME_BEFORE && kind != SOMETIME_AFTER && kind != ALWAYS_WITHIN) return;
     add_row(r, SECOND, 0);
-    spell_condition(d, r);
+    add_condition(d, r);
 }
 
 /* Rows in the order of a task, nearly always accepted. */
-static size_t spell_file(Data *d, uint8_t *file)
+static size_t task_file(Data *d, uint8_t *file)
 {
     static Rows r;
     uint8_t facts = next(d), start = next(d);
@@ -220,9 +220,9 @@ static size_t spell_file(Data *d, uint8_t *file)
     for (uint32_t fact = 0; fact < 8 && fact < r.facts; fact++)
         if (start >> fact & 1) add_row(&r, START, fact);
     add_row(&r, GOAL, 0);
-    spell_condition(d, &r);
-    for (uint8_t actions = next(d) % 8; actions > 0; actions--) spell_action(d, &r);
-    for (uint8_t preferences = next(d) % 8; preferences > 0; preferences--) spell_preference(d, &r);
+    add_condition(d, &r);
+    for (uint8_t actions = next(d) % 8; actions > 0; actions--) add_action(d, &r);
+    for (uint8_t preferences = next(d) % 8; preferences > 0; preferences--) add_preference(d, &r);
     return put_file(&r, file);
 }
 
@@ -275,6 +275,6 @@ void make_input(Input *in, const uint8_t *bytes, size_t size)
     for (int i = 0; i < 3; i++) three[i] = next(&d);
     in->steps = make_plan(&d, in->plan, choice & ANY_STEPS);
     in->text_length = make_text(&d, in->text, choice & MADE_TEXT);
-    in->file_length = (choice & SPELLED_FILE ? spell_file : choice & MADE_FILE ? make_file : copy_file)(&d, in->file);
+    in->file_length = (choice & TASK_FILE ? task_file : choice & MADE_FILE ? make_file : copy_file)(&d, in->file);
     in->met = make_met(three, choice & CUT_MET, in->file, in->file_length);
 }

@@ -13,7 +13,7 @@ from shared.files import BELT, PREFERENCES, file, preference, spelled
 import task
 
 # The choices, and the modes of a room, as fuzz/inputs.c reads them.
-AT_END_OF_PAGE, MADE_FILE, ANY_STEPS, CUT_MET, MADE_TEXT, SPELLED_FILE = 1, 2, 4, 8, 16, 32
+AT_END_OF_PAGE, MADE_FILE, ANY_STEPS, CUT_MET, MADE_TEXT, TASK_FILE = 1, 2, 4, 8, 16, 32
 BYTE_SHORT, SMALL, EXACT, MORE = 0, 1, 2, 3
 LONG_PLAN, LONGEST_PLAN = 253, 252  # 2,049 steps and 2,048
 FILLED, CUT, BOTH = 15, 14, 13      # a text is filled up, loses its last byte, or both
@@ -21,7 +21,7 @@ FILLED, CUT, BOTH = 15, 14, 13      # a text is filled up, loses its last byte, 
 
 def seed(data, plan=b'\0', text=b'(a0)\n', choice=0, room=EXACT, cost=(0, 3), met=(2, 0, 255), how=0, steps=None):
     """An input: a file, a plan (`steps` is the byte of its length), a text, and what else fuzz/inputs.c reads."""
-    rooms = [room] * 6 if isinstance(room, int) else room
+    rooms = [room] * 7 if isinstance(room, int) else room
     return bytes([choice, *rooms, *cost, *met, len(plan) if steps is None else steps, *plan, how, len(text), *text]) + data
 
 
@@ -69,8 +69,8 @@ def refusals():
     for room in (BYTE_SHORT, SMALL, MORE, EXACT):                                # 9 and 14
         yield seed(belt, room=room)
         yield seed(file('GOAL', F=1), room=room)
-    yield seed(file('GOAL ACTION 3', F=1), room=[EXACT] * 5 + [BYTE_SHORT])
-    yield seed(file('GOAL ACTION 3', F=1), room=[EXACT] * 4 + [BYTE_SHORT, EXACT])
+    yield seed(file('GOAL ACTION 3', F=1), room=[EXACT] * 6 + [BYTE_SHORT])
+    yield seed(file('GOAL ACTION 3', F=1), room=[EXACT] * 5 + [BYTE_SHORT, EXACT])
     yield seed(belt, plan=b'\0' * 8, steps=LONG_PLAN)                            # 10
     yield seed(belt, plan=b'\0' * 8, steps=LONGEST_PLAN)
     yield seed(belt, plan=b'\0\2', text=b'(a0)\n(a2)\n')                         # 11
@@ -126,17 +126,27 @@ def values():
         yield seed(file(rows))
 
 
-def spelled_tasks():
+def spellings():
+    """Lists in every order, with repeats, facts on both sides of a word's end, and areas on both sides of the new length."""
+    literals = ' LACKS 127 HOLDS 127 LACKS 64 HOLDS 63 HOLDS 0 LACKS 63 LACKS 0 HOLDS 127 HOLDS 64 LACKS 127'
+    facts = ' ADD 127 ADD 64 ADD 63 ADD 127 ADD 0 DELETE 64 DELETE 127 DELETE 0 DELETE 63 DELETE 64'
+    rows = f'GOAL CLAUSE {literals} CLAUSE HOLDS 1 HOLDS 1 ACTION 2 CLAUSE {literals} EFFECT CLAUSE {literals} {facts} EFFECT ADD 1 DELETE 1'
+    for room in (BYTE_SHORT, SMALL, EXACT, MORE):
+        yield seed(file(rows + f' always-within 7 STEPS 2 CLAUSE {literals} SECOND CLAUSE {literals}', F=128), room=room)
+        yield seed(file('GOAL CLAUSE HOLDS 1 LACKS 1 HOLDS 0 CLAUSE LACKS 2 HOLDS 2 LACKS 2'), room=room)
+
+
+def chance_tasks():
     """Chance tasks in the order of rows, with plans of their first actions."""
     chance = random.Random(1)
     for _ in range(120):
         plan = bytes(chance.randrange(3) for _ in range(chance.randrange(8)))
-        yield seed(chance.randbytes(250), plan=plan, text=plan, choice=SPELLED_FILE + MADE_TEXT + chance.randrange(2))
+        yield seed(chance.randbytes(250), plan=plan, text=plan, choice=TASK_FILE + MADE_TEXT + chance.randrange(2))
 
 
 def main(folder):
     os.makedirs(folder, exist_ok=True)
-    for group in (examples, refusals, texts, kinds, values, spelled_tasks):
+    for group in (examples, refusals, texts, kinds, values, spellings, chance_tasks):
         for number, data in enumerate(group()):
             with open(os.path.join(folder, f'{group.__name__}_{number}'), 'wb') as out:
                 out.write(data)

@@ -7,16 +7,17 @@
 #include <stdlib.h>
 #include <string.h>
 
-enum { CHECK, TRANSLATE, WALK, SETTLE, READ_PLAN, WRITE_PLAN, WALK_TEXT, PDDL, REPORT, OPERATIONS, REFUSALS = 16 };
+enum { CHECK, TRANSLATE, SPELL, WALK, SETTLE, READ_PLAN, WRITE_PLAN, WALK_TEXT, PDDL, REPORT, OPERATIONS, REFUSALS = 16 };
 
-static const char *const NAMES[OPERATIONS] = {"check", "translate", "walk", "settle", "read_plan", "write_plan", "walk_text",
-                                              "pddl", "report"};
+static const char *const NAMES[OPERATIONS] = {"check", "translate", "spell", "walk", "settle", "read_plan", "write_plan",
+                                              "walk_text", "pddl", "report"};
 
 /* The refusals of each operation, bit n for number n. */
 #define OF_FILE 0x7eu
 static const uint32_t ALLOWED[OPERATIONS] = {
     OF_FILE,
     OF_FILE | 1 << 7 | 1 << 8 | 1 << 9,
+    OF_FILE | 1 << 9,
     OF_FILE | 1 << 10 | 1 << 11,
     OF_FILE | 1 << 15,
     1 << 12 | 1 << 10 | 1 << 9,
@@ -26,7 +27,7 @@ static const uint32_t ALLOWED[OPERATIONS] = {
     OF_FILE | 1 << 10 | 1 << 11 | 1 << 9,
 };
 
-static Pages file_pages, plan_pages, text_pages, translation_pages, out_pages, other_pages, answer_pages;
+static Pages file_pages, plan_pages, text_pages, made_pages, out_pages, other_pages, answer_pages;
 
 /* Bytes that C wrote. */
 static uint8_t expected[ROUTE_RULES_MAX_PDDL], expected_problem[ROUTE_RULES_MAX_PDDL];
@@ -127,7 +128,40 @@ static void try_translate(Area file, const Input *in)
     if (number != tuned_translate(file.at, file.length, tuned, out.length, other) || memcmp(words, other, 64) != 0 ||
         memcmp(expected, tuned, words[1]) != 0)
         fail("the two translations in C differ");
-    if (number == 0) try_translation(file, lend_copy(translation_pages, expected, words[1], in->at_end), in);
+    if (number == 0) try_translation(file, lend_copy(made_pages, expected, words[1], in->at_end), in);
+}
+
+/* A spelling is accepted, with the sizes of its source but for the rows, of which it has no more; it is its own spelling; and a plan
+ * is walked on it as on its source, but for the literals. */
+static void try_spelling(Area file, Area plan, Area spelling, int at_end)
+{
+    route_rules_checked from, to;
+    route_rules_spelled again;
+    route_rules_walked on_source, on_spelling;
+    Area out = lend(other_pages, spelling.length, at_end);
+    if (route_rules_check(file.at, file.length, &from) != 0 || route_rules_check(spelling.at, spelling.length, &to) != 0)
+        fail("a spelling that is refused");
+    if (to.facts != from.facts || to.actions != from.actions || to.preferences != from.preferences || to.rows > from.rows)
+        fail("a spelling of other sizes");
+    if (route_rules_spell(spelling.at, spelling.length, out.at, out.length, &again) != 0 || again.length != out.length)
+        fail("a spelling that is spelled in another way");
+    holds_output(out, spelling.at, spelling.length);
+    uint32_t number = route_rules_walk(file.at, file.length, plan.at, plan.length, &on_source);
+    if (number != route_rules_walk(spelling.at, spelling.length, plan.at, plan.length, &on_spelling)) fail("another refusal of a plan");
+    on_spelling.literals = on_source.literals;
+    if (memcmp(&on_source, &on_spelling, sizeof on_source) != 0) fail("another verdict on a spelling");
+}
+
+static void try_spell(Area file, Area plan, const Input *in)
+{
+    uint64_t words[8];
+    plain_spell(file.at, file.length, expected, sizeof expected, words);
+    Area out = lend(out_pages, room_for(in->rooms[TO_SPELL], words[1]), in->at_end);
+    Area answer = lend(answer_pages, 64, in->at_end);
+    uint32_t number = route_rules_spell(file.at, file.length, out.at, out.length, (route_rules_spelled *)answer.at);
+    same_answer(SPELL, number, answer, plain_spell(file.at, file.length, expected, out.length, words), words);
+    holds_output(out, expected, words[1]);
+    if (number == 0) try_spelling(file, plan, lend_copy(made_pages, expected, words[1], in->at_end), in->at_end);
 }
 
 static void try_report(Area file, Area plan, const Input *in)
@@ -201,7 +235,7 @@ int LLVMFuzzerInitialize(int *count, char ***words)
     file_pages = pages(FILE_ROOM);
     plan_pages = pages(PLAN_ROOM);
     text_pages = pages(TEXT_ROOM);
-    translation_pages = pages(ROUTE_RULES_MAX_FILE);
+    made_pages = pages(ROUTE_RULES_MAX_FILE);
     out_pages = pages(ROUTE_RULES_MAX_PDDL);
     other_pages = pages(ROUTE_RULES_MAX_PDDL);
     answer_pages = pages(64);
@@ -221,6 +255,7 @@ int LLVMFuzzerTestOneInput(const uint8_t *bytes, size_t size)
     try_settle(file, in.cost, in.met, in.at_end);
     try_pddl(file, &in);
     try_translate(file, &in);
+    try_spell(file, plan, &in);
     try_report(file, plan, &in);
     try_read_plan(text, in.rooms[TO_READ], in.at_end);
     try_write_plan(plan, &in);
