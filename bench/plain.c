@@ -2,9 +2,9 @@
  * answers are those of include/route_rules.h.
  *
  * plain_ reads the rows where they lie: parts of a file are found once, a condition is left as soon as it is decided, parts of
- * the source are copied by memcpy, the members of a list are put in order as bits. tuned_ also makes tables before it begins: walk turns every literal into a byte and every
- * effect into masks over the state, translate writes the trackers of all preferences once and copies them into each action.
- * Settle reads each weight once, so there is no table to make. */
+ * the source are copied by memcpy, the members of a list are put in order as bits of words. tuned_ also makes tables before it
+ * begins: walk turns every literal into a byte and every effect into masks over the state, translate writes the trackers of all
+ * preferences once and copies them into each action. Settle reads each weight once, so there is no table to make. */
 #include "plain.h"
 
 #include <string.h>
