@@ -1,5 +1,5 @@
-/* Checks the belt's task, translates it, writes the translation as PDDL, walks a plan on the task, as bytes and as text, settles
- * what it is worth, and prints the answers: belt TASK PLAN. */
+/* Checks the belt's task, translates it, writes the translation as PDDL, spells the task, walks a plan on it, as bytes and as text,
+ * settles what it is worth, and prints the answers: belt TASK PLAN. */
 #include "route_rules.h"
 
 #include <inttypes.h>
@@ -61,6 +61,19 @@ static void translate(const uint8_t *file, size_t length)
     printf("translate: %" PRIu64 " bytes\n", answer.length);
     check(out, answer.length);
     pddl(out, answer.length);
+}
+
+/* Says whether the file is its own spelling. */
+static void spell(const uint8_t *file, size_t length, size_t room)
+{
+    static uint8_t out[ROUTE_RULES_MAX_FILE];
+    route_rules_spelled answer;
+    uint32_t number = route_rules_spell(file, length, out, room, &answer);
+    if (number != 0)
+        refused("spell", number, answer.place);
+    else
+        printf("spell: %" PRIu64 " bytes, %s\n", answer.length,
+               answer.length == length && memcmp(out, file, length) == 0 ? "the same file" : "another file");
 }
 
 static void walked(const char *operation, uint32_t number, const route_rules_walked *answer)
@@ -144,6 +157,8 @@ int main(int count, char **words)
     check(file, length);
     translate(file, length);
     pddl(file, length); /* a task with preferences */
+    spell(file, length, ROUTE_RULES_MAX_FILE);
+    spell(file, length, length - 1); /* an area that is a byte short */
     walk(file, length, plan, steps);
     walk(file, length, plan, 0);                        /* the goal is missed */
     walk(file, length, (const uint8_t *)"\0\1\1\0", 4); /* utility below 0 */

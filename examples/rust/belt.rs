@@ -1,5 +1,5 @@
-//! Checks the belt's task, translates it, writes the translation as PDDL, walks a plan on the task, as bytes and as text, settles
-//! what it is worth, and prints the answers: `belt TASK PLAN`.
+//! Checks the belt's task, translates it, writes the translation as PDDL, spells the task, walks a plan on it, as bytes and as text,
+//! settles what it is worth, and prints the answers: `belt TASK PLAN`.
 
 #[path = "../../include/route_rules.rs"]
 mod route_rules;
@@ -43,6 +43,19 @@ fn translate(file: &[u8]) {
         }
         Err(refusal) => println!("translate: {}", refused(refusal)),
     }
+}
+
+/// Says whether the file is its own spelling.
+fn spell(file: &[u8], room: usize) {
+    let mut out = vec![0; room];
+    let line = route_rules::spell(file, &mut out).map_or_else(refused, |length| {
+        let same = match out[..length] == *file {
+            true => "the same file",
+            false => "another file",
+        };
+        format!("{length} bytes, {same}")
+    });
+    println!("spell: {line}");
 }
 
 fn walked(walked: Walked) -> String {
@@ -106,6 +119,8 @@ fn main() {
     check(&file);
     translate(&file);
     pddl(&file); // a task with preferences
+    spell(&file, MAX_FILE);
+    spell(&file, file.len() - 1); // an area that is a byte short
     walk(&file, &plan);
     walk(&file, &[]); // the goal is missed
     walk(&file, &[0, 1, 1, 0]); // utility below 0
