@@ -403,6 +403,7 @@ pub fn clauses_of_two(clauses: usize, rising: bool) -> Input {
 fn spelled(name: &str, goal: Condition) -> Input {
     let full = Task {
         facts: 128,
+        start: vec![],
         goal,
         ..task(vec![], vec![])
     };
