@@ -795,9 +795,9 @@ static uint32_t put_literals(Writer *w, uint32_t at)
         set(t->marks[at] == HOLDS ? &held : &lacked, value_at(t, at));
     for (uint32_t i = 0; i < 2; i++)
         for (uint64_t left = held.word[i] | lacked.word[i]; left != 0; left &= left - 1) {
-            uint32_t fact = 64 * i + __builtin_ctzll(left);
-            if (holds(held, fact)) put(w, HOLDS, fact);
-            if (holds(lacked, fact)) put(w, LACKS, fact);
+            uint32_t bit = __builtin_ctzll(left);
+            if (held.word[i] >> bit & 1) put(w, HOLDS, 64 * i + bit);
+            if (lacked.word[i] >> bit & 1) put(w, LACKS, 64 * i + bit);
         }
     return at;
 }
