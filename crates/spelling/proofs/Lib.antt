@@ -1,4 +1,6 @@
 pub mod Examples
+-- Facts taken in
+pub mod Masks
 -- Rows by rising fact
 pub mod LowestBit
 pub mod RisingRows

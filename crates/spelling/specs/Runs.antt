@@ -1,9 +1,9 @@
 -- Rows that the spelling sorts stand in runs: the literals of a clause, the ADD rows of an effect, and its DELETE rows. A run has a first
 -- mark and a second, HOLDS and LACKS; of ADD rows both are ADD, of DELETE rows both are DELETE.
-use mathlib.Core.Bool.{Bool, not, cond}
+use mathlib.Core.Bool.{Bool, not, cond, _&&_}
 use mathlib.Core.List.{List, _++_}
-use Prim.Native.Nat.{ℕ, _+_}
-use lib.Dec.{leb}
+use Prim.Native.Nat.{ℕ, _+_, _/_, _%_, _^_}
+use lib.Dec.{eqb, leb}
 use Rattle.lists.specs.Lists.{concatMap, range}
 use Rattle.meaning.specs.Meaning.{State as Facts}
 use Rattle.task.specs.Marks.{HOLDS, LACKS, DELETE}
@@ -37,6 +37,10 @@ none = record { first = empty; second = empty }
 -- with fact n, where it is wanted
 abbrev pub joined : Bool → Facts → ℕ → Facts
 joined wanted f n = cond wanted (union f (single n)) f
+
+-- the bit of fact n in word q, where it is wanted
+abbrev pub maskOf : ℕ → ℕ → Bool → ℕ
+maskOf n q wanted = cond (eqb (n / 64) q && wanted) (2 ^ (n % 64)) 0
 
 abbrev pub takeIn : ℕ → Sets → Row → Sets
 takeIn a s x =

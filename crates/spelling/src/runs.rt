@@ -2,7 +2,7 @@
 ghost use mathlib.Core.Path.{_≡_};
 ghost use Rattle.task.specs.Rows.{Rows, between};
 ghost use Rattle.state.specs.Member.{member};
-ghost use Rattle.spelling.specs.Runs.{isListed, firstMark, secondMark, joined, none, gatherAt, asRun};
+ghost use Rattle.spelling.specs.Runs.{isListed, firstMark, secondMark, joined, maskOf, none, gatherAt, asRun};
 use state::State;
 use task::marks;
 use task::rows;
@@ -49,14 +49,25 @@ fn in_run(mark: u8, a: u8, b: u8) -> bool
     (a <= mark) & (mark <= b)
 }
 
+// A fact's bit in word q of a state, where it is wanted: without a branch, since facts come in any order.
+fn mask(fact: u32, q: u32, wanted: bool) -> u64
+    ensures { λ r. ⌜ r ≡ maskOf fact q wanted ⌝ }
+{
+    if (fact / 64 == q) & wanted {
+        1 << (fact % 64)
+    } else {
+        0
+    }
+}
+
 // The state with the fact, where it is wanted.
 fn join_if(s: State, fact: u32, wanted: bool) -> State
     ensures { λ r. ⌜ member r ≡ joined wanted (member s) fact ⌝ }
 {
-    if wanted {
-        return state::with(s, fact);
+    State {
+        low: s.low | mask(fact, 0, wanted),
+        high: s.high | mask(fact, 1, wanted),
     }
-    s
 }
 
 // Gathers the rows from `from` on that have the marks a and b, or those between.
