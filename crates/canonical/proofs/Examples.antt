@@ -19,7 +19,7 @@ a-clause = refl
 some-facts : canonicalFacts 4 (3 ∷ 0 ∷ 3 ∷ 1 ∷ []) ≡ 0 ∷ 1 ∷ 3 ∷ []
 some-facts = refl
 
--- a fact both added and deleted stays in both; clauses filter their order, and equal clauses both stay
+-- a fact both added and deleted stays in both; clauses keep their order, and equal clauses both stay
 abbrev spelling : Clause → List ℕ → List ℕ → Task
 spelling c added deleted =
     record {

@@ -1,5 +1,5 @@
 -- Request 10's one spelling of a task: in each clause the literals rise by fact, HOLDS before LACKS, repeats dropped; likewise ADD rows
--- and DELETE rows. Clauses and everything else filter their order. F is the task's number of facts.
+-- and DELETE rows. Clauses and everything else keep their order. F is the task's number of facts.
 use mathlib.Core.Bool.{Bool, true, false, _&&_, Bool·beq}
 use mathlib.Core.List.{List, [], _∷_, map}
 use Prim.Native.Nat.{ℕ}
