@@ -1,8 +1,7 @@
 -- A loose spelling, computed: row by row, and its outcome.
 use mathlib.Core.Path.{_≡_, refl}
 use mathlib.Core.Bool.{true, false}
-use mathlib.Core.List.{List, [], _∷_}
-use Prim.Native.Nat.{ℕ}
+use mathlib.Core.List.{[], _∷_}
 use Rattle.lists.specs.Lists.{singleton}
 use Rattle.meaning.specs.Task.{Task, Clause, sometime-before}
 use Rattle.task.specs.TaskRows.{taskRows}

@@ -11,7 +11,7 @@ use Rattle.task.specs.File.{fileOfRows}
 use Rattle.writer.specs.Writer.{rowAfter, putRows, Wrote, header}
 use Rattle.writer.specs.declared.Cursor.{Cursor}
 use Rattle.writer.proofs.Putting.{whole-file}
-use Rattle.outcome.specs.Outcome.{written, refused, fitted, areaAfter}
+use Rattle.outcome.specs.Outcome.{written, refused, areaAfter}
 use Rattle.outcome.specs.Answers.{answer}
 use Rattle.outcome.specs.declared.Outcome.{Outcome}
 use Rattle.spelling.specs.Outcome.{Fitted}

@@ -1,7 +1,7 @@
 -- The bits of a wanted fact in the two words are the set of that fact.
-use mathlib.Core.Path.{_≡_, refl, sym, ap, _∙_, fun-ext}
-use mathlib.Core.Bool.{Bool, true, false, cond, _&&_, _||_}
-use Prim.Native.Nat.{ℕ, zero, suc, _-_, _/_, _%_, _^_, _<_, _≤_}
+use mathlib.Core.Path.{_≡_, refl, ap, _∙_, fun-ext}
+use mathlib.Core.Bool.{Bool, true, false, cond, _&&_, and-false, or-false}
+use Prim.Native.Nat.{ℕ, zero, suc, _-_, _/_, _%_, _^_}
 use native.Mathlib.Omega.{arith}
 use lib.Bits.{bitOr}
 use lib.Dec.{eqb}
@@ -15,10 +15,6 @@ use Rattle.spelling.specs.Runs.{joined, maskOf}
 abbrev masks : ℕ → Bool → State
 masks n wanted = record { low = maskOf n 0 wanted; high = maskOf n 1 wanted }
 
-and-false : (a : Bool) → (a && false) ≡ false
-and-false true = refl
-and-false false = refl
-
 -- by the fact's word
 by-word : (n q : ℕ) → n / 64 ≡ q
     → member (record { low = cond (eqb q 0 && true) (2 ^ (n % 64)) 0; high = cond (eqb q 1 && true) (2 ^ (n % 64)) 0 }) ≡ single n
@@ -29,10 +25,6 @@ by-word n (suc (suc q)) e = rw (ne-eqb (suc (suc q)) 0 (λ e. omega arith), ne-e
 masked : (n : ℕ) (wanted : Bool) → member (masks n wanted) ≡ cond wanted (single n) empty
 masked n true = by-word n (n / 64) refl
 masked n false = (λ i. member (record { low = cond (and-false (eqb (n / 64) 0) i) (2 ^ (n % 64)) 0; high = cond (and-false (eqb (n / 64) 1) i) (2 ^ (n % 64)) 0 })) ∙ no-facts
-
-or-false : (a : Bool) → (a || false) ≡ a
-or-false true = refl
-or-false false = refl
 
 added : (f : Facts) (n : ℕ) (wanted : Bool) → union f (cond wanted (single n) empty) ≡ joined wanted f n
 added f n true = refl

@@ -1,8 +1,8 @@
 -- Rows by rising fact: the rows of a word from bit to bit, and those of a state by its two words.
 use mathlib.Core.Path.{_≡_, refl, sym, ap, ap₂, _∙_, fun-ext}
-use mathlib.Core.Bool.{Bool, true, false, not, cond, _&&_, _||_}
-use mathlib.Core.List.{List, [], _∷_, _++_, append-assoc}
-use Prim.Native.Nat.{ℕ, zero, suc, _+_, _*_, _-_, _^_, _<_, _≤_}
+use mathlib.Core.Bool.{Bool, true, false, not, cond, _&&_, _||_, and-true}
+use mathlib.Core.List.{List, [], _++_, append-assoc}
+use Prim.Native.Nat.{ℕ, zero, suc, _+_, _-_, _^_, _<_, _≤_}
 use native.Mathlib.Nat.{eq-or-lt-of-le, add-zero, zero-add}
 use native.Mathlib.Omega.{arith}
 use mathlib.Core.Logic.{_⊎_, inl, inr}
@@ -11,7 +11,6 @@ use lib.Count.{trailingZeros}
 use lib.Dec.{eqb}
 use borrow.Author.Tests.{eq-eqb, ne-eqb}
 use Rattle.lists.specs.Lists.{concatMap, range}
-use Rattle.lists.proofs.Tests.{concat-append}
 use Rattle.meaning.specs.Meaning.{State as Facts}
 use Rattle.task.specs.TaskRows.{Row}
 use Rattle.state.specs.Member.{bit, member}
@@ -22,10 +21,6 @@ use Rattle.writer.specs.declared.Cursor.{Cursor}
 use Rattle.writer.proofs.Putting.{Onward, Kept}
 use Rattle.spelling.specs.Runs.{factRows, wordRows, risingRows}
 use Rattle.spelling.proofs.LowestBit.{lowest-within, lowest-set, none-lower, without, without-bit}
-
-and-true : (b : Bool) → (b && true) ≡ b
-and-true true = refl
-and-true false = refl
 
 -- Lists of what is at the numbers of a set
 

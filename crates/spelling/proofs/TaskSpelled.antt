@@ -1,8 +1,8 @@
 -- The rows of a task, spelled row by row, are the rows of its one spelling.
 use mathlib.Core.Path.{_≡_, refl, sym, ap, _∙_, subst, fun-ext}
-use mathlib.Core.Bool.{Bool, true, false, not, cond, _&&_, _||_, true≢false}
+use mathlib.Core.Bool.{Bool, true, false, not, cond, _&&_, _||_, true≢false, and-false, or-false, or-assoc}
 use mathlib.Core.List.{List, [], _∷_, _++_, map, append-assoc, append-nil, map-append}
-use Prim.Native.Nat.{ℕ, zero, suc, _+_, _-_, _<_, _≤_}
+use Prim.Native.Nat.{ℕ, _+_, _-_, _<_, _≤_}
 use native.Mathlib.Omega.{arith}
 use lib.Dec.{T, leb, eqb, ltb, ltb→lt}
 use borrow.Author.Tests.{lt-ltb, ne-eqb, le-leb, leb-true}
@@ -15,13 +15,13 @@ use Rattle.task.specs.Marks.{ACTION, EFFECT, CLAUSE, HOLDS, LACKS, ADD, DELETE,
 use Rattle.task.specs.TaskRows.{Row, row, openingMark, stepsRows, literalRow, clauseRows, conditionRows, effectRows, actionRows, preferenceRows, taskRows}
 use Rattle.task.specs.Rows.{between, Stops}
 use Rattle.task.proofs.Reading.{fold, passes}
-use Rattle.state.specs.Member.{single, union, empty}
+use Rattle.state.specs.Member.{single, empty}
 use Rattle.canonical.specs.Canonical.{literal, literals, canonicalClause, canonicalFacts, canonicalCondition, canonicalEffect, canonicalAction, canonicalPreference, canonical}
-use Rattle.canonical.specs.BySets.{holdsIn, lacksIn, when, literalsBySets, factsBySet}
+use Rattle.canonical.specs.BySets.{holdsIn, lacksIn, when}
 use Rattle.canonical.proofs.BySets.{clause-by-sets, facts-by-set}
 use Rattle.spelling.specs.Runs.{isListed, firstMark, secondMark, Sets, none, joined, takeIn, factRows, risingRows}
-use Rattle.spelling.specs.Spelled.{outside, inside, begun, spelledFrom, spelledRows}
-use Rattle.spelling.proofs.RisingRows.{range-parts, none-among}
+use Rattle.spelling.specs.Spelled.{outside, inside, spelledFrom, spelledRows}
+use Rattle.spelling.proofs.RisingRows.{range-parts}
 
 abbrev spelled : List Row → List Row
 spelled = spelledFrom outside
@@ -40,18 +40,6 @@ module _ (a b : ℕ) where
 -- facts below 128 are as they are named
 single-is : (n m : ℕ) → n < 128 → single n m ≡ eqb m n
 single-is n m h = rw (lt-ltb n 128 h)
-
-or-assoc : (a b c : Bool) → ((a || b) || c) ≡ (a || (b || c))
-or-assoc true b c = refl
-or-assoc false b c = refl
-
-and-false : (a : Bool) → (a && false) ≡ false
-and-false true = refl
-and-false false = refl
-
-or-false : (a : Bool) → (a || false) ≡ a
-or-false true = refl
-or-false false = refl
 
 abbrev no-rows : ℕ → List Row
 no-rows n = []

@@ -1,5 +1,5 @@
 -- The spelling, row by row: each run is gathered and written by rising fact, and every other row stays.
-use mathlib.Core.Bool.{Bool, cond}
+use mathlib.Core.Bool.{cond}
 use mathlib.Core.List.{List, [], _∷_, _++_}
 use Prim.Native.Nat.{ℕ}
 use Rattle.task.specs.TaskRows.{Row}

@@ -2,12 +2,11 @@
 use borrow.Author.Needs.{needs}
 use mathlib.Core.Path.{_≡_, sym, ap, ap₂, _∙_}
 use mathlib.Core.Bool.{Bool}
-use Prim.Native.Nat.{ℕ, _+_, _*_, _-_, _%_, _^_, _<_}
+use Prim.Native.Nat.{_+_, _*_, _-_, _%_, _^_, _<_}
 use lib.Bits.{or-lt, and-le-l}
 use lib.Count.{trailingZeros}
 use native.Mathlib.Omega.{arith}
 use Rattle.writer.proofs.Putting.{then, wrote-none, as-rows, kept-none, kept-on}
-use Rattle.state.specs.Member.{bit}
 use Rattle.spelling.specs.Runs.{factRows}
 use Rattle.spelling.proofs.LowestBit.{lowest-within, lowest-set, without-less}
 use Rattle.spelling.proofs.RisingRows.{left, all-left, none-left, lowest-left, WritingWord}

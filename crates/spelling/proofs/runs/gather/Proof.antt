@@ -3,11 +3,10 @@ use borrow.Author.Needs.{needs}
 use borrow.Author.Tests.{not-true, not-false}
 use mathlib.Core.Path.{_≡_, sym, ap, _∙_}
 use mathlib.Core.Bool.{not}
-use Prim.Native.Nat.{ℕ, _+_, _-_}
+use Prim.Native.Nat.{_+_, _-_}
 use denote.Ref.{now}
 use lib.Dec.{eqb}
 use lib.ListN.{length, getD}
-use Rattle.meaning.specs.Meaning.{State as Facts}
 use Rattle.task.specs.Rows.{between}
 use Rattle.task.proofs.Reading.{goes-on, stops-at, ends-at}
 use Rattle.state.specs.Member.{member}
