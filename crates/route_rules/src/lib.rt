@@ -41,7 +41,9 @@ pub extern "C" fn route_rules_translate(file: &[u8], out: &mut [u8], answer: &mu
 #[no_mangle]
 pub extern "C" fn route_rules_spell(file: &[u8], out: &mut [u8], answer: &mut [u64; 8]) -> u32
     ensures { λ r. ⌜ call r (now (answer .exit)) ≡ ofOutcome (spelled (now (file .entry)) (length (now (out .entry)))) ⌝ }
-    ensures { λ r. ⌜ now (out .exit) ≡ areaAfter (respelled (now (file .entry))) (now (out .entry)) (spelled (now (file .entry)) (length (now (out .entry)))) ⌝ }
+    ensures { λ r.
+        let answered = spelled (now (file .entry)) (length (now (out .entry))) in
+        ⌜ now (out .exit) ≡ areaAfter (respelled (now (file .entry))) (now (out .entry)) answered ⌝ }
 {
     words::put_outcome(spelling::spell(file, out), answer)
 }

@@ -15,7 +15,9 @@ use task::Checked;
 // Writes the one spelling of the task in a file into the area.
 pub fn spell(file: &[u8], out: &mut [u8]) -> Outcome
     ensures { λ r. ⌜ answer r ≡ outcome (now (file .entry)) (length (now (out .entry))) ⌝ }
-    ensures { λ r. ⌜ now (out .exit) ≡ areaAfter (respelled (now (file .entry))) (now (out .entry)) (outcome (now (file .entry)) (length (now (out .entry)))) ⌝ }
+    ensures { λ r.
+        let answered = outcome (now (file .entry)) (length (now (out .entry))) in
+        ⌜ now (out .exit) ≡ areaAfter (respelled (now (file .entry))) (now (out .entry)) answered ⌝ }
 {
     let c = task::check(file);
     let Checked::Accepted(z) = c else {
