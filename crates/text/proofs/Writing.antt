@@ -9,7 +9,7 @@ use lib.ListN.{length, getD, take, drop, set, length-append}
 use lib.Seq.{sets, sets-eq, length-sets, set-out, take-suc, take-all, take-at}
 use Rattle.text.specs.Text.{digit, decimal}
 use Rattle.text.specs.Area.{written, Wrote, Filled}
-use Rattle.text.proofs.Decimal.{decimal-one, decimal-more, nineteen-digits}
+use Rattle.text.proofs.Decimal.{decimal-one, decimal-more, few-digits, nineteen-digits}
 
 sets-append : (xs ys b : List ℕ) (at : ℕ) → sets b at (xs ++ ys) ≡ sets (sets b at xs) (at + length xs) ys
 sets-append [] ys b at = rw add-zero
@@ -81,6 +81,9 @@ module _ (b : List ℕ) (at : ℕ) where
 module _ (b : List ℕ) (at n : ℕ) (h : n < 2 ^ 64) where
   pub one-digit : (out : List ℕ) (k : ℕ) → n < 10 → Wrote b at (digit n) k out → Wrote b at (decimal n) k out × (k ≤ at + 20)
   one-digit out k l v = (rw (decimal-one n l) v, omega (arith, v .behind))
+
+  pub few-digits-written : (out : List ℕ) (k : ℕ) → n < 1000 → Wrote b at (decimal n) k out → k ≤ at + 20
+  few-digits-written out k l v = omega (arith, v .behind, few-digits 2 n (omega arith))
 
   pub last-digit : (mid out : List ℕ) (j k : ℕ) → 10 ≤ n
       → Wrote b at (decimal (n / 10)) j mid → Wrote mid j (digit (n % 10)) k out → Wrote b at (decimal n) k out × (k ≤ at + 20)

@@ -40,14 +40,40 @@ pub fn put_bytes(out: &mut [u8], at: usize, word: &[u8]) -> usize
     k
 }
 
+// Writes a number below 100 in decimal.
+fn put_two(out: &mut [u8], at: usize, n: u32) -> usize
+    requires { ⌜ (at + 20 < 2 ^ 64) × (n < 100) ⌝ }
+    ensures { λ r. ⌜ Wrote (now (out .entry)) at (decimal n) r (now (out .exit)) ⌝ }
+{
+    if n < 10 {
+        put_byte(out, at, b'0' + n as u8)
+    } else {
+        let k = put_byte(&mut *out, at, b'0' + (n / 10) as u8);
+        put_byte(out, k, b'0' + (n % 10) as u8)
+    }
+}
+
+// Writes a number below 1,000 in decimal: most have no more digits, and need no recursion.
+fn put_three(out: &mut [u8], at: usize, n: u32) -> usize
+    requires { ⌜ (at + 20 < 2 ^ 64) × (n < 1000) ⌝ }
+    ensures { λ r. ⌜ Wrote (now (out .entry)) at (decimal n) r (now (out .exit)) ⌝ }
+{
+    if n < 100 {
+        put_two(out, at, n)
+    } else {
+        let k = put_two(&mut *out, at, n / 10);
+        put_byte(out, k, b'0' + (n % 10) as u8)
+    }
+}
+
 // Writes a number in decimal.
 pub fn put_decimal(out: &mut [u8], at: usize, n: u64) -> usize
     requires { ⌜ at + 20 < 2 ^ 64 ⌝ }
     ensures { λ r. ⌜ Wrote (now (out .entry)) at (decimal n) r (now (out .exit)) ⌝ }
     ensures { λ r. ⌜ r ≤ at + 20 ⌝ }
 {
-    if n < 10 {
-        put_byte(out, at, b'0' + n as u8)
+    if n < 1000 {
+        put_three(out, at, n as u32)
     } else {
         let k = put_decimal(&mut *out, at, n / 10);
         put_byte(out, k, b'0' + (n % 10) as u8)
