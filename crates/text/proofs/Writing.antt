@@ -5,8 +5,8 @@ use Prim.Native.Nat.{ℕ, suc, _+_, _/_, _%_, _^_, _<_, _≤_}
 use native.Mathlib.Nat.{add-zero, zero-add}
 use native.Mathlib.Numerals.{add-one}
 use native.Mathlib.Omega.{arith}
-use lib.ListN.{length, getD, take, drop, set, length-append}
-use lib.Seq.{sets, sets-eq, length-sets, set-out, take-suc, take-all, take-at}
+use lib.ListN.{length, getD, take, drop, set, length-append, take-append-drop}
+use lib.Seq.{sets, sets-eq, length-sets, set-out, take-suc, take-all, take-at, length-take-le}
 use Rattle.text.specs.Text.{digit, decimal}
 use Rattle.text.specs.Area.{written, Wrote, Filled}
 use Rattle.text.proofs.Decimal.{decimal-one, decimal-more, few-digits, nineteen-digits}
@@ -24,6 +24,15 @@ written-append xs ys b at = sets-append xs ys b at
 pub length-written : (xs b : List ℕ) (at : ℕ) → length (written xs at b) ≡ length b
 unfolding written
 length-written xs b at = length-sets b at xs
+
+-- nothing is written after the area's end
+sets-out : (xs b : List ℕ) (at : ℕ) → length b ≤ at → sets b at xs ≡ b
+sets-out [] b at h = refl
+sets-out (x ∷ xs) b at h = ap (λ (l : List ℕ). sets l (suc at) xs) (set-out b at x h) ∙ sets-out xs b (suc at) (omega arith)
+
+pub written-out : (xs b : List ℕ) (at : ℕ) → length b ≤ at → written xs at b ≡ b
+unfolding written
+written-out xs b at h = sets-out xs b at h
 
 -- a text that fits: the area is the text, and then what stood after
 pub written-whole : (xs b : List ℕ) → length xs ≤ length b → written xs 0 b ≡ xs ++ drop (length xs) b
@@ -73,8 +82,31 @@ module _ (b : List ℕ) (at : ℕ) where
       → Wrote b at (take i word) j mid → Wrote mid j (getD word i 0 ∷ []) k out → Wrote b at (take (i + 1) word) k out
   one-byte-more word mid out i j k h v w = rw (add-one i, take-suc word i 0 h) (then v w)
 
-  pub all-bytes : (word out : List ℕ) (i k : ℕ) → length word ≤ i → Wrote b at (take i word) k out → Wrote b at word k out
-  all-bytes word out i k h v = rw (take-all i word h) at v
+  -- its bytes stored one by one
+  pub stored-more : (word out : List ℕ) (i : ℕ) → i < length word → out ≡ written (take i word) at b
+      → set out (at + i) (getD word i 0) ≡ written (take (i + 1) word) at b
+  stored-more word out i h e =
+      let n : length (take i word) ≡ i = length-take-le i word (omega arith) in
+      let x : ℕ = getD word i 0 in
+      one-byte-more word out (set out (at + i) x) i (at + i) (at + i + 1) h (record { behind = omega (arith, n); area = e })
+      (stored out (at + i) x (set out (at + i) x) refl) .area
+
+  -- all of it, its first k bytes where the area ends after them, or nothing
+  pub whole-word : (word out : List ℕ) → out ≡ written (take (length word) word) at b → Wrote b at word (at + length word) out
+  whole-word word out e = record { behind = refl; area = e ∙ ap (λ (l : List ℕ). written l at b) (take-all (length word) word (omega arith)) }
+
+  pub cut-word : (word out : List ℕ) (k : ℕ) → k ≤ length word → length b ≤ at + k → out ≡ written (take k word) at b → Wrote b at word (at + length word) out
+  cut-word word out k h l e =
+      let n : length (take k word) ≡ k = length-take-le k word h in
+      let m : length (written (take k word) at b) ≤ at + length (take k word) = omega (arith, n, length-written (take k word) b at) in
+      record {
+        behind = refl;
+        area = e ∙ sym (written-out (drop k word) (written (take k word) at b) (at + length (take k word)) m)
+            ∙ sym (written-append (take k word) (drop k word) b at) ∙ ap (λ (x : List ℕ). written x at b) (take-append-drop k word);
+      }
+
+  pub no-room : (word : List ℕ) → length b ≤ at → Wrote b at word (at + length word) b
+  no-room word h = record { behind = refl; area = sym (written-out word b at h) }
 
 -- A number: its last digit after the others
 

@@ -6,7 +6,7 @@ ghost use Prim.Native.Nat.{_+_, _^_, _≤_, _<_};
 ghost use lib.ListN.{length, take};
 ghost use lib.IntN.{natAbs};
 ghost use Rattle.text.specs.Text.{decimal, integer, refusedLine};
-ghost use Rattle.text.specs.Area.{Wrote};
+ghost use Rattle.text.specs.Area.{Wrote, written};
 
 // The first n bytes of an area, or all where it has no more. Unlike `&area[..n]` it asks the caller for no proof.
 pub fn front(area: &[u8], n: usize) -> &[u8]
@@ -26,18 +26,34 @@ pub fn put_byte(out: &mut [u8], at: usize, byte: u8) -> usize
     at + 1
 }
 
-// Writes the bytes of a word.
+// Copies the first bytes of a word, for which there is room.
+fn copy_bytes(out: &mut [u8], at: usize, word: &[u8], many: usize)
+    requires { ⌜ (many ≤ length (now word)) × (at + many ≤ length (now out)) ⌝ }
+    ensures { λ r. ⌜ now (out .exit) ≡ written (take many (now (word .entry))) at (now (out .entry)) ⌝ }
+{
+    let mut i = 0;
+    while i < many {
+        out[at + i] = word[i];
+        i += 1;
+    }
+}
+
+// Writes the bytes of a word: all at once where there is room, else those that fit.
 pub fn put_bytes(out: &mut [u8], at: usize, word: &[u8]) -> usize
     requires { ⌜ at + length (now word) < 2 ^ 64 ⌝ }
     ensures { λ r. ⌜ Wrote (now (out .entry)) at (now (word .entry)) r (now (out .exit)) ⌝ }
 {
-    let mut k = at;
-    let mut i = 0;
-    while i < word.len() {
-        k = put_byte(&mut *out, k, word[i]);
-        i += 1;
+    let size = out.len();
+    let end = at + word.len();
+    if end <= size {
+        copy_bytes(&mut *out, at, word, word.len());
+        return end;
     }
-    k
+    if at < size {
+        copy_bytes(&mut *out, at, word, size - at);
+        return end;
+    }
+    end
 }
 
 // Writes a number below 100 in decimal.
