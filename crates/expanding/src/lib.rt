@@ -1,0 +1,85 @@
+// The actions of a node that the search takes, tried by number.
+ghost use mathlib.Core.Path.{_≡_};
+ghost use mathlib.Core.Bool.{Bool};
+ghost use Prim.Native.Nat.{ℕ, _+_, _*_, _<_};
+ghost use Rattle.meaning.specs.Task.{Task};
+ghost use Rattle.expanding.specs.Expanding.{Trying, Tried, Expanding, Expanded};
+use leading;
+use leading::Led;
+use meeting;
+use node_words;
+use node_words::Packed;
+
+// The place that is taken, the number of nodes, and the most that there may be.
+pub struct Turn {
+    pub place: usize,
+    pub nodes: usize,
+    pub limit: usize,
+}
+
+// The row of an action, the link of a node that it leads to, the number of nodes, and the most that there may be.
+struct Trial {
+    pub from: usize,
+    pub link: u64,
+    pub nodes: usize,
+    pub limit: usize,
+}
+
+// The link of a node that an action leads to from a place.
+fn link(place: usize, action: usize) -> u64
+    requires { ⌜ (place < 1024) × (action < 256) ⌝ }
+    ensures { λ r. ⌜ r ≡ place * 256 + action ⌝ }
+{
+    (place as u64) * 256 + (action as u64)
+}
+
+// Tries one action from node x: how many nodes there are then, more than the limit where one had no room.
+fn try_action(marks: &[u8], values: &[u8], trial: Trial, x: Packed, words: &mut [u64], table: &mut [u16], tree: &mut [u16]) -> usize
+    requires { ⌜ ((t : Task) × (k : ℕ) × (taken : ℕ → Bool) × Trying (now marks) (now values) trial x (now words) (now table) (now tree) t k taken) ⌝ }
+    ensures { λ r. ⌜ ((t : Task) (k : ℕ) (taken : ℕ → Bool)
+        → Trying (now (marks .entry)) (now (values .entry)) trial x (now (words .entry)) (now (table .entry)) (now (tree .entry)) t k taken
+        → Tried trial x (now (words .entry)) (now (table .entry)) (now (tree .entry)) (now (words .exit)) (now (table .exit)) (now (tree .exit)) t k taken r) ⌝ }
+{
+    let led = leading::lead(marks, values, trial.from, x, trial.link);
+    let Led::To(y) = led else {
+        return trial.nodes;
+    };
+    meeting::meet(&mut *words, &mut *table, &mut *tree, trial.nodes, trial.limit, y)
+}
+
+// Tries the actions, whose rows are `starts`, from the taken place: how many nodes there are then, more than the limit where one had
+// no room.
+pub fn expand(
+    marks: &[u8],
+    values: &[u8],
+    starts: &[usize],
+    turn: Turn,
+    words: &mut [u64],
+    table: &mut [u16],
+    tree: &mut [u16],
+) -> usize
+    requires { ⌜ ((t : Task) × (taken : ℕ → Bool) × Expanding (now marks) (now values) (now starts) turn (now words) (now table) (now tree) t taken) ⌝ }
+    ensures { λ r. ⌜ ((t : Task) (taken : ℕ → Bool)
+        → Expanding (now (marks .entry)) (now (values .entry)) (now (starts .entry)) turn (now (words .entry)) (now (table .entry)) (now (tree .entry)) t taken
+        → Expanded (now (words .entry)) turn (now (words .exit)) (now (table .exit)) (now (tree .exit)) t taken r) ⌝ }
+{
+    let place = turn.place;
+    let limit = turn.limit;
+    let x = node_words::node_at(&*words, place);
+    let mut n = turn.nodes;
+    let mut k = 0;
+    while k < starts.len() {
+        let trial = Trial {
+            from: starts[k],
+            link: link(place, k),
+            nodes: n,
+            limit,
+        };
+        n = try_action(marks, values, trial, x, &mut *words, &mut *table, &mut *tree);
+        if limit < n {
+            return n;
+        }
+        k += 1;
+    }
+    n
+}

@@ -1,0 +1,93 @@
+-- No number of the tally outgrows its type.
+use mathlib.Core.Path.{_≡_, refl, sym, ap, _∙_}
+use mathlib.Core.Bool.{Bool, true, false, cond}
+use mathlib.Core.List.{List, [], _∷_}
+use Prim.Native.Nat.{ℕ, suc, _+_, _*_, _≤_}
+use native.Mathlib.Nat.{suc-mul, zero-mul}
+use native.Mathlib.Numerals.{add-one}
+use native.Mathlib.Omega.{arith}
+use lib.Dec.{T, leb, leb→le, le→leb}
+use lib.IntN.{ℤ}
+use lib.ListN.{length}
+use Rattle.lists.specs.Lists.{all}
+use Rattle.task.specs.File.{Sizes, taskOf}
+use Rattle.meaning.specs.Meaning.{metric}
+use Rattle.task.specs.Check
+use Rattle.task.specs.Check.{check}
+use Rattle.task.specs.Limits.{MAX-AMOUNT}
+use Rattle.meaning.specs.Verdict.{solved, verdict}
+use Rattle.lists.proofs.Tests.{tests, all-implies, and-both}
+use Rattle.meaning.proofs.Verdict.{solved-only}
+use Rattle.plan.specs.Judged
+use Rattle.plan.specs.Judged.{Judged, judged}
+use Rattle.figures.specs.Week.{isFaulty, faultNumber}
+use Rattle.figures.specs.Pass.{Tally, noPlans, raised, counted}
+use Rattle.figures.proofs.Judging.{faultPlace, judged-as, not-long}
+use Rattle.figures.proofs.Solving.{accepted-limited, metric-most}
+
+-- after i plans, of metrics that are at most this
+pub record Small (most i : ℕ) (a : Tally) : Type 0 where
+  pub few : a .solving ≤ i
+  pub sum : a .total ≤ i * most
+  pub counts : T (all (λ (c : ℕ). leb c i) (a .meetings))
+  pub sixteen : length (a .meetings) ≡ 16
+
+more : (i c : ℕ) → T (leb c i) → T (leb c (i + 1))
+more i c t = le→leb c (i + 1) (omega (arith, leb→le c i t))
+
+length-raised : (met : ℕ → Bool) (k : ℕ) (cs : List ℕ) → length (raised met k cs) ≡ length cs
+length-raised met k [] = refl
+length-raised met k (c ∷ cs) = ap suc (length-raised met (k + 1) cs)
+
+raised-small : (met : ℕ → Bool) (i k : ℕ) (cs : List ℕ) → T (all (λ (c : ℕ). leb c i) cs) → T (all (λ (c : ℕ). leb c (i + 1)) (raised met k cs))
+raised-small met i k [] t = tt
+raised-small met i k (c ∷ cs) t =
+    and-both (leb (cond (met k) (c + 1) c) (i + 1)) (all (λ (c : ℕ). leb c (i + 1)) (raised met (k + 1) cs)) (go (met k) (leb→le c i (search tests)))
+    (raised-small met i (k + 1) cs (search tests))
+  where
+    go : (b : Bool) → c ≤ i → T (leb (cond b (c + 1) c) (i + 1))
+    go true h = le→leb (c + 1) (i + 1) (omega arith)
+    go false h = le→leb c (i + 1) (omega arith)
+
+module _ (most : ℕ) where
+  pub small-first : Small most 0 noPlans
+  small-first = record { few = omega arith; sum = rw (zero-mul most) (omega arith); counts = tt; sixteen = refl }
+
+  module _ (i : ℕ) (a : Tally) (s : Small most i a) where
+    grown : (i + 1) * most ≡ i * most + most
+    grown = rw (add-one i) (suc-mul i most)
+
+    pub small-counted : (metric : ℕ) (met : ℕ → Bool) → metric ≤ most → Small most (i + 1) (counted a metric met)
+    small-counted metric met h =
+        record {
+          few = omega (arith, s .few);
+          sum = omega (arith, s .sum, grown);
+          counts = raised-small met i 0 (a .meetings) (s .counts);
+          sixteen = length-raised met 0 (a .meetings) ∙ s .sixteen;
+        }
+
+    pub small-next : Small most (i + 1) a
+    small-next =
+        record {
+          few = omega (arith, s .few);
+          sum = omega (arith, s .sum, grown);
+          counts = all-implies (λ (c : ℕ). leb c i) (λ (c : ℕ). leb c (i + 1)) (more i) (a .meetings) (s .counts);
+          sixteen = s .sixteen;
+        }
+
+-- a metric that is counted
+pub metric-small : (b : List ℕ) (z : Sizes) → check b ≡ Check.accepted z → (p : List ℕ) (c m : ℕ) (u : ℤ) (s : ℕ → Bool)
+    → judged b p ≡ Judged.given (solved c m u s) → m ≤ 2064 * MAX-AMOUNT
+metric-small b z h p c m u s e = go (isFaulty A p) refl (sym (judged-as b z h p) ∙ e)
+  where
+    A : ℕ
+    A = z .actions
+
+    go : (x : Bool) → isFaulty A p ≡ x
+        → cond x (Judged.refused (faultNumber p) (faultPlace A p)) (Judged.given (verdict (taskOf b) p)) ≡ Judged.given (solved c m u s)
+        → m ≤ 2064 * MAX-AMOUNT
+    go true q r = let no : _≡_ {A = ℕ} 0 1 = cc in omega arith
+    go false q r =
+        let v : verdict (taskOf b) p ≡ solved c m u s = cc in
+        let short : length p ≤ 2048 = leb→le (length p) 2048 (not-long A p (rw q tt)) in
+        omega (arith, metric-most (taskOf b) MAX-AMOUNT (accepted-limited b z h) p short, solved-only (taskOf b) p c m u s v .1)

@@ -1,0 +1,35 @@
+-- What the figures of a week keep to.
+use mathlib.Core.Path.{_≡_}
+use Prim.Native.Nat.{ℕ, _+_, _*_, _≤_, _<_}
+use lib.Dec.{T, leb}
+use lib.ListN.{length}
+use Rattle.lists.specs.Lists.{all}
+use Rattle.figures.specs.Figures.{Amounts, Figures, none-solves, solve}
+use Rattle.figures.specs.Week.{Answer, given, refused}
+
+-- where n plans solve, of P preferences
+pub record Sound (P n : ℕ) (a : Amounts) : Type 0 where
+  pub one-solves : 1 ≤ n
+  pub each-preference : length (a .meetings) ≡ P
+  pub meeting-solve : T (all (λ (c : ℕ). leb c n) (a .meetings))
+  pub mean : a .quotient * n + a .remainder ≡ a .total
+  pub rest : a .remainder < n
+  pub not-below : a .lowest ≤ a .quotient
+  pub not-above : a .quotient ≤ a .highest
+
+abbrev pub SoundIn : ℕ → Figures → Type 0
+SoundIn P none-solves = Unit {0}
+SoundIn P (solve n a) = Sound P n a
+
+-- at most 64 plans, and a sum that is at most this
+pub record Fits (most n : ℕ) (a : Amounts) : Type 0 where
+  pub few : n ≤ 64
+  pub small : a .total ≤ most
+
+abbrev pub FitsIn : ℕ → Figures → Type 0
+FitsIn most none-solves = Unit {0}
+FitsIn most (solve n a) = Fits most n a
+
+abbrev pub IfGiven : (Figures → Type 0) → Answer → Type 0
+IfGiven holds (given x) = holds x
+IfGiven holds (refused n i) = Unit {0}

@@ -1,0 +1,3 @@
+pub mod WordsEqual
+pub mod Entry
+pub mod Meeting

@@ -1,0 +1,3 @@
+pub mod Counting
+pub mod Probing
+pub mod Putting
