@@ -3,8 +3,8 @@
 
 tests/spell/program.py PROGRAM     PROGRAM is target/bin/spell
 
-Spellings are written out here row by row. Those of the examples, of check's vectors and of random tasks are held to the account in
-shared/spelling.py.
+Spellings are written by hand, row by row (shared/spellings.py). Those of the examples, of check's vectors and of random tasks are held to
+the account in shared/spelling.py.
 """
 import os
 import sys
@@ -14,44 +14,17 @@ from shared import stored
 from shared.account import check
 from shared.chance import Chance
 from shared.expected import expect
-from shared.files import BELT, HARD, MOST, SOFT, file, goal, words
+from shared.files import BELT, HARD, SOFT, file, words
 from shared.programs import FOLDER, Link, faults, run
 from shared.spelling import respelled, spelling
+from shared.spellings import CLEAN, LONGEST, MIXED, long, short
 from shared.tasks import random_tasks
 
 ROOT = os.path.dirname(os.path.dirname(os.path.dirname(os.path.abspath(__file__))))
 sys.path.append(os.path.join(ROOT, 'tools'))
 import task as tool
 
-# Rows in words, and the rows of their spelling; one line of literals stands for a clause in every condition of a task.
-LITERALS = [
-    ('HOLDS 1', 'HOLDS 1'), ('HOLDS 2 HOLDS 1', 'HOLDS 1 HOLDS 2'), ('LACKS 2 LACKS 1', 'LACKS 1 LACKS 2'),
-    ('HOLDS 2 LACKS 1', 'LACKS 1 HOLDS 2'), ('LACKS 2 HOLDS 1', 'HOLDS 1 LACKS 2'), ('LACKS 1 HOLDS 1', 'HOLDS 1 LACKS 1'),
-    ('HOLDS 1 HOLDS 1', 'HOLDS 1'), ('LACKS 1 HOLDS 1 LACKS 1 HOLDS 1', 'HOLDS 1 LACKS 1'),
-    ('HOLDS 3 HOLDS 1 HOLDS 3', 'HOLDS 1 HOLDS 3'),
-    ('HOLDS 127 LACKS 64 HOLDS 63 HOLDS 0 LACKS 63 HOLDS 127 LACKS 127 LACKS 0',
-     'HOLDS 0 LACKS 0 HOLDS 63 LACKS 63 LACKS 64 HOLDS 127 LACKS 127'),
-]
-CONDITIONS = ['GOAL CLAUSE {}', 'GOAL CLAUSE HOLDS 9 CLAUSE {} CLAUSE HOLDS 0 LACKS 8', 'GOAL ACTION 5 CLAUSE {}',
-              'GOAL ACTION 5 EFFECT CLAUSE {} ADD 9', 'GOAL always 7 CLAUSE {}', 'GOAL sometime-before 7 CLAUSE {} SECOND CLAUSE LACKS 4',
-              'GOAL hard-sometime-after SECOND CLAUSE {}', 'GOAL always-within 7 STEPS 15 CLAUSE HOLDS 4 SECOND CLAUSE {}']
-FACTS = [
-    ('', ''), ('ADD 2 ADD 1', 'ADD 1 ADD 2'), ('DELETE 2 DELETE 1', 'DELETE 1 DELETE 2'), ('ADD 1 ADD 1', 'ADD 1'),
-    ('DELETE 1 DELETE 1 DELETE 1', 'DELETE 1'), ('ADD 2 ADD 1 DELETE 2 DELETE 1', 'ADD 1 ADD 2 DELETE 1 DELETE 2'),
-    ('ADD 1 DELETE 1', 'ADD 1 DELETE 1'), ('ADD 3 DELETE 0', 'ADD 3 DELETE 0'),
-    ('ADD 127 ADD 64 ADD 0 ADD 63 ADD 127 DELETE 64 DELETE 127 DELETE 64', 'ADD 0 ADD 63 ADD 64 ADD 127 DELETE 64 DELETE 127'),
-]
-
-# Spellings already: nothing but literals and facts moves, and nothing else is left out.
-KEPT = ['GOAL', 'START 1 START 3 GOAL', 'GOAL CLAUSE HOLDS 2 CLAUSE HOLDS 1 CLAUSE HOLDS 2', 'GOAL CLAUSE LACKS 1 CLAUSE HOLDS 1',
-        f'GOAL ACTION {MOST} ACTION 1 ACTION 1', 'GOAL ACTION EFFECT ADD 2 EFFECT ADD 1 EFFECT ADD 2 EFFECT EFFECT',
-        f'GOAL sometime {MOST} always 1 always 1', 'GOAL sometime-before 1 CLAUSE HOLDS 2 SECOND CLAUSE HOLDS 1',
-        'GOAL within 2 STEPS 15 within 2 STEPS 15 hard-within STEPS']
-
 belt = file(BELT, F=2)
-mixed = file('GOAL CLAUSE LACKS 1 HOLDS 3 HOLDS 1 LACKS 1 ACTION 4 EFFECT ADD 2 ADD 0 ADD 2 DELETE 3 DELETE 2')
-clean = file('GOAL CLAUSE HOLDS 1 LACKS 1 HOLDS 3 ACTION 4 EFFECT ADD 0 ADD 2 DELETE 2 DELETE 3')
-longest = file(goal(12000))
 old = b'what stood there'
 
 # What each case is for, its files, and what the program has to write; a refusal leaves all files as they were.
@@ -63,8 +36,8 @@ REFUSED = [
     ('an empty task', dict(task=b''), 'refused 1 0\n'),
     ('an empty task, and an old spelled', dict(task=b'', spelled=old), 'refused 1 0\n'),
     ('129 facts', dict(task=file('GOAL', F=129), spelled=old), 'refused 2 0\n'),
-    ('one byte more than the longest task', dict(task=longest + b'\0', spelled=old), 'refused 3 0\n'),
-    ('a million bytes', dict(task=longest + bytes(1000000)), 'refused 3 0\n'),
+    ('one byte more than the longest task', dict(task=LONGEST + b'\0', spelled=old), 'refused 3 0\n'),
+    ('a million bytes', dict(task=LONGEST + bytes(1000000)), 'refused 3 0\n'),
     ('a faulty row', dict(task=file('GOAL CLAUSE'), spelled=old), 'refused 4 2\n'),
     ('a fact too high', dict(task=file('GOAL CLAUSE HOLDS 3 HOLDS 4'), spelled=old), 'refused 5 3\n'),
     ('START that repeats', dict(task=file('START 1 START 1 GOAL'), spelled=old), 'refused 5 1\n'),
@@ -78,7 +51,7 @@ FAULTS = [
     ('a task that is read, but not its end', dict(env=faults('task', read=1)), old),
     ('a spelled that takes no byte', dict(env=faults('spelled', write=0)), b''),
     ('a spelled that takes 10 bytes', dict(env=faults('spelled', piece=10, write=1)), b''),
-    ('a spelled whose last byte is not taken', dict(env=faults('spelled', piece=len(clean) - 1, write=1)), b''),
+    ('a spelled whose last byte is not taken', dict(env=faults('spelled', piece=len(CLEAN) - 1, write=1)), b''),
     ('a spelled that may grow to 10 bytes', dict(most=10), b''),
     ('a spelled whose close fails', dict(env=faults('spelled', close=0)), b''),
 ]
@@ -91,20 +64,8 @@ def spells(program, what, data, wanted):
 
 
 def by_hand(program):
-    for form in CONDITIONS:
-        for given, wanted in LITERALS:
-            spells(program, 'literals', file(form.format(given), F=128), file(form.format(wanted), F=128))
-    for given, wanted in FACTS:
-        form = 'GOAL ACTION 3 EFFECT CLAUSE HOLDS 5 {} EFFECT ADD 7 DELETE 7'
-        spells(program, 'facts', file(form.format(given), F=128), file(form.format(wanted), F=128))
-    for rows in KEPT:
-        spells(program, 'kept', file(rows), file(rows))
-    every = ''.join(f' LACKS {fact} HOLDS {fact}' for fact in reversed(range(128)))
-    rising = ''.join(f' HOLDS {fact} LACKS {fact}' for fact in range(128))
-    for times in (1, 2, 46):
-        spells(program, 'every literal', file('GOAL CLAUSE' + every * times, F=128), file('GOAL CLAUSE' + rising, F=128))
-    spells(program, 'the longest task', longest, file('GOAL CLAUSE HOLDS 3'))
-    spells(program, '3,999 clauses', file('GOAL' + ' CLAUSE LACKS 3 HOLDS 2' * 3999), file('GOAL' + ' CLAUSE HOLDS 2 LACKS 3' * 3999))
+    for what, data, wanted in [*short(), *long()]:
+        spells(program, what, data, wanted)
 
 
 def by_account(program):
@@ -131,17 +92,17 @@ def by_account(program):
 def files(program):
     for what, given, line in REFUSED:
         expect(what, run(program, given), (line, '', given))
-    made = dict(task=mixed, spelled=clean)
-    for longer in [old, mixed, clean, bytes(100000)]:
-        expect(f'over a spelled of {len(longer)} bytes', run(program, dict(task=mixed, spelled=longer)), ('', '', made))
+    made = dict(task=MIXED, spelled=CLEAN)
+    for longer in [old, MIXED, CLEAN, bytes(100000)]:
+        expect(f'over a spelled of {len(longer)} bytes', run(program, dict(task=MIXED, spelled=longer)), ('', '', made))
     for what, wrong, left in FAULTS:
-        expect(what, run(program, dict(task=mixed, spelled=old), **wrong), ('no file\n', '', dict(task=mixed, spelled=left)))
-    full = dict(task=mixed, spelled=Link('/dev/full'))
+        expect(what, run(program, dict(task=MIXED, spelled=old), **wrong), ('no file\n', '', dict(task=MIXED, spelled=left)))
+    full = dict(task=MIXED, spelled=Link('/dev/full'))
     expect('spelled is a link to /dev/full', run(program, full), ('no file\n', '', full))
-    linked = dict(task=mixed, spelled=Link('elsewhere'))
-    expect('spelled is a link to a file that is missing', run(program, linked), ('', '', dict(linked, elsewhere=clean)))
+    linked = dict(task=MIXED, spelled=Link('elsewhere'))
+    expect('spelled is a link to a file that is missing', run(program, linked), ('', '', dict(linked, elsewhere=CLEAN)))
     for name, pieces in [('task', 1), ('spelled', 7)]:
-        expect(f'{name} in pieces', run(program, dict(task=mixed), env=faults(name, piece=pieces)), ('', '', made))
+        expect(f'{name} in pieces', run(program, dict(task=MIXED), env=faults(name, piece=pieces)), ('', '', made))
 
 
 def main(program):

@@ -3,19 +3,21 @@ mod amounts;
 mod checks;
 mod lines;
 mod plans;
+mod spellings;
 mod texts;
 mod walks;
 
 use libc::STDOUT_FILENO;
 
 // What the vectors of a file are: task files to check; tasks and plans to report on; tasks and plans to walk; tasks and plans'
-// texts to read, walk and settle; tasks, costs and met preferences to settle.
+// texts to read, walk and settle; tasks, costs and met preferences to settle; tasks and areas to spell them into.
 pub enum Family {
     Checks,
     Plans,
     Walks,
     Texts,
     Amounts,
+    Spellings,
 }
 
 // Runs the next vector, and answers whether there was one.
@@ -26,6 +28,7 @@ fn run_next(fd: i32, family: Family) -> bool {
         Family::Walks => walks::walk_next(fd),
         Family::Texts => texts::walk_next(fd),
         Family::Amounts => amounts::settle_next(fd),
+        Family::Spellings => spellings::spell_next(fd),
     }
 }
 
