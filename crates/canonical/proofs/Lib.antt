@@ -13,3 +13,5 @@ pub mod Meaning
 pub mod Shorter
 pub mod SharedSolutions
 pub mod Respelled
+-- Wrong spellings
+pub mod Refuted
