@@ -65,8 +65,8 @@ module _ (b area : List ℕ) (x : Checked) (e : checked x ≡ check b) where
     rows-are : spelledRows rows ≡ taskRows (canonical (taskOf b))
     rows-are = ap spelledRows (parts-spell b (asSizes z) accepted) ∙ task-spelled (taskOf b) (spelling .formed) few-facts
 
-    pub few : length (spelledRows rows) ≤ 12000
-    few = omega (arith, ap length rows-are, respelled-file b (asSizes z) accepted .fewer, within .0)
+    pub fewer : length (spelledRows rows) ≤ z .rows
+    fewer = omega (arith, ap length rows-are, respelled-file b (asSizes z) accepted .fewer)
 
     same-sizes : respelledSizes (asSizes z) (respelledRows b) ≡ sizesOf (canonical (taskOf b))
     same-sizes = ap (λ (y : File.Sizes). respelledSizes y (respelledRows b)) sized ∙ sym (canonical-sizes (taskOf b))

@@ -8,6 +8,7 @@ pub mod RisingRows
 pub mod Running
 pub mod TaskSpelled
 -- The file
+pub mod Through
 pub mod Fitting
 pub mod Answering
 pub mod Longest

@@ -1,9 +1,11 @@
 -- The spelling, row by row: each run is gathered and written by rising fact, and every other row stays.
 use mathlib.Core.Bool.{cond}
 use mathlib.Core.List.{List, [], _∷_, _++_}
-use Prim.Native.Nat.{ℕ}
+use Prim.Native.Nat.{ℕ, _≤_}
+use lib.ListN.{length}
 use Rattle.task.specs.TaskRows.{Row}
-use Rattle.task.specs.Rows.{between}
+use Rattle.task.specs.File.{paired}
+use Rattle.task.specs.Rows.{Rows, between}
 use Rattle.spelling.specs.Runs.{isListed, firstMark, secondMark, Sets, none, takeIn, risingRows}
 
 -- where the rows so far end: in no run, or in a run of the marks a and b
@@ -25,3 +27,8 @@ spelledFrom (inside a b s) (x ∷ xs) =
 
 unfoldable pub spelledRows : List Row → List Row
 spelledRows = spelledFrom outside
+
+-- rows of a file whose spelling is no longer than they are
+pub record Shorter (ms vs : List ℕ) : Type 0 where
+  pub rows : Rows ms vs
+  pub fewer : length (spelledRows (paired ms vs)) ≤ length ms

@@ -1,15 +1,15 @@
 // The whole spelling.
 ghost use mathlib.Core.Path.{_≡_};
-ghost use Prim.Native.Nat.{_≤_};
+ghost use Prim.Native.Nat.{_+_, _*_, _≤_};
 ghost use lib.ListN.{length};
 ghost use Rattle.task.specs.File.{paired};
-ghost use Rattle.task.specs.Limits.{MAX-ROWS};
 ghost use Rattle.task.specs.Rows.{Rows};
-ghost use Rattle.writer.specs.Writer.{rowAfter, Room, Wrote};
-ghost use Rattle.spelling.specs.Spelled.{spelledRows};
+ghost use Rattle.writer.specs.Writer.{Room, Wrote};
+ghost use Rattle.spelling.specs.Spelled.{spelledRows, Shorter};
 ghost use Rattle.spelling.specs.Outcome.{Fitted};
 use super::rising;
 use super::runs;
+use layout::sides::Span;
 use outcome::Outcome;
 use task::refused;
 use task::rows;
@@ -38,15 +38,75 @@ fn put_task(out: &mut [u8], c: Cursor, marks: &[u8], values: &[u8]) -> Cursor
     k
 }
 
-// How many rows it has: it is written into a file of no rows.
-fn count_rows(marks: &[u8], values: &[u8]) -> usize
-    requires { ⌜ Rows (now marks) (now values) ⌝ }
-    ensures { λ r. ⌜ r ≡ rowAfter 0 (length (spelledRows (paired (now (marks .entry)) (now (values .entry))))) ⌝ }
+// Writes the file of the spelling, where it fits. Its rows are written into an area of our own first, since the values stand after all
+// marks, and how many there are is known at the end.
+fn put_through(
+    own: &mut [u8],
+    out: &mut [u8],
+    marks: &[u8],
+    values: &[u8],
+    facts: u32,
+    actions: u32,
+    preferences: u32,
+) -> Outcome
+    requires { ⌜ Shorter (now marks) (now values) × (8 + 5 * length (now marks) ≤ length (now own)) ⌝ }
+    ensures { λ r.
+        let rows = spelledRows (paired (now (marks .entry)) (now (values .entry))) in
+        ⌜ Fitted facts actions preferences rows (now (out .entry)) r (now (out .exit)) ⌝ }
 {
-    let mut nothing: [u8; 8] = [0; 8];
-    let c = Cursor { rows: 0, next: 0 };
-    let k = put_task(&mut nothing, c, marks, values);
-    k.next
+    let room = marks.len();
+    let c = Cursor {
+        rows: room,
+        next: 0,
+    };
+    let k = put_task(&mut *own, c, marks, values);
+    let n = k.next;
+    let length = 8 + 5 * n;
+    if out.len() < length {
+        return outcome::refuse(refused::SHORT_OUTPUT, 0);
+    }
+    writer::put_sizes(&mut *out, facts, actions, preferences, n as u32);
+    let first = Cursor { rows: n, next: 0 };
+    let middle = 8 + room;
+    let all = Span { from: 0, to: n };
+    let _ = writer::copy_rows(&mut *out, first, &own[8..middle], &own[middle..], all);
+    Outcome::Written(length)
+}
+
+// Writes the file of a spelling of at most 128 rows: a small area costs little to make.
+fn put_small(
+    out: &mut [u8],
+    marks: &[u8],
+    values: &[u8],
+    facts: u32,
+    actions: u32,
+    preferences: u32,
+) -> Outcome
+    requires { ⌜ Shorter (now marks) (now values) × (length (now marks) ≤ 128) ⌝ }
+    ensures { λ r.
+        let rows = spelledRows (paired (now (marks .entry)) (now (values .entry))) in
+        ⌜ Fitted facts actions preferences rows (now (out .entry)) r (now (out .exit)) ⌝ }
+{
+    let mut own: [u8; 648] = [0; 648];
+    put_through(&mut own, &mut *out, marks, values, facts, actions, preferences)
+}
+
+// Writes the file of any spelling.
+fn put_large(
+    out: &mut [u8],
+    marks: &[u8],
+    values: &[u8],
+    facts: u32,
+    actions: u32,
+    preferences: u32,
+) -> Outcome
+    requires { ⌜ Shorter (now marks) (now values) ⌝ }
+    ensures { λ r.
+        let rows = spelledRows (paired (now (marks .entry)) (now (values .entry))) in
+        ⌜ Fitted facts actions preferences rows (now (out .entry)) r (now (out .exit)) ⌝ }
+{
+    let mut own: [u8; 60008] = [0; 60008];
+    put_through(&mut own, &mut *out, marks, values, facts, actions, preferences)
 }
 
 // Writes the file of the spelling, where it fits.
@@ -58,18 +118,13 @@ pub fn put_file(
     actions: u32,
     preferences: u32,
 ) -> Outcome
-    requires { ⌜ Rows (now marks) (now values) × (length (spelledRows (paired (now marks) (now values))) ≤ MAX-ROWS) ⌝ }
+    requires { ⌜ Shorter (now marks) (now values) ⌝ }
     ensures { λ r.
         let rows = spelledRows (paired (now (marks .entry)) (now (values .entry))) in
         ⌜ Fitted facts actions preferences rows (now (out .entry)) r (now (out .exit)) ⌝ }
 {
-    let n = count_rows(marks, values);
-    let length = 8 + 5 * n;
-    if out.len() < length {
-        return outcome::refuse(refused::SHORT_OUTPUT, 0);
+    if marks.len() <= 128 {
+        return put_small(&mut *out, marks, values, facts, actions, preferences);
     }
-    writer::put_sizes(&mut *out, facts, actions, preferences, n as u32);
-    let c = Cursor { rows: n, next: 0 };
-    let _ = put_task(&mut *out, c, marks, values);
-    Outcome::Written(length)
+    put_large(&mut *out, marks, values, facts, actions, preferences)
 }

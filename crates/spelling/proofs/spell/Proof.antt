@@ -4,7 +4,7 @@ use Prim.Native.Nat.{_+_, _*_, _≤_}
 use native.Mathlib.Omega.{arith}
 use denote.Ref.{now}
 use lib.ListN.{length, length-take, length-drop}
-use Rattle.spelling.proofs.Answering.{turned-down, exact, within, few, put}
+use Rattle.spelling.proofs.Answering.{turned-down, exact, within, fewer, put}
 use borrow.Author.Needs.{needs}
 use Rattle.spelling.proofs.spell.Statement.{statement}
 use Rattle.spelling.proofs.spell.Tie as tie
@@ -53,10 +53,11 @@ put-file-requires c κs =
     let n = c .before .before .before .before .before .before .before in
     let k = n .before .before .before in
     let a = k .before .before .before .args in
-    let h = parts n in (
-      record { few = simp (length-take, length-drop) (omega arith); values = simp (length-take, length-drop) (omega arith) },
-      few (now (a .file)) (now (a .out)) (k .check .result) (k .check .ensures) (n .before .c .given .0 .0) (n .before .c .given .1),
-    )
+    let h = parts n in
+    record {
+      rows = record { few = simp (length-take, length-drop) (omega arith); values = simp (length-take, length-drop) (omega arith) };
+      fewer = simp (length-take, length-drop) (omega (arith, fewer (now (a .file)) (now (a .out)) (k .check .result) (k .check .ensures) (n .before .c .given .0 .0) (n .before .c .given .1)));
+    }
 
 returns-2 : tie.Need-returns-2
 returns-2 c =
