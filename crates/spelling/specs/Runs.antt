@@ -4,6 +4,7 @@ use mathlib.Core.Bool.{Bool, not, cond, _&&_}
 use mathlib.Core.List.{List, _++_}
 use Prim.Native.Nat.{ℕ, _+_, _/_, _%_, _^_}
 use lib.Dec.{eqb, leb}
+use lib.ListN.{getD}
 use Rattle.lists.specs.Lists.{concatMap, range}
 use Rattle.meaning.specs.Meaning.{State as Facts}
 use Rattle.task.specs.Marks.{HOLDS, LACKS, DELETE}
@@ -42,9 +43,24 @@ joined wanted f n = cond wanted (union f (single n)) f
 abbrev pub maskOf : ℕ → ℕ → Bool → ℕ
 maskOf n q wanted = cond (eqb (n / 64) q && wanted) (2 ^ (n % 64)) 0
 
+-- with fact n in the first set, or in the second
+abbrev pub withFact : Bool → Sets → ℕ → Sets
+withFact in-first s n = record { first = joined in-first (s .first) n; second = joined (not in-first) (s .second) n }
+
 abbrev pub takeIn : ℕ → Sets → Row → Sets
-takeIn a s x =
-    record { first = joined (hasMark a x) (s .first) (x .value); second = joined (not (hasMark a x)) (s .second) (x .value) }
+takeIn a s x = withFact (hasMark a x) s (x .value)
+
+-- four words: two of the first set, then two of the second
+abbrev pub setsIn : List ℕ → Sets
+setsIn ws =
+    record {
+      first = member (record { low = getD ws 0 0; high = getD ws 1 0 });
+      second = member (record { low = getD ws 2 0; high = getD ws 3 0 });
+    }
+
+-- which of them is word q of the first set, or of the second
+abbrev pub slotOf : Bool → ℕ → ℕ
+slotOf in-first q = cond in-first q (2 + q)
 
 -- the sets of a run, and the row after it
 pub record Run : Type 0 where

@@ -1,8 +1,9 @@
 // Rows that stand in runs, gathered in two sets of facts.
 ghost use mathlib.Core.Path.{_≡_};
+ghost use Prim.Native.Nat.{_/_, _<_};
+ghost use lib.ListN.{length};
 ghost use Rattle.task.specs.Rows.{Rows, between};
-ghost use Rattle.state.specs.Member.{member};
-ghost use Rattle.spelling.specs.Runs.{isListed, firstMark, secondMark, joined, maskOf, none, gatherAt, asRun};
+ghost use Rattle.spelling.specs.Runs.{isListed, firstMark, secondMark, slotOf, setsIn, withFact, none, ended, gatherAt, asRun};
 use state::State;
 use task::marks;
 use task::rows;
@@ -49,24 +50,40 @@ fn in_run(mark: u8, a: u8, b: u8) -> bool
     (a <= mark) & (mark <= b)
 }
 
-// A fact's bit in word q of a state, where it is wanted: without a branch, since facts come in any order.
-fn mask(fact: u32, q: u32, wanted: bool) -> u64
-    ensures { λ r. ⌜ r ≡ maskOf fact q wanted ⌝ }
+// The word of a fact below 128: the first set has two words, then the second has two.
+fn slot(fact: u32, in_first: bool) -> usize
+    requires { ⌜ fact < 128 ⌝ }
+    ensures { λ r. ⌜ r ≡ slotOf in_first (fact / 64) ⌝ }
 {
-    if (fact / 64 == q) & wanted {
-        1 << (fact % 64)
-    } else {
-        0
+    let q = (fact / 64) as usize;
+    if in_first { q } else { 2 + q }
+}
+
+// Takes a fact in, by its place in memory and without a branch on the mark or the word, since facts come in any order.
+fn take_in(words: &mut [u64], fact: u32, in_first: bool)
+    requires { ⌜ length (now words) ≡ 4 ⌝ }
+    ensures { λ r. ⌜ setsIn (now (words .exit)) ≡ withFact in_first (setsIn (now (words .entry))) fact ⌝ }
+{
+    if fact < 128 {
+        let k = slot(fact, in_first);
+        words[k] = words[k] | (1 << (fact % 64));
     }
 }
 
-// The state with the fact, where it is wanted.
-fn join_if(s: State, fact: u32, wanted: bool) -> State
-    ensures { λ r. ⌜ member r ≡ joined wanted (member s) fact ⌝ }
+fn run_of(words: &[u64], next: usize) -> Gathered
+    requires { ⌜ length (now words) ≡ 4 ⌝ }
+    ensures { λ r. ⌜ asRun r ≡ ended (setsIn (now (words .entry))) next ⌝ }
 {
-    State {
-        low: s.low | mask(fact, 0, wanted),
-        high: s.high | mask(fact, 1, wanted),
+    Gathered {
+        first: State {
+            low: words[0],
+            high: words[1],
+        },
+        second: State {
+            low: words[2],
+            high: words[3],
+        },
+        next,
     }
 }
 
@@ -75,27 +92,15 @@ pub fn gather(marks: &[u8], values: &[u8], from: usize, a: u8, b: u8) -> Gathere
     requires { ⌜ Rows (now marks) (now values) ⌝ }
     ensures { λ r. ⌜ asRun r ≡ gatherAt a b none (now (marks .entry)) (now (values .entry)) from ⌝ }
 {
-    let mut first = state::none();
-    let mut second = state::none();
+    let mut words: [u64; 4] = [0; 4];
     let mut i = from;
     while i < marks.len() {
         let mark = marks[i];
         if !in_run(mark, a, b) {
-            return Gathered {
-                first,
-                second,
-                next: i,
-            };
+            return run_of(&words, i);
         }
-        let fact = rows::value_at(values, i);
-        let is_first = mark == a;
-        first = join_if(first, fact, is_first);
-        second = join_if(second, fact, !is_first);
+        take_in(&mut words, rows::value_at(values, i), mark == a);
         i += 1;
     }
-    Gathered {
-        first,
-        second,
-        next: i,
-    }
+    run_of(&words, i)
 }
