@@ -9,6 +9,7 @@ ghost use Rattle.classical.specs.Translation.{metClause};
 ghost use Rattle.task.specs.Rows.{Rows};
 ghost use Rattle.writer.specs.Writer.{Room, Wrote};
 ghost use Rattle.kind_trackers.specs.Rows.{BEYOND};
+ghost use Rattle.trackers.specs.Trackers.{Noted};
 ghost use Rattle.closings.specs.Closings.{missed, neverRows, closingHead, forgoneRows};
 ghost use Rattle.closings.specs.Closings.{preferenceClosings, closed, closingsAt, closingBy};
 use task::kinds::Kind;
@@ -170,7 +171,7 @@ pub fn put_closings(
     facts: u32,
     ended: u32,
 ) -> Cursor
-    requires { ⌜ Room c (now out) × Rows (now marks) (now values) × (length (now starts) ≤ 16) × (1 ≤ facts) × (facts ≤ 128) ⌝ }
+    requires { ⌜ Room c (now out) × Rows (now marks) (now values) × Noted (now starts) facts × (1 ≤ facts) ⌝ }
     ensures { λ r. ⌜ Wrote (now (out .entry)) c (closingBy (now (marks .entry)) (now (values .entry)) (now (starts .entry)) facts ended) r (now (out .exit)) ⌝ }
 {
     let mut k = c;

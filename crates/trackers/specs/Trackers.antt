@@ -1,19 +1,25 @@
 -- The rows of trackers, by the rows at which preferences begin.
 use mathlib.Core.Bool.{Bool, cond}
 use mathlib.Core.List.{List, [], _∷_, _++_}
-use Prim.Native.Nat.{ℕ, _+_, _*_}
+use Prim.Native.Nat.{ℕ, _+_, _*_, _≤_}
 use lib.Dec.{leb}
 use lib.ListN.{length, getD}
 use Rattle.lists.specs.Lists.{concatMap}
 use Rattle.meaning.specs.Task.{Preference}
 use Rattle.task.specs.TaskRows.{Row, effectRows}
 use Rattle.task.specs.File.{softMark, kindOf}
+use Rattle.task.specs.Limits.{MAX-FACTS, MAX-PREFERENCES}
 use Rattle.task.specs.Rows.{stepsAt}
 use Rattle.classical.specs.Translation.{furtherFacts, allTrackers}
 use Rattle.layout.specs.Sides.{sidesAt}
 use Rattle.layout.specs.declared.sides.Sides.{Sides}
 use Rattle.kind_trackers.specs.declared.Facts.{Facts}
 use Rattle.kind_trackers.specs.Rows.{sided, trackerRows}
+
+-- as many preferences as a task may have, by the rows at which they begin, and F facts
+pub record Noted (starts : List ℕ) (F : ℕ) : Type 0 where
+  pub few-starts : length starts ≤ MAX-PREFERENCES
+  pub few-facts : F ≤ MAX-FACTS
 
 -- the facts of a preference whose first is s, d being the fact before D1
 abbrev pub factsFrom : ℕ → ℕ → Facts

@@ -8,7 +8,7 @@ ghost use Rattle.classical.specs.Translation.{furtherFacts};
 ghost use Rattle.task.specs.Rows.{Rows};
 ghost use Rattle.writer.specs.Writer.{Room, Wrote};
 ghost use Rattle.kind_trackers.specs.Rows.{SidesInside, Small};
-ghost use Rattle.trackers.specs.Trackers.{trackersWith, trackersAt, furtherAt, trackersBy};
+ghost use Rattle.trackers.specs.Trackers.{Noted, trackersWith, trackersAt, furtherAt, trackersBy};
 use kind_trackers::Facts;
 use kind_trackers::deadlines;
 use kind_trackers::kinds;
@@ -125,7 +125,7 @@ pub fn all_trackers(
     facts: u32,
     last: bool,
 ) -> Cursor
-    requires { ⌜ Room c (now out) × Rows (now marks) (now values) × (length (now starts) ≤ 16) × (facts ≤ 128) ⌝ }
+    requires { ⌜ Room c (now out) × Rows (now marks) (now values) × Noted (now starts) facts ⌝ }
     ensures { λ r. ⌜ Wrote (now (out .entry)) c (trackersBy (now (marks .entry)) (now (values .entry)) (now (starts .entry)) facts last) r (now (out .exit)) ⌝ }
 {
     let mut k = c;

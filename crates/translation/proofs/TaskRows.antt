@@ -175,8 +175,7 @@ module _ (ms vs : List ℕ) (F P : ℕ) (p : Places) (source : Source ms vs F P)
         timed = timed task (source .spelling);
         normal-is = ap (λ (m : ℕ). F + 3 * m) (source .many);
         some-facts = source .some-facts;
-        few-facts = omega (arith, source .few-facts);
-        few-starts = omega (arith, many, source .few-preferences);
+        noted = record { few-starts = omega (arith, many, source .few-preferences); few-facts = omega (arith, source .few-facts) };
         few-normal = omega (arith, source .few-facts);
       }
 

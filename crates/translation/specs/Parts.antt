@@ -18,7 +18,7 @@ use Rattle.layout.specs.declared.sides.Span.{Span}
 use Rattle.writer.specs.Writer.{Standing}
 use Rattle.writer.specs.declared.Cursor.{Cursor}
 use Rattle.effects.specs.Effects.{singleRows}
-use Rattle.trackers.specs.Trackers.{trackersBy}
+use Rattle.trackers.specs.Trackers.{Noted, trackersBy}
 use Rattle.translation.specs.declared.parts.Body.{Body}
 use Rattle.translation.specs.declared.places.Places.{Places}
 
@@ -56,8 +56,7 @@ pub record Placed (ms vs : List ℕ) (F : ℕ) (s : Span) (starts : List ℕ) (N
   pub timed : T (all (λ (q : Preference). kindSpellable (q .kind)) (readTask F ms vs .preferences))
   pub normal-is : N ≡ normal F (length (readTask F ms vs .preferences))
   pub some-facts : 1 ≤ F
-  pub few-facts : F ≤ 128
-  pub few-starts : length starts ≤ 16
+  pub noted : Noted starts F
   pub few-normal : N ≤ 128
 
 -- Actions

@@ -4,7 +4,7 @@ ghost use Prim.Native.Nat.{_+_, _≤_, _<_};
 ghost use lib.ListN.{length};
 ghost use Rattle.task.specs.Rows.{Rows};
 ghost use Rattle.writer.specs.Writer.{Room, Wrote};
-ghost use Rattle.trackers.specs.Trackers.{trackersBy};
+ghost use Rattle.trackers.specs.Trackers.{Noted, trackersBy};
 ghost use Rattle.translation.specs.Parts.{Placed, BodyInside, Before, ownRows, sourceActions, endAt};
 ghost use Rattle.translation.specs.Parts.{preferencesTo, closedRows};
 use layout::sides;
@@ -49,7 +49,7 @@ fn put_trackers(
     facts: u32,
     t: Span,
 ) -> Cursor
-    requires { ⌜ Room c (now out) × Rows (now marks) (now values) × (length (now starts) ≤ 16) × (facts ≤ 128) ⌝ }
+    requires { ⌜ Room c (now out) × Rows (now marks) (now values) × Noted (now starts) facts ⌝ }
     requires { ⌜ Before (now out) c t (trackersBy (now marks) (now values) (now starts) facts false) ⌝ }
     ensures { λ r. ⌜ Wrote (now (out .entry)) c (trackersBy (now (marks .entry)) (now (values .entry)) (now (starts .entry)) facts false) r (now (out .exit)) ⌝ }
 {
@@ -105,7 +105,7 @@ pub fn put_end(
     facts: u32,
     normal: u32,
 ) -> Cursor
-    requires { ⌜ Room c (now out) × Rows (now marks) (now values) × (length (now starts) ≤ 16) × (facts ≤ 128) × (normal ≤ 128) ⌝ }
+    requires { ⌜ Room c (now out) × Rows (now marks) (now values) × Noted (now starts) facts × (normal ≤ 128) ⌝ }
     ensures { λ r. ⌜ Wrote (now (out .entry)) c (endAt (now (marks .entry)) (now (values .entry)) (now (starts .entry)) facts normal) r (now (out .exit)) ⌝ }
 {
     let k = writer::put_row(&mut *out, c, marks::ACTION, 0);

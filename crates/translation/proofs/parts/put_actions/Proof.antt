@@ -37,7 +37,7 @@ put-trackers-requires c κs =
     let st = l .before .before .before .before .before in
     let a = st .args in
     let p = st .pre .2 in (
-      (u .put-own .ensures .room, st .pre .1, p .few-starts, p .few-facts),
+      (u .put-own .ensures .room, st .pre .1, p .noted),
       before-own (now (a .marks)) (now (a .values)) (a .facts) (a .s .from) (a .s .to) (a .normal) (now (a .starts)) p (l .loop .inv) (u .put-own .ensures),
     )
 

@@ -13,7 +13,7 @@ all-trackers-requires c κs =
     let v = w .before .before .before .before in
     let u = v .before .before .before .before in
     let st = u .before .before .before .before .before .before in
-    (y .put-row4 .ensures .room, st .pre .1, st .pre .2, st .pre .3)
+    (y .put-row4 .ensures .room, st .pre .1, st .pre .2)
 
 same-length : tie.Need-same-length
 same-length c =
