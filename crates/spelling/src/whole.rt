@@ -72,7 +72,7 @@ fn put_through(
     Outcome::Written(length)
 }
 
-// Writes the file of a spelling of at most 128 rows: a small area costs little to make.
+// Writes the file of a spelling of at most 64 rows: a small area costs little to make.
 fn put_small(
     out: &mut [u8],
     marks: &[u8],
@@ -81,13 +81,47 @@ fn put_small(
     actions: u32,
     preferences: u32,
 ) -> Outcome
-    requires { ⌜ Shorter (now marks) (now values) × (length (now marks) ≤ 128) ⌝ }
+    requires { ⌜ Shorter (now marks) (now values) × (length (now marks) ≤ 64) ⌝ }
     ensures { λ r.
         let rows = spelledRows (paired (now (marks .entry)) (now (values .entry))) in
         ⌜ Fitted facts actions preferences rows (now (out .entry)) r (now (out .exit)) ⌝ }
 {
-    let mut own: [u8; 648] = [0; 648];
-    put_through(&mut own, &mut *out, marks, values, facts, actions, preferences)
+    let mut own: [u8; 328] = [0; 328];
+    put_through(
+        &mut own,
+        &mut *out,
+        marks,
+        values,
+        facts,
+        actions,
+        preferences,
+    )
+}
+
+// Writes the file of a spelling of at most 1,024 rows.
+fn put_medium(
+    out: &mut [u8],
+    marks: &[u8],
+    values: &[u8],
+    facts: u32,
+    actions: u32,
+    preferences: u32,
+) -> Outcome
+    requires { ⌜ Shorter (now marks) (now values) × (length (now marks) ≤ 1024) ⌝ }
+    ensures { λ r.
+        let rows = spelledRows (paired (now (marks .entry)) (now (values .entry))) in
+        ⌜ Fitted facts actions preferences rows (now (out .entry)) r (now (out .exit)) ⌝ }
+{
+    let mut own: [u8; 5128] = [0; 5128];
+    put_through(
+        &mut own,
+        &mut *out,
+        marks,
+        values,
+        facts,
+        actions,
+        preferences,
+    )
 }
 
 // Writes the file of any spelling.
@@ -105,7 +139,15 @@ fn put_large(
         ⌜ Fitted facts actions preferences rows (now (out .entry)) r (now (out .exit)) ⌝ }
 {
     let mut own: [u8; 60008] = [0; 60008];
-    put_through(&mut own, &mut *out, marks, values, facts, actions, preferences)
+    put_through(
+        &mut own,
+        &mut *out,
+        marks,
+        values,
+        facts,
+        actions,
+        preferences,
+    )
 }
 
 // Writes the file of the spelling, where it fits.
@@ -122,8 +164,11 @@ pub fn put_file(
         let rows = spelledRows (paired (now (marks .entry)) (now (values .entry))) in
         ⌜ Fitted facts actions preferences rows (now (out .entry)) r (now (out .exit)) ⌝ }
 {
-    if marks.len() <= 128 {
+    if marks.len() <= 64 {
         return put_small(&mut *out, marks, values, facts, actions, preferences);
+    }
+    if marks.len() <= 1024 {
+        return put_medium(&mut *out, marks, values, facts, actions, preferences);
     }
     put_large(&mut *out, marks, values, facts, actions, preferences)
 }

@@ -49,9 +49,9 @@ loop-again c =
     let ws = l .loop .words in
     let m = getD ms i 0 in (
       (λ z. gatherAt (a .a) (a .b) ((k .take-in .ensures ∙ ap (withFact (eqb m (a .a)) (setsIn ws)) (v .value-at .ensures)) z) ms vs (i + 1))
-      ∙ sym (goes-on (takeIn (a .a)) (between (a .a) (a .b)) ended (setsIn ws) ms vs i
-      (search needs) (sym (r .in-run .ensures) ∙ not-false (r .in-run .result) (e .if1 .left)))
-      ∙ l .loop .inv .0,
+          ∙ sym (goes-on (takeIn (a .a)) (between (a .a) (a .b)) ended (setsIn ws) ms vs i
+          (search needs) (sym (r .in-run .ensures) ∙ not-false (r .in-run .result) (e .if1 .left)))
+          ∙ l .loop .inv .0,
       k .take-in .kept .0 ∙ l .loop .inv .1,
     )
 
