@@ -1,16 +1,14 @@
 // One monitor, which is kept as a byte, and what one more state does to it.
 ghost use mathlib.Core.Path.{_≡_};
 ghost use mathlib.Core.Bool.{Bool, cond};
-ghost use Prim.Native.Nat.{ℕ, _<_};
+ghost use Prim.Native.Nat.{_<_};
 ghost use lib.Dec.{T, leb, eqb};
-ghost use Rattle.task.specs.File.{kindOf};
 ghost use Rattle.meaning.specs.Task.{always-within};
 ghost use Rattle.meaning.specs.Monitor.{older, nextAge, step, accepting};
 ghost use Rattle.task.specs.Spelling.{kindSpellable};
 ghost use Rattle.task.specs.Answers.{asKind};
 ghost use Rattle.monitor.specs.Packed.{asMonitor, monitorOf, monitorAt};
 use task::kinds::Kind;
-use task::marks;
 
 // D of j holds where j is at most the age.
 pub struct Monitor {
@@ -129,13 +127,18 @@ pub fn stepped(kind: Kind, last: bool, m: Monitor, phi: bool, psi: bool) -> Moni
 }
 
 // Whether a monitor that has seen all states says that its preference is met.
-pub fn is_accepting(mark: u8, m: Monitor) -> bool
-    ensures { λ r. ⌜ ((t : ℕ) → r ≡ accepting (kindOf mark t) (asMonitor m)) ⌝ }
+pub fn is_accepting(kind: Kind, m: Monitor) -> bool
+    ensures { λ r. ⌜ r ≡ accepting (asKind kind) (asMonitor m) ⌝ }
 {
-    match mark {
-        marks::SOMETIME | marks::AT_END | marks::WITHIN => m.s,
-        marks::AT_MOST_ONCE => m.s | !m.b,
-        _ => !m.b,
+    match kind {
+        Kind::Always => !m.b,
+        Kind::Sometime => m.s,
+        Kind::AtEnd => m.s,
+        Kind::AtMostOnce => m.s | !m.b,
+        Kind::SometimeBefore => !m.b,
+        Kind::SometimeAfter => !m.b,
+        Kind::Within(_) => m.s,
+        Kind::AlwaysWithin(_) => !m.b,
     }
 }
 

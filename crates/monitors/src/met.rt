@@ -35,7 +35,8 @@ fn find_one(f: Found, mark: u8, ms: &[u8]) -> Found
 {
     let k = f.number;
     let met = f.met;
-    let accepting = monitor::is_accepting(task::soft_mark(mark), monitor::monitor_at(ms, k));
+    let kind = task::kinds::kind_of(task::soft_mark(mark), 0); // the steps don't matter any more
+    let accepting = monitor::is_accepting(kind, monitor::monitor_at(ms, k));
     let kept = kept_with(k, f.kept, task::opens_hard(mark), accepting);
     if accepting {
         Found {

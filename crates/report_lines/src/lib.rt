@@ -1,25 +1,27 @@
 // The lines of the text, one by one. Each function writes from a place on and answers the place after.
 ghost use Prim.Native.Nat.{_+_, _^_, _≤_, _<_};
 ghost use Rattle.task.specs.File.{opensHard, softMark, kindOf};
+ghost use Rattle.task.specs.Answers.{asKind};
 ghost use Rattle.text.specs.Area.{Wrote};
 ghost use Rattle.report_lines.specs.Lines.{kindWord, hardWord, fullKind, outcomeWord, solvedLine, preferenceLine, amountsLine, stoppedLine, ruleMissedLine};
-use task::marks;
+use task::kinds;
+use task::kinds::Kind;
 
-// Writes the kind that a soft preference's mark opens.
-fn put_soft_kind(out: &mut [u8], at: usize, mark: u8) -> usize
+// Writes the word of a kind, whatever its steps.
+fn put_soft_kind(out: &mut [u8], at: usize, kind: Kind) -> usize
     requires { ⌜ at + 15 < 2 ^ 64 ⌝ }
-    ensures { λ r. ⌜ Wrote (now (out .entry)) at (kindWord (kindOf mark 0)) r (now (out .exit)) ⌝ }
+    ensures { λ r. ⌜ Wrote (now (out .entry)) at (kindWord (asKind kind)) r (now (out .exit)) ⌝ }
     ensures { λ r. ⌜ r ≤ at + 15 ⌝ }
 {
-    match mark {
-        marks::ALWAYS => text::put_bytes(out, at, b"always"),
-        marks::SOMETIME => text::put_bytes(out, at, b"sometime"),
-        marks::AT_END => text::put_bytes(out, at, b"at-end"),
-        marks::AT_MOST_ONCE => text::put_bytes(out, at, b"at-most-once"),
-        marks::SOMETIME_BEFORE => text::put_bytes(out, at, b"sometime-before"),
-        marks::SOMETIME_AFTER => text::put_bytes(out, at, b"sometime-after"),
-        marks::WITHIN => text::put_bytes(out, at, b"within"),
-        _ => text::put_bytes(out, at, b"always-within"),
+    match kind {
+        Kind::Always => text::put_bytes(out, at, b"always"),
+        Kind::Sometime => text::put_bytes(out, at, b"sometime"),
+        Kind::AtEnd => text::put_bytes(out, at, b"at-end"),
+        Kind::AtMostOnce => text::put_bytes(out, at, b"at-most-once"),
+        Kind::SometimeBefore => text::put_bytes(out, at, b"sometime-before"),
+        Kind::SometimeAfter => text::put_bytes(out, at, b"sometime-after"),
+        Kind::Within(_) => text::put_bytes(out, at, b"within"),
+        Kind::AlwaysWithin(_) => text::put_bytes(out, at, b"always-within"),
     }
 }
 
@@ -41,7 +43,7 @@ fn put_kind(out: &mut [u8], at: usize, mark: u8) -> usize
     ensures { λ r. ⌜ r ≤ at + 20 ⌝ }
 {
     let a = put_hard(&mut *out, at, task::opens_hard(mark));
-    put_soft_kind(&mut *out, a, task::soft_mark(mark))
+    put_soft_kind(&mut *out, a, kinds::kind_of(task::soft_mark(mark), 0))
 }
 
 fn put_outcome(out: &mut [u8], at: usize, met: bool) -> usize

@@ -22,13 +22,12 @@ pub enum Kind {
     AlwaysWithin(u8),
 }
 
-// The kind of the preference that row i opens, hard or soft.
-pub fn kind_at(marks: &[u8], values: &[u8], i: usize) -> Kind
-    requires { ⌜ Rows (now marks) (now values) × (i < length (now marks)) ⌝ }
-    ensures { λ r. ⌜ asKind r ≡ kindOf (softMark (getD (now (marks .entry)) i 0)) (stepsAt (now (marks .entry)) (now (values .entry)) i) ⌝ }
+// The kind that the mark of a soft preference opens; the last two have the steps.
+pub fn kind_of(mark: u8, steps: u8) -> Kind
+    requires { ⌜ steps < 16 ⌝ }
+    ensures { λ r. ⌜ asKind r ≡ kindOf mark steps ⌝ }
     ensures { λ r. ⌜ T (kindSpellable (asKind r)) ⌝ }
 {
-    let mark = super::soft_mark(marks[i]);
     match mark {
         marks::ALWAYS => Kind::Always,
         marks::SOMETIME => Kind::Sometime,
@@ -36,7 +35,17 @@ pub fn kind_at(marks: &[u8], values: &[u8], i: usize) -> Kind
         marks::AT_MOST_ONCE => Kind::AtMostOnce,
         marks::SOMETIME_BEFORE => Kind::SometimeBefore,
         marks::SOMETIME_AFTER => Kind::SometimeAfter,
-        marks::WITHIN => Kind::Within(rows::steps_at(marks, values, i)),
-        _ => Kind::AlwaysWithin(rows::steps_at(marks, values, i)),
+        marks::WITHIN => Kind::Within(steps),
+        _ => Kind::AlwaysWithin(steps),
     }
+}
+
+// The kind of the preference that row i opens, hard or soft.
+pub fn kind_at(marks: &[u8], values: &[u8], i: usize) -> Kind
+    requires { ⌜ Rows (now marks) (now values) × (i < length (now marks)) ⌝ }
+    ensures { λ r. ⌜ asKind r ≡ kindOf (softMark (getD (now (marks .entry)) i 0)) (stepsAt (now (marks .entry)) (now (values .entry)) i) ⌝ }
+    ensures { λ r. ⌜ T (kindSpellable (asKind r)) ⌝ }
+{
+    let mark = super::soft_mark(marks[i]);
+    kind_of(mark, rows::steps_at(marks, values, i))
 }

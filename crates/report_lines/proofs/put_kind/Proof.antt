@@ -7,10 +7,14 @@ use Rattle.report_lines.proofs.put_kind.Tie as tie
 returns : tie.Need-returns
 returns c =
     let k = c .before .before in
-    let m = k .before in
+    let o = k .before in
+    let m = o .before in
     let h = m .before .before .before .before in
-    rw (← (m .soft-mark .ensures), ← (h .before .opens-hard .ensures)) (then (h .put-hard .ensures .0) (k .put-soft-kind .ensures .0), search needs)
+    rw (← (m .soft-mark .ensures), ← (o .kind-of .ensures .0), ← (h .before .opens-hard .ensures)) (then (h .put-hard .ensures .0) (k .put-soft-kind .ensures .0), search needs)
 
 pub put-kind-spec : {M : Type 1} → statement M
 put-kind-spec =
-    tie.close (tie.spec (λ c κs. search needs) (λ c κs. search needs) (λ c κs. search needs) (λ c κs. search needs) (λ c. search needs) returns)
+    tie.close
+    (tie.spec
+    (λ c κs. search needs) (λ c κs. search needs) (λ c κs. search needs) (λ c κs. search needs) (λ c κs. search needs) (λ c. search needs)
+    returns)

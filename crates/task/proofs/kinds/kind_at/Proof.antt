@@ -1,51 +1,15 @@
--- By the soft mark each kind computes, and the last is left where the mark is no other's: last-kind of Steps.
-use mathlib.Core.Path.{sym}
-use Prim.Native.Nat.{ℕ, _<_}
-use native.Mathlib.Omega.{arith}
-use lib.Dec.{T, leb, le→leb}
+-- The kind of the soft mark, with the steps of the row after it.
+use mathlib.Core.Path.{_∙_}
+use Rattle.task.specs.File.{kindOf}
 use borrow.Author.Needs.{needs}
-use Rattle.task.proofs.Steps.{last-kind}
 use Rattle.task.proofs.kinds.kind_at.Statement.{statement}
 use Rattle.task.proofs.kinds.kind_at.Tie as tie
-use Rattle.task.specs.Limits.{MAX-DEADLINE}
-
-few : (t : ℕ) → t < 16 → T (leb t MAX-DEADLINE)
-few t h = le→leb t MAX-DEADLINE (omega arith)
 
 returns : tie.Need-returns
-returns c = (rw (← c .before .soft-mark .ensures, c .match .keys1), tt)
-
-returns-2 : tie.Need-returns-2
-returns-2 c = (rw (← c .before .soft-mark .ensures, c .match .keys2), tt)
-
-returns-3 : tie.Need-returns-3
-returns-3 c = (rw (← c .before .soft-mark .ensures, c .match .keys3), tt)
-
-returns-4 : tie.Need-returns-4
-returns-4 c = (rw (← c .before .soft-mark .ensures, c .match .keys4), tt)
-
-returns-5 : tie.Need-returns-5
-returns-5 c = (rw (← c .before .soft-mark .ensures, c .match .keys5), tt)
-
-returns-6 : tie.Need-returns-6
-returns-6 c = (rw (← c .before .soft-mark .ensures, c .match .keys6), tt)
-
-returns-7 : tie.Need-returns-7
-returns-7 c = (rw (← c .before .before .soft-mark .ensures, c .before .match .keys7, c .steps-at .ensures .0), few (c .steps-at .result) (c .steps-at .ensures .1))
-
-returns-8 : tie.Need-returns-8
-returns-8 c =
-    let m = c .before .before .soft-mark in
-    let t = c .steps-at2 in
-    let r = c .before .match .rest in (
-      rw (← m .ensures, ← t .ensures .0)
-          (sym (last-kind (m .result) (t .result) (r .0 .0 .0 .0 .0 .0 .1) (r .0 .0 .0 .0 .0 .1) (r .0 .0 .0 .0 .1) (r .0 .0 .0 .1) (r .0 .0 .1) (r .0 .1) (r .1))),
-      few (t .result) (t .ensures .1),
-    )
+returns c =
+    let t = c .before in
+    let m = t .before in
+    (c .kind-of .ensures .0 ∙ (λ i. kindOf (m .soft-mark .ensures i) (t .steps-at .ensures .0 i)), c .kind-of .ensures .1)
 
 pub kind-at-spec : {M : Type 1} → statement M
-kind-at-spec =
-    tie.close
-    (tie.spec
-    (λ c. search needs) (λ c κs. search needs) (λ c κs. search needs) (λ c κs. search needs) returns returns-2 returns-3
-    returns-4 returns-5 returns-6 returns-7 returns-8)
+kind-at-spec = tie.close (tie.spec (λ c. search needs) (λ c κs. search needs) (λ c κs. search needs) (λ c κs. search needs) returns)
