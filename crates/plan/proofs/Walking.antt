@@ -18,7 +18,7 @@ use Rattle.task.specs.Answers.{answer as checked, asSizes, refusalIn}
 use Rattle.task.specs.declared.Sizes.{Sizes}
 use Rattle.task.specs.declared.Refusal.{Refusal}
 use Rattle.task.specs.declared.Checked.{Checked}
-use Rattle.task.specs.declared.Checked.the-variants.{Accepted, Refused}
+use Rattle.task.specs.declared.Checked.the-variants.{Refused}
 use Rattle.lists.proofs.Tests.{as-true}
 use Rattle.task.proofs.Spelled.{Spelling, accepted-spelling}
 use Rattle.task.proofs.Checking.{within}
@@ -58,38 +58,36 @@ module _ (b p : List ℕ) (x : Checked) (e : checked x ≡ check b) where
   unfolding judged walked
   turned-down = passed-on (λ (a : Answer). withoutWorth (literals (taskOf b) p) (judgedBy b p a)) b x e
 
-  module _ (z : Sizes) (q : x ≡ Accepted z) where
-    pub accepted : check b ≡ Check.accepted (asSizes z)
-    accepted = sym e ∙ ap checked q
+-- a file that is accepted, of sizes z
+module _ (b p : List ℕ) (z : Sizes) (accepted : check b ≡ Check.accepted (asSizes z)) where
+  on-task : withoutWorth (literals (taskOf b) p) (judgedBy b p (Check.accepted (asSizes z))) ≡ walked b p
+  unfolding judged walked
+  on-task = ap (λ (a : Answer). withoutWorth (literals (taskOf b) p) (judgedBy b p a)) (sym accepted)
 
-    on-task : withoutWorth (literals (taskOf b) p) (judgedBy b p (Check.accepted (asSizes z))) ≡ walked b p
-    unfolding judged walked
-    on-task = ap (λ (a : Answer). withoutWorth (literals (taskOf b) p) (judgedBy b p a)) (sym accepted)
+  pub too-long : 2048 < length p → refused 10 0 ≡ walked b p
+  too-long h = (rw (lt-leb (length p) 2048 h) at on-task)
 
-    pub too-long : 2048 < length p → refused 10 0 ≡ walked b p
-    too-long h = (rw (lt-leb (length p) 2048 h) at on-task)
+  module _ (fits : length p ≤ 2048) where
+    pub unknown : stepsKnown (z .actions) p < length p → refused 11 (stepsKnown (z .actions) p) ≡ walked b p
+    unknown h = (rw (le-leb (length p) 2048 fits, not-all-known (z .actions) p h) at on-task)
 
-    module _ (fits : length p ≤ 2048) where
-      pub unknown : stepsKnown (z .actions) p < length p → refused 11 (stepsKnown (z .actions) p) ≡ walked b p
-      unknown h = (rw (le-leb (length p) 2048 fits, not-all-known (z .actions) p h) at on-task)
+    module _ (h : length p ≤ stepsKnown (z .actions) p) where
+      abbrev ms : List ℕ
+      ms = marksOf b (asSizes z)
 
-      module _ (h : length p ≤ stepsKnown (z .actions) p) where
-        abbrev ms : List ℕ
-        ms = marksOf b (asSizes z)
+      abbrev vs : List ℕ
+      vs = valuesOf b (asSizes z)
 
-        abbrev vs : List ℕ
-        vs = valuesOf b (asSizes z)
+      -- as many actions as the file says, which are at most 128, and each step is one of them
+      pub actions-fit : (length (actionsFrom 0 ms) ≤ 128) × AllBelow (length (actionsFrom 0 ms)) p
+      actions-fit =
+          let s : Spelling b (asSizes z) = accepted-spelling b (asSizes z) accepted in
+          let limits = within (asSizes z) (s .allowed) in
+          let many : length (actionsFrom 0 ms) ≡ z .actions =
+          as-many (taskOf b) ms vs (parts-spelled b (asSizes z) accepted) ∙ ap (λ (x : File.Sizes). x .actions) (s .sized) in
+          (omega (arith, limits, many), subst⁻¹ (λ (n : ℕ). AllBelow n p) many (all-known (z .actions) p h))
 
-        -- as many actions as the file says, which are at most 128, and each step is one of them
-        pub actions-fit : (length (actionsFrom 0 ms) ≤ 128) × AllBelow (length (actionsFrom 0 ms)) p
-        actions-fit =
-            let s : Spelling b (asSizes z) = accepted-spelling b (asSizes z) accepted in
-            let limits = within (asSizes z) (s .allowed) in
-            let many : length (actionsFrom 0 ms) ≡ z .actions =
-            as-many (taskOf b) ms vs (parts-spelled b (asSizes z) accepted) ∙ ap (λ (x : File.Sizes). x .actions) (s .sized) in
-            (omega (arith, limits, many), subst⁻¹ (λ (n : ℕ). AllBelow n p) many (all-known (z .actions) p h))
-
-        pub run-on : (w : Walked) → ((t : Task) → Spells ms vs t → w ≡ walkedOn t p) → w ≡ walked b p
-        run-on w says =
-            says (taskOf b) (parts-spelled b (asSizes z) accepted)
-            ∙ (rw (le-leb (length p) 2048 fits, as-true (all (λ (k : ℕ). ltb k (z .actions)) p) (all-known (z .actions) p h)) at on-task)
+      pub run-on : (w : Walked) → ((t : Task) → Spells ms vs t → w ≡ walkedOn t p) → w ≡ walked b p
+      run-on w says =
+          says (taskOf b) (parts-spelled b (asSizes z) accepted)
+          ∙ (rw (le-leb (length p) 2048 fits, as-true (all (λ (k : ℕ). ltb k (z .actions)) p) (all-known (z .actions) p h)) at on-task)

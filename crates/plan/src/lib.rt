@@ -2,11 +2,14 @@
 mod steps;
 
 ghost use mathlib.Core.Path.{_≡_};
+ghost use Rattle.task.specs.Check.{accepted, check};
+ghost use Rattle.task.specs.Answers.{asSizes};
 ghost use Rattle.plan.specs.Answers.{walkedAs};
 ghost use Rattle.plan.specs.Judged.{stepsKnown};
 ghost use Rattle.plan.specs.Walked.{refused, walked};
 use task::Checked;
 use task::Refusal;
+use task::Sizes;
 use task::limits;
 use task::refused;
 
@@ -50,15 +53,11 @@ fn steps_known(actions: usize, plan: &[u8]) -> usize
     i
 }
 
-// Walks a plan on the task in a file: the verdict, of a plan that solves the cost and the met preferences, and how many literals
-// were looked at.
-pub fn walk(file: &[u8], plan: &[u8]) -> Walked
+// Walks a plan on the task in a file that check has accepted, of sizes z.
+pub fn walk_on(file: &[u8], z: Sizes, plan: &[u8]) -> Walked
+    requires { ⌜ check (now file) ≡ accepted (asSizes z) ⌝ }
     ensures { λ r. ⌜ walkedAs r ≡ walked (now (file .entry)) (now (plan .entry)) ⌝ }
 {
-    let c = task::check(file);
-    let Checked::Accepted(z) = c else {
-        return Walked::Refused(task::refusal_of(c));
-    };
     if limits::MAX_STEPS < plan.len() {
         return refuse(refused::LONG_PLAN, 0);
     }
@@ -68,4 +67,16 @@ pub fn walk(file: &[u8], plan: &[u8]) -> Walked
     }
     let middle = 8 + z.rows;
     steps::run(&file[8..middle], &file[middle..], plan)
+}
+
+// Walks a plan on the task in a file: the verdict, of a plan that solves the cost and the met preferences, and how many literals
+// were looked at.
+pub fn walk(file: &[u8], plan: &[u8]) -> Walked
+    ensures { λ r. ⌜ walkedAs r ≡ walked (now (file .entry)) (now (plan .entry)) ⌝ }
+{
+    let c = task::check(file);
+    let Checked::Accepted(z) = c else {
+        return Walked::Refused(task::refusal_of(c));
+    };
+    walk_on(file, z, plan)
 }

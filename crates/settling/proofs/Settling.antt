@@ -19,7 +19,7 @@ use Rattle.task.specs.Answers.{answer as checked, asSizes, refusalIn}
 use Rattle.task.specs.declared.Sizes.{Sizes}
 use Rattle.task.specs.declared.Refusal.{Refusal}
 use Rattle.task.specs.declared.Checked.{Checked}
-use Rattle.task.specs.declared.Checked.the-variants.{Accepted, Refused}
+use Rattle.task.specs.declared.Checked.the-variants.{Refused}
 use Rattle.lists.proofs.Tests.{tests, as-T}
 use Rattle.task.proofs.Checking.{within, partsOf}
 use Rattle.task.proofs.Answered.{passed-on, parts-spell}
@@ -71,25 +71,23 @@ module _ (b : List ℕ) (c : ℕ) (met : ℕ → Bool) (x : Checked) (e : checke
   unfolding settled
   turned-down = passed-on (settledBy b c met) b x e
 
-  module _ (z : Sizes) (q : x ≡ Accepted z) where
-    accepted : check b ≡ Check.accepted (asSizes z)
-    accepted = sym e ∙ ap checked q
+-- a file that is accepted, of sizes z
+module _ (b : List ℕ) (c : ℕ) (met : ℕ → Bool) (z : Sizes) (accepted : check b ≡ Check.accepted (asSizes z)) where
+  on-task : settledBy b c met (Check.accepted (asSizes z)) ≡ settled b c met
+  unfolding settled
+  on-task = ap (settledBy b c met) (sym accepted)
 
-    on-task : settledBy b c met (Check.accepted (asSizes z)) ≡ settled b c met
-    unfolding settled
-    on-task = ap (settledBy b c met) (sym accepted)
+  pub few : z .preferences ≤ 16
+  few = within (asSizes z) (accepted-spelling b (asSizes z) accepted .allowed) .4
 
-    pub few : z .preferences ≤ 16
-    few = within (asSizes z) (accepted-spelling b (asSizes z) accepted .allowed) .4
+  pub not-allowed : argumentsAllowed (z .preferences) c met ≡ false → refused 15 0 ≡ settled b c met
+  not-allowed h = rw h at on-task
 
-    pub not-allowed : argumentsAllowed (z .preferences) c met ≡ false → refused 15 0 ≡ settled b c met
-    not-allowed h = rw h at on-task
+  pub cost-allowed : argumentsAllowed (z .preferences) c met ≡ true → c ≤ MAX-COST
+  cost-allowed h =
+      let t : T (argumentsAllowed (z .preferences) c met) = as-T {b = argumentsAllowed (z .preferences) c met} h in
+      leb→le c MAX-COST (search tests)
 
-    pub cost-allowed : argumentsAllowed (z .preferences) c met ≡ true → c ≤ MAX-COST
-    cost-allowed h =
-        let t : T (argumentsAllowed (z .preferences) c met) = as-T {b = argumentsAllowed (z .preferences) c met} h in
-        leb→le c MAX-COST (search tests)
-
-    pub worth-on : argumentsAllowed (z .preferences) c met ≡ true → (w : Settled)
-        → ((t : Task) → partsOf b (asSizes z) ≡ taskRows t → w ≡ worthOf t c met) → w ≡ settled b c met
-    worth-on h w says = says (taskOf b) (parts-spell b (asSizes z) accepted) ∙ (rw h at on-task)
+  pub worth-on : argumentsAllowed (z .preferences) c met ≡ true → (w : Settled)
+      → ((t : Task) → partsOf b (asSizes z) ≡ taskRows t → w ≡ worthOf t c met) → w ≡ settled b c met
+  worth-on h w says = says (taskOf b) (parts-spell b (asSizes z) accepted) ∙ (rw h at on-task)

@@ -2,12 +2,15 @@
 mod amounts;
 
 ghost use mathlib.Core.Path.{_≡_};
+ghost use Rattle.task.specs.Check.{accepted, check};
+ghost use Rattle.task.specs.Answers.{asSizes};
 ghost use Rattle.state.specs.Member.{bit};
 ghost use Rattle.settling.specs.Settled.{settled};
 ghost use Rattle.settling.specs.Answers.{settledAs};
 use state::State;
 use task::Checked;
 use task::Refusal;
+use task::Sizes;
 use task::refused;
 
 // What a solution is worth.
@@ -29,14 +32,11 @@ pub fn is_met(met: u64, k: u32) -> bool
     state::holds(State { low: met, high: 0 }, k)
 }
 
-// What a cost and met preferences are worth on the task in a file; preference k is met where bit k of `met` is set.
-pub fn settle(file: &[u8], cost: u64, met: u64) -> Settled
+// What a cost and met preferences are worth on the task in a file that check has accepted, of sizes z.
+pub fn settle_on(file: &[u8], z: Sizes, cost: u64, met: u64) -> Settled
+    requires { ⌜ check (now file) ≡ accepted (asSizes z) ⌝ }
     ensures { λ r. ⌜ settledAs r ≡ settled (now (file .entry)) cost (bit met) ⌝ }
 {
-    let c = task::check(file);
-    let Checked::Accepted(z) = c else {
-        return Settled::Refused(task::refusal_of(c));
-    };
     if !amounts::arguments_allowed(z.preferences, cost, met) {
         return Settled::Refused(Refusal {
             number: refused::ARGUMENT,
@@ -45,4 +45,15 @@ pub fn settle(file: &[u8], cost: u64, met: u64) -> Settled
     }
     let middle = 8 + z.rows;
     Settled::Given(amounts::worth(cost, amounts::weigh(&file[8..middle], &file[middle..], met)))
+}
+
+// What a cost and met preferences are worth on the task in a file; preference k is met where bit k of `met` is set.
+pub fn settle(file: &[u8], cost: u64, met: u64) -> Settled
+    ensures { λ r. ⌜ settledAs r ≡ settled (now (file .entry)) cost (bit met) ⌝ }
+{
+    let c = task::check(file);
+    let Checked::Accepted(z) = c else {
+        return Settled::Refused(task::refusal_of(c));
+    };
+    settle_on(file, z, cost, met)
 }
