@@ -1,33 +1,31 @@
 -- The laws that loops over the plans of a file cite: each says what one turn, or the end, does.
-use mathlib.Core.Path.{_≡_, refl, sym, ap, _∙_}
+use mathlib.Core.Path.{_≡_, refl, sym, ap, subst, _∙_}
 use mathlib.Core.Bool.{Bool, true, false, _&&_}
 use mathlib.Core.List.{List, [], _∷_, map}
-use Prim.Native.Nat.{ℕ, suc, _+_, _≤_, _<_}
+use Prim.Native.Nat.{ℕ, suc, _+_, _*_, _-_, _≤_, _<_}
 use native.Mathlib.Nat.{zero-add}
 use native.Mathlib.Numerals.{add-one}
 use native.Mathlib.Omega.{arith}
-use lib.IntN.{ℤ}
-use lib.ListN.{drop, drop-of-length-le}
+use lib.Dec.{T, leb→le}
+use lib.ListN.{length, take, drop, length-drop, drop-of-length-le}
+use lib.Seq.{drop-drop}
 use Rattle.lists.specs.Lists.{all, range}
+use Rattle.lists.proofs.Tests.{tests, as-T, both-true, all-drop}
 use Rattle.task.specs.File.{Sizes}
 use Rattle.task.specs.Check
 use Rattle.task.specs.Check.{check}
 use Rattle.task.proofs.Checking.{within}
 use Rattle.task.proofs.Spelled.{accepted-spelling}
 use Rattle.plan.specs.Judged.{judged}
-use Rattle.plan.specs.Walked as Walking
-use Rattle.plan.specs.Walked.{walked}
-use Rattle.settling.specs.Settled.{worth, settled}
-use Rattle.plan.specs.ThenSettled.{thenSettle}
-use Rattle.plan.proofs.ThenSettled.{walk-then-settle}
 use Rattle.figures.specs.Plans.{count, entryAt, entries, stepBytes, planOf, plans, headed, stands, readable}
 use Rattle.figures.specs.Week.{Answer, given, refused, weekBy, weekOf}
-use Rattle.figures.specs.Pass.{Tally, noPlans, counted, closed, passOn, pass, passAt}
+use Rattle.figures.specs.Pass.{Tally, noPlans, closed, turned, passOn, pass, passAt}
 use Rattle.figures.proofs.Numbered.{drop-range, drop-map, length-entries}
 use Rattle.figures.proofs.Passing.{pass-is}
 
 module _ (f : List ℕ) (i : ℕ) where
-  abbrev planAt : List ℕ
+  -- plan i
+  abbrev pub planAt : List ℕ
   planAt = planOf (stepBytes f) (entryAt f i)
 
   pub entry-next : i < count f → drop i (entries f) ≡ entryAt f i ∷ drop (i + 1) (entries f)
@@ -63,7 +61,7 @@ module _ (f : List ℕ) (i : ℕ) where
   -- The pass
 
   module _ (b : List ℕ) (P : ℕ) (a : Tally) where
-    pub pass-next : i < count f → passAt b f P a i ≡ passOn i a (λ (a′ : Tally). passAt b f P a′ (i + 1)) (judged b planAt)
+    pub pass-next : i < count f → passAt b f P a i ≡ passOn (λ (a′ : Tally). passAt b f P a′ (i + 1)) (turned i a (judged b planAt))
     unfolding pass
     pass-next h = ap (pass b P a i) (plan-next h)
 
@@ -75,27 +73,29 @@ pub readable-is : (f : List ℕ) → readable f ≡ (headed f && standFrom f 0)
 unfolding readable
 readable-is f = refl
 
--- One turn, from what walk and settle answer on plan k
+-- plan i stands within the step bytes of a file that can be read
+module _ (f : List ℕ) (r : readable f ≡ true) where
+  pub read-head : headed f ≡ true
+  read-head = both-true (headed f) (standFrom f 0) (sym (readable-is f) ∙ r) .0
 
-module _ (k : ℕ) (a : Tally) (go : Tally → Answer) (b p : List ℕ) where
-  by-walk : (w : Walking.Walked) → walked b p ≡ w → passOn k a go (judged b p) ≡ passOn k a go (thenSettle b w)
-  by-walk w e = ap (passOn k a go) (sym (walk-then-settle b p) ∙ ap (thenSettle b) e)
+  pub plan-within : (i : ℕ) → i < count f → 2 + 4 * count f + (entryAt f i .start + entryAt f i .steps) ≤ length f
+  plan-within i h =
+      let all-stand : T (standFrom f 0) = as-T (both-true (headed f) (standFrom f 0) (sym (readable-is f) ∙ r) .1) in
+      let from : T (standFrom f i) = all-drop (stands (stepBytes f)) i (entries f) all-stand in
+      let this : T (stands (stepBytes f) (entryAt f i) && standFrom f (i + 1)) = subst T (stand-next f i h) from in
+      let fits : entryAt f i .start + entryAt f i .steps ≤ length (stepBytes f) =
+      leb→le (entryAt f i .start + entryAt f i .steps) (length (stepBytes f)) (search tests) in
+      let head : T (headed f) = as-T read-head in
+      let room : 2 + 4 * count f ≤ length f = leb→le (2 + 4 * count f) (length f) (search tests) in
+      omega (arith, length-drop (2 + 4 * count f) f)
 
-  pub on-solved : (cost metric looked : ℕ) (utility : ℤ) (met : ℕ → Bool) → walked b p ≡ Walking.given (Walking.solved cost met) looked
-      → settled b cost met ≡ worth metric utility → passOn k a go (judged b p) ≡ go (counted a metric met)
-  on-solved cost metric looked utility met e s = by-walk (Walking.given (Walking.solved cost met) looked) e ∙ rw s
-
-  pub on-stopped : (i looked : ℕ) → walked b p ≡ Walking.given (Walking.stopped i) looked → passOn k a go (judged b p) ≡ go a
-  on-stopped i looked e = by-walk (Walking.given (Walking.stopped i) looked) e
-
-  pub on-goal-missed : (looked : ℕ) → walked b p ≡ Walking.given Walking.goal-missed looked → passOn k a go (judged b p) ≡ go a
-  on-goal-missed looked e = by-walk (Walking.given Walking.goal-missed looked) e
-
-  pub on-rule-missed : (i looked : ℕ) → walked b p ≡ Walking.given (Walking.rule-missed i) looked → passOn k a go (judged b p) ≡ go a
-  on-rule-missed i looked e = by-walk (Walking.given (Walking.rule-missed i) looked) e
-
-  pub on-refused : (n i : ℕ) → walked b p ≡ Walking.refused n i → passOn k a go (judged b p) ≡ refused n k
-  on-refused n i e = by-walk (Walking.refused n i) e
+  -- as code lends it: from its first step in the file to the one behind its last
+  pub plan-lent : (i from to : ℕ) → from ≡ 2 + 4 * count f + entryAt f i .start → to ≡ from + entryAt f i .steps
+      → take (to - from) (drop from f) ≡ planAt f i
+  plan-lent i from to p q =
+      let many : to - from ≡ entryAt f i .steps = omega arith in
+      (λ z. take (many z) (drop (p z) f))
+      ∙ ap (take (entryAt f i .steps)) (sym (drop-drop (entryAt f i .start) (2 + 4 * count f) f))
 
 -- The answer, in the order of the refusals
 

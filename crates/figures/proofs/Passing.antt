@@ -18,7 +18,7 @@ use Rattle.plan.specs.Judged.{Judged, judged}
 use Rattle.figures.specs.Reordered.{Reordered, then}
 use Rattle.figures.specs.Figures.{Solution, solution, solutions, meeting, metrics, least, greatest, figuresOver}
 use Rattle.figures.specs.Week.{Answer, given, refused, isFaulty, firstFaulty, faultNumber, ofPlans}
-use Rattle.figures.specs.Pass.{Tally, noPlans, raised, counted, taken, closed, passOn, pass}
+use Rattle.figures.specs.Pass.{Tally, noPlans, raised, counted, taken, closed, turned, passOn, pass}
 use Rattle.figures.proofs.Numbered.{take-numbered}
 use Rattle.figures.proofs.Reorder.{as-was, other-way, past}
 use Rattle.figures.proofs.Keeping.{over-reordered}
@@ -101,10 +101,10 @@ module _ (b : List ℕ) (z : Sizes) (h : check b ≡ Check.accepted z) where
 
   -- the next plan ends the pass where it is faulty
   pass-step : (k : ℕ) (a : Tally) (go : Tally → Answer) (p : List ℕ)
-      → passOn k a go (judged b p) ≡ cond (isFaulty A p) (refused (faultNumber p) k) (go (taken a (verdict (taskOf b) p)))
-  pass-step k a go p = ap (passOn k a go) (judged-as b z h p) ∙ by (isFaulty A p)
+      → passOn go (turned k a (judged b p)) ≡ cond (isFaulty A p) (refused (faultNumber p) k) (go (taken a (verdict (taskOf b) p)))
+  pass-step k a go p = ap (λ (j : Judged). passOn go (turned k a j)) (judged-as b z h p) ∙ by (isFaulty A p)
     where
-      by : (c : Bool) → passOn k a go (cond c (Judged.refused (faultNumber p) (faultPlace A p)) (Judged.given (verdict (taskOf b) p)))
+      by : (c : Bool) → passOn go (turned k a (cond c (Judged.refused (faultNumber p) (faultPlace A p)) (Judged.given (verdict (taskOf b) p))))
           ≡ cond c (refused (faultNumber p) k) (go (taken a (verdict (taskOf b) p)))
       by true = refl
       by false = refl

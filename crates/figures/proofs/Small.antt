@@ -1,5 +1,5 @@
 -- No number of the tally outgrows its type.
-use mathlib.Core.Path.{_≡_, refl, sym, ap, _∙_}
+use mathlib.Core.Path.{_≡_, refl, sym, ap, subst, _∙_}
 use mathlib.Core.Bool.{Bool, true, false, cond}
 use mathlib.Core.List.{List, [], _∷_}
 use Prim.Native.Nat.{ℕ, suc, _+_, _*_, _≤_}
@@ -15,22 +15,15 @@ use Rattle.meaning.specs.Meaning.{metric}
 use Rattle.task.specs.Check
 use Rattle.task.specs.Check.{check}
 use Rattle.task.specs.Limits.{MAX-AMOUNT}
-use Rattle.meaning.specs.Verdict.{solved, verdict}
+use Rattle.meaning.specs.Verdict.{solved, stopped, goal-missed, rule-missed, verdict}
 use Rattle.lists.proofs.Tests.{tests, all-implies, and-both}
 use Rattle.meaning.proofs.Verdict.{solved-only}
 use Rattle.plan.specs.Judged
 use Rattle.plan.specs.Judged.{Judged, judged}
 use Rattle.figures.specs.Week.{isFaulty, faultNumber}
-use Rattle.figures.specs.Pass.{Tally, noPlans, raised, counted}
+use Rattle.figures.specs.Pass.{Tally, noPlans, raised, counted, Turn, on, ends, turned, AtMost, MOST, Small}
 use Rattle.figures.proofs.Judging.{faultPlace, judged-as, not-long}
 use Rattle.figures.proofs.Solving.{accepted-limited, metric-most}
-
--- after i plans, of metrics that are at most this
-pub record Small (most i : ℕ) (a : Tally) : Type 0 where
-  pub few : a .solving ≤ i
-  pub sum : a .total ≤ i * most
-  pub counts : T (all (λ (c : ℕ). leb c i) (a .meetings))
-  pub sixteen : length (a .meetings) ≡ 16
 
 more : (i c : ℕ) → T (leb c i) → T (leb c (i + 1))
 more i c t = le→leb c (i + 1) (omega (arith, leb→le c i t))
@@ -39,7 +32,7 @@ length-raised : (met : ℕ → Bool) (k : ℕ) (cs : List ℕ) → length (raise
 length-raised met k [] = refl
 length-raised met k (c ∷ cs) = ap suc (length-raised met (k + 1) cs)
 
-raised-small : (met : ℕ → Bool) (i k : ℕ) (cs : List ℕ) → T (all (λ (c : ℕ). leb c i) cs) → T (all (λ (c : ℕ). leb c (i + 1)) (raised met k cs))
+raised-small : (met : ℕ → Bool) (i k : ℕ) (cs : List ℕ) → AtMost i cs → AtMost (i + 1) (raised met k cs)
 raised-small met i k [] t = tt
 raised-small met i k (c ∷ cs) t =
     and-both (leb (cond (met k) (c + 1) c) (i + 1)) (all (λ (c : ℕ). leb c (i + 1)) (raised met (k + 1) cs)) (go (met k) (leb→le c i (search tests)))
@@ -77,7 +70,7 @@ module _ (most : ℕ) where
 
 -- a metric that is counted
 pub metric-small : (b : List ℕ) (z : Sizes) → check b ≡ Check.accepted z → (p : List ℕ) (c m : ℕ) (u : ℤ) (s : ℕ → Bool)
-    → judged b p ≡ Judged.given (solved c m u s) → m ≤ 2064 * MAX-AMOUNT
+    → judged b p ≡ Judged.given (solved c m u s) → m ≤ MOST
 metric-small b z h p c m u s e = go (isFaulty A p) refl (sym (judged-as b z h p) ∙ e)
   where
     A : ℕ
@@ -85,9 +78,26 @@ metric-small b z h p c m u s e = go (isFaulty A p) refl (sym (judged-as b z h p)
 
     go : (x : Bool) → isFaulty A p ≡ x
         → cond x (Judged.refused (faultNumber p) (faultPlace A p)) (Judged.given (verdict (taskOf b) p)) ≡ Judged.given (solved c m u s)
-        → m ≤ 2064 * MAX-AMOUNT
+        → m ≤ MOST
     go true q r = let no : _≡_ {A = ℕ} 0 1 = cc in omega arith
     go false q r =
         let v : verdict (taskOf b) p ≡ solved c m u s = cc in
         let short : length p ≤ 2048 = leb→le (length p) 2048 (not-long A p (rw q tt)) in
         omega (arith, metric-most (taskOf b) MAX-AMOUNT (accepted-limited b z h) p short, solved-only (taskOf b) p c m u s v .1)
+
+abbrev tallyIn : Tally → Turn → Tally
+tallyIn d (on a) = a
+tallyIn d (ends n k) = d
+
+-- so a turn keeps a tally small
+pub small-turned : (b : List ℕ) (z : Sizes) → check b ≡ Check.accepted z → (p : List ℕ) (k : ℕ) (a a′ : Tally)
+    → Small MOST k a → turned k a (judged b p) ≡ on a′ → Small MOST (k + 1) a′
+small-turned b z h p k a a′ s q = go (judged b p) refl q
+  where
+    go : (j : Judged) → judged b p ≡ j → turned k a j ≡ on a′ → Small MOST (k + 1) a′
+    go (Judged.given (solved c m u x)) e q =
+        subst (Small MOST (k + 1)) (ap (tallyIn a) q) (small-counted MOST k a s m x (metric-small b z h p c m u x e))
+    go (Judged.given (stopped i)) e q = subst (Small MOST (k + 1)) (ap (tallyIn a) q) (small-next MOST k a s)
+    go (Judged.given goal-missed) e q = subst (Small MOST (k + 1)) (ap (tallyIn a) q) (small-next MOST k a s)
+    go (Judged.given (rule-missed i)) e q = subst (Small MOST (k + 1)) (ap (tallyIn a) q) (small-next MOST k a s)
+    go (Judged.refused n i) e q = let no : _≡_ {A = ℕ} 0 1 = cc in absurd (omega arith)

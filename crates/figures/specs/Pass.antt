@@ -1,9 +1,12 @@
 -- The same by one pass over the plans, as code goes.
+use mathlib.Core.Path.{_≡_}
 use mathlib.Core.Bool.{Bool, cond, _||_}
 use mathlib.Core.List.{List, [], _∷_}
-use Prim.Native.Nat.{ℕ, _+_, _/_, _%_}
-use lib.Dec.{eqb, ltb}
-use lib.ListN.{take, drop, replicate}
+use Prim.Native.Nat.{ℕ, _+_, _*_, _/_, _%_, _≤_}
+use lib.Dec.{T, eqb, ltb, leb}
+use lib.ListN.{length, take, drop, replicate}
+use Rattle.lists.specs.Lists.{all}
+use Rattle.task.specs.Limits.{MAX-AMOUNT}
 use Rattle.meaning.specs.Verdict.{Verdict, solved, stopped, goal-missed, rule-missed}
 use Rattle.plan.specs.Judged
 use Rattle.plan.specs.Judged.{Judged, judged}
@@ -56,16 +59,46 @@ closed P a =
       remainder = a .total % a .solving;
     }))
 
--- plan k is judged: the first refusal ends the pass, with k as the place
-abbrev pub passOn : ℕ → Tally → (Tally → Answer) → Judged → Answer
-passOn k a go (Judged.given v) = go (taken a v)
-passOn k a go (Judged.refused n i) = refused n k
+-- what a judged plan makes of a tally: one to go on with, or a refusal, with its number and place, that ends the pass
+pub data Turn : Type 0 where
+  on : Tally → Turn
+  ends : ℕ → ℕ → Turn
+
+-- plan k is judged: its refusal has k as the place
+abbrev pub turned : ℕ → Tally → Judged → Turn
+turned k a (Judged.given v) = on (taken a v)
+turned k a (Judged.refused n i) = ends n k
+
+abbrev pub passOn : (Tally → Answer) → Turn → Answer
+passOn go (on a) = go a
+passOn go (ends n k) = refused n k
+
+-- what the last turn comes to, of P preferences
+abbrev pub closing : ℕ → Turn → Answer
+closing P = passOn (λ (a : Tally). given (closed P a))
 
 -- the plans of the task in b, of P preferences, the first being plan k
 unfoldable pub pass : List ℕ → ℕ → Tally → ℕ → List (List ℕ) → Answer
 pass b P a k [] = given (closed P a)
-pass b P a k (p ∷ ps) = passOn k a (λ (a′ : Tally). pass b P a′ (k + 1) ps) (judged b p)
+pass b P a k (p ∷ ps) = passOn (λ (a′ : Tally). pass b P a′ (k + 1) ps) (turned k a (judged b p))
 
 -- from plan i of the file f on
 abbrev pub passAt : List ℕ → List ℕ → ℕ → Tally → ℕ → Answer
 passAt b f P a i = pass b P a i (drop i (plans f))
+
+-- How large a tally gets
+
+-- of counts, none is over n
+abbrev pub AtMost : ℕ → List ℕ → Type 0
+AtMost n cs = T (all (λ (c : ℕ). leb c n) cs)
+
+-- the greatest metric: 2,048 steps and 16 preferences at the limit of costs and weights
+abbrev pub MOST : ℕ
+MOST = 2064 * MAX-AMOUNT
+
+-- after i plans, of metrics that are at most this
+pub record Small (most i : ℕ) (a : Tally) : Type 0 where
+  pub few : a .solving ≤ i
+  pub sum : a .total ≤ i * most
+  pub counts : AtMost i (a .meetings)
+  pub sixteen : length (a .meetings) ≡ 16
