@@ -18,7 +18,7 @@ use Rattle.task.proofs.Checking.{within}
 use Rattle.task.proofs.Spelled.{accepted-spelling}
 use Rattle.plan.specs.Judged.{judged}
 use Rattle.figures.specs.Plans.{count, entryAt, entries, stepBytes, planOf, plans, headed, stands, readable}
-use Rattle.figures.specs.Week.{Answer, given, refused, weekBy, weekOf}
+use Rattle.figures.specs.Week.{given, refused, weekBy, weekOf}
 use Rattle.figures.specs.Pass.{Tally, noPlans, closed, turned, passOn, pass, passAt}
 use Rattle.figures.proofs.Numbered.{drop-range, drop-map, length-entries}
 use Rattle.figures.proofs.Passing.{pass-is}

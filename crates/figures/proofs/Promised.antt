@@ -1,5 +1,5 @@
 -- What is promised of every answer.
-use mathlib.Core.Path.{_≡_, subst, _∙_, sym}
+use mathlib.Core.Path.{_≡_, subst, sym}
 use mathlib.Core.List.{List}
 use Prim.Native.Nat.{ℕ}
 use Rattle.figures.specs.Week.{Answer, weekOf}

@@ -13,7 +13,7 @@ use Rattle.task.specs.File.{Sizes, taskOf}
 use Rattle.task.specs.Spelling.{weightAllowed, actionSpellable, preferenceSpellable, spellable}
 use Rattle.task.specs.Check.{check, accepted}
 use Rattle.task.specs.Limits.{MAX-AMOUNT}
-use Rattle.meaning.specs.Meaning.{noAction, opening, runs, final, isTrue, solves, actionAt, cost, isMet, keepsRules, missedWeight, metric, utility, noPreference, preferenceAt}
+use Rattle.meaning.specs.Meaning.{noAction, opening, runs, final, isTrue, solves, actionAt, cost, isMet, keepsRules, missedWeight, metric, noPreference, preferenceAt}
 use Rattle.meaning.specs.Verdict.{metSet, verdictBy, verdict}
 use Rattle.lists.proofs.Tests.{tests, all-map, all-implies}
 use Rattle.lists.proofs.Entries.{getD-map}
