@@ -4,9 +4,8 @@ use mathlib.Core.Bool.{Bool, true, false, _&&_}
 use mathlib.Core.List.{List}
 use Prim.Native.Nat.{ℕ, _+_, _*_, _-_, _≤_, _<_}
 use native.Mathlib.Omega.{arith}
-use lib.Dec.{T, leb→le}
+use lib.Dec.{T, leb, leb→le}
 use lib.ListN.{length, length-drop}
-use borrow.Author.Tests.{le-leb, lt-leb}
 use Rattle.lists.proofs.Tests.{tests, as-T}
 use Rattle.figures.specs.Plans.{Entry, count, entryAt, stepBytes, headed, stands, readable}
 use Rattle.figures.proofs.Loop.{standFrom, stand-next, stand-end, readable-is}
@@ -39,10 +38,12 @@ module _ (f : List ℕ) (head : headed f ≡ true) where
       by-entry : (x : Bool) → stands (stepBytes f) e ≡ x → standFrom f i ≡ (x && standFrom f (i + 1))
       by-entry x s = stand-next f i h ∙ ap (λ (b : Bool). b && standFrom f (i + 1)) (ap (stands (stepBytes f)) (sym q) ∙ s)
 
-      pub past-the-end : length f - (2 + 4 * count f) < e .start + e .steps → readable f ≡ false
-      past-the-end l =
-          answered false (by-entry false (lt-leb (e .start + e .steps) (length (stepBytes f)) (omega (arith, length-drop (2 + 4 * count f) f))))
+      -- the room for steps
+      room : leb (e .start + e .steps) (length (stepBytes f)) ≡ leb (e .start + e .steps) (length f - (2 + 4 * count f))
+      room = ap (leb (e .start + e .steps)) (length-drop (2 + 4 * count f) f)
 
-      pub next-stands : e .start + e .steps ≤ length f - (2 + 4 * count f) → standFrom f (i + 1) ≡ standFrom f 0
-      next-stands l =
-          sym (by-entry true (le-leb (e .start + e .steps) (length (stepBytes f)) (omega (arith, length-drop (2 + 4 * count f) f)))) ∙ same
+      pub past-the-end : leb (e .start + e .steps) (length f - (2 + 4 * count f)) ≡ false → readable f ≡ false
+      past-the-end l = answered false (by-entry false (room ∙ l))
+
+      pub next-stands : leb (e .start + e .steps) (length f - (2 + 4 * count f)) ≡ true → standFrom f (i + 1) ≡ standFrom f 0
+      next-stands l = sym (by-entry true (room ∙ l)) ∙ same

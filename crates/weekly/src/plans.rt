@@ -1,6 +1,7 @@
 // The file of a week's plans.
 ghost use mathlib.Core.Path.{_≡_};
 ghost use Prim.Native.Nat.{_+_, _*_, _≤_, _<_};
+ghost use lib.Dec.{leb};
 ghost use lib.ListN.{getD};
 ghost use Rattle.task.specs.File.{word16};
 ghost use Rattle.figures.specs.Plans.{count as countIn, entryAt, headed, readable};
@@ -67,7 +68,15 @@ fn is_headed(plans: &[u8], n: usize) -> bool
     (2 <= plans.len()) & (1 <= n) & (n <= MAX_PLANS) & (2 + 4 * n <= plans.len())
 }
 
-// Whether the file can be read: each plan stands within the step bytes, one of no steps too.
+// Whether a plan stands within so many step bytes, one of no steps too.
+fn stands(e: Entry, room: usize) -> bool
+    requires { ⌜ (e .start < 65536) × (e .steps < 65536) ⌝ }
+    ensures { λ r. ⌜ r ≡ leb (e .start + e .steps) room ⌝ }
+{
+    e.start + e.steps <= room
+}
+
+// Whether the file can be read: each plan stands within the step bytes.
 pub fn is_readable(plans: &[u8]) -> bool
     ensures { λ r. ⌜ r ≡ readable (now (plans .entry)) ⌝ }
 {
@@ -78,8 +87,7 @@ pub fn is_readable(plans: &[u8]) -> bool
     let room = plans.len() - (2 + 4 * n);
     let mut i = 0;
     while i < n {
-        let e = entry_at(plans, n, i);
-        if room < e.start + e.steps {
+        if !stands(entry_at(plans, n, i), room) {
             return false;
         }
         i += 1;

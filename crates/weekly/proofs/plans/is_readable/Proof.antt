@@ -6,6 +6,7 @@ use mathlib.Core.Bool.{true}
 use Prim.Native.Nat.{ℕ, _+_, _*_, _-_}
 use native.Mathlib.Omega.{arith}
 use denote.Ref.{now}
+use lib.Dec.{leb}
 use lib.ListN.{length}
 use Rattle.figures.specs.Plans.{count, headed}
 use Rattle.weekly.specs.Answers.{asEntry}
@@ -49,18 +50,28 @@ room c =
     let f = now (c .before .before .before .before .args .plans) in
     ap (λ (n : ℕ). length f - (2 + 4 * n)) (c .before .before .count .ensures .0)
 
+-- whether the plan of a turn stands
+test : (c : tie.After-stands Inv-loop μ-loop) → let e = c .before in let k = e .before .before .before in
+    let f = now (k .before .before .before .before .args .plans) in
+    c .stands .result ≡ leb (e .entry-at .result .start + e .entry-at .result .steps) (length f - (2 + 4 * count f))
+test c =
+    let e = c .before in
+    c .stands .ensures ∙ ap (leb (e .entry-at .result .start + e .entry-at .result .steps)) (room (e .before .before .before))
+
 returns-2 : tie.Need-returns-2 Inv-loop μ-loop
 returns-2 c =
-    let t = c .before .before in
+    let s = c .before in
+    let t = s .before in
     let l = t .before .before in
     let e = l .before in
     let f = now (e .before .before .before .before .args .plans) in
     sym (past-the-end f (head e) (l .loop .i) (l .loop .inv .same) (omega (arith, t .before .loop-test .taken, e .before .before .count .ensures .0))
-    (asEntry (t .entry-at .result)) (t .entry-at .ensures .0) (omega (arith, c .if2 .taken, room e)))
+    (asEntry (t .entry-at .result)) (t .entry-at .ensures .0) (sym (test s) ∙ not-true _ (c .if2 .taken)))
 
 loop-again : tie.Need-loop-again Inv-loop μ-loop
 loop-again c =
-    let t = c .before .before in
+    let s = c .before in
+    let t = s .before in
     let l = t .before .before in
     let e = l .before in
     let f = now (e .before .before .before .before .args .plans) in
@@ -68,7 +79,7 @@ loop-again c =
       left = search needs;
       same =
           next-stands f (head e) (l .loop .i) (l .loop .inv .same) (omega (arith, t .before .loop-test .taken, e .before .before .count .ensures .0))
-          (asEntry (t .entry-at .result)) (t .entry-at .ensures .0) (omega (arith, c .if2 .left, room e));
+          (asEntry (t .entry-at .result)) (t .entry-at .ensures .0) (sym (test s) ∙ not-false _ (c .if2 .left));
     }
 
 returns-3 : tie.Need-returns-3 Inv-loop μ-loop
@@ -83,4 +94,4 @@ is-readable-spec =
     tie.close
     (tie.spec
     Inv-loop μ-loop (λ c κs. search needs) (λ c κs. search needs) returns (λ c. search needs) (λ c. search needs) sub-room loop-holds
-    entry-at-requires (λ c. search needs) returns-2 (λ c. search needs) (λ c. search needs) loop-again returns-3)
+    entry-at-requires (λ c κs. search needs) returns-2 (λ c. search needs) (λ c. search needs) loop-again returns-3)
