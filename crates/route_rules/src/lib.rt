@@ -16,7 +16,9 @@ ghost use Rattle.spelling.specs.Outcome.{outcome as spelled};
 ghost use Rattle.plan_lines.specs.PlanText.{textOf};
 ghost use Rattle.plan_text.specs.Outcomes.{readOutcome, stepsIn, writeOutcome, textWalked};
 ghost use Rattle.pddl_text.specs.Outcomes.{outcomeOver as texts, domainOver, problemOver};
-ghost use Rattle.words.specs.Numbers.{call, ofCheck, ofOutcome, ofTexts, ofWalk, ofSettle};
+ghost use Rattle.figures.specs.Week.{weekOf};
+ghost use Rattle.figures.specs.Promised.{Promised};
+ghost use Rattle.words.specs.Numbers.{call, ofCheck, ofOutcome, ofTexts, ofWalk, ofSettle, ofWeek};
 
 // Checks a task file.
 #[no_mangle]
@@ -123,4 +125,13 @@ pub extern "C" fn route_rules_report(
         ⌜ now (out .exit) ≡ areaAfter (reportOn (now (file .entry)) (now (plan .entry))) (now (out .entry)) outcome ⌝ }
 {
     words::put_outcome(report::write_report(file, plan, out), answer)
+}
+
+// The figures of a week's plans on the task in a file.
+#[no_mangle]
+pub extern "C" fn route_rules_week(file: &[u8], plans: &[u8], answer: &mut [u64; 24]) -> u32
+    ensures { λ r. ⌜ call r (now (answer .exit)) ≡ ofWeek (weekOf (now (file .entry)) (now (plans .entry))) ⌝ }
+    ensures { λ r. ⌜ Promised (now (file .entry)) (now (plans .entry)) (weekOf (now (file .entry)) (now (plans .entry))) ⌝ }
+{
+    words::put_week(weekly::week(file, plans), answer)
 }

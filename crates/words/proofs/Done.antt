@@ -1,12 +1,12 @@
 -- 0 means done: a call returns 0 exactly where its answer is no refusal, since no refusal of any operation has number 0.
 use mathlib.Core.Path.{_≡_, refl}
 use mathlib.Core.Bool.{Bool, true, false, not, cond, _&&_}
-use mathlib.Core.List.{List, [], _∷_}
+use mathlib.Core.List.{List, [], _∷_, map}
 use Prim.Native.Nat.{ℕ, _+_, _*_}
 use lib.Dec.{eqb, leb, ltb}
-use lib.ListN.{length}
+use lib.ListN.{length, getD}
 use mathlib.Core.Option.{Option, none, some}
-use Rattle.lists.specs.Lists.{all}
+use Rattle.lists.specs.Lists.{all, any}
 use Rattle.task.specs.TaskRows.{Row}
 use Rattle.task.specs.File.{Sizes, sizes, rows, taskOf}
 use Rattle.task.specs.Check
@@ -19,6 +19,10 @@ use Rattle.plan.specs.Walked
 use Rattle.plan.specs.Walked.{Walked, given, withoutAmounts, withoutWorth, walked}
 use Rattle.settling.specs.Settled
 use Rattle.settling.specs.Settled.{Settled, worth, worthOf, argumentsAllowed, settledBy, settled}
+use Rattle.figures.specs.Plans.{plans, readable}
+use Rattle.figures.specs.Figures.{Figures, none-solves, solve, figures}
+use Rattle.figures.specs.Week
+use Rattle.figures.specs.Week.{isLong, isFaulty, firstFaulty, weekBy, weekOf}
 use Rattle.outcome.specs.Outcome
 use Rattle.outcome.specs.Outcome.{Outcome, written, fitted}
 use Rattle.classical.specs.Translation.{further, compiledRows}
@@ -31,7 +35,7 @@ use Rattle.pddl_text.specs.Pddl.{domainText, problemText}
 use Rattle.pddl_text.specs.Outcomes
 use Rattle.pddl_text.specs.Outcomes.{outcomeBy as textsBy, outcome as texts}
 use Rattle.report.specs.Report.{reportOn, reportBy, reportOutcome}
-use Rattle.words.specs.Numbers.{Call, call, ofCheck, ofOutcome, ofTexts, ofWalk, ofSettle}
+use Rattle.words.specs.Numbers.{Call, call, ofCheck, ofOutcome, ofTexts, ofWalk, ofSettle, ofWeek}
 
 -- The number that a call returns, and which answers are no refusals
 
@@ -57,6 +61,11 @@ isGiven (Walked.refused n i) = false
 abbrev pub isWorth : Settled → Bool
 isWorth (worth metric utility) = true
 isWorth (Settled.refused n i) = false
+
+-- figures, though no plan may solve
+abbrev pub areFigures : Week.Answer → Bool
+areFigures (Week.given x) = true
+areFigures (Week.refused n i) = false
 
 -- Check
 
@@ -228,9 +237,33 @@ settled-done b cost met = go (check b) (check-done b)
     go (Check.refused n i) e = e
     go (Check.accepted z) e = allowed (argumentsAllowed (z .preferences) cost met)
 
--- Every operation: on the file b, the plan p, the text t, a cost and met preferences, with areas of so many bytes
+abbrev WeekDone : Week.Answer → Type 0
+WeekDone x = returnsZero (ofWeek x) ≡ areFigures x
 
-pub record ZeroMeansDone (b p t : List ℕ) (cost : ℕ) (met : ℕ → Bool) (room more : ℕ) : Type 0 where
+week-done : (b f : List ℕ) → WeekDone (weekOf b f)
+unfolding weekOf
+week-done b f = go (check b) (check-done b)
+  where
+    over : (x : Figures) → WeekDone (Week.given x)
+    over none-solves = refl
+    over (solve n a) = refl
+
+    plans-done : (x y long : Bool) (k : ℕ) (figures : Figures)
+        → WeekDone (cond x (cond y (Week.refused (cond long 10 11) k) (Week.given figures)) (Week.refused 18 0))
+    plans-done true true true k figures = refl
+    plans-done true true false k figures = refl
+    plans-done true false long k figures = over figures
+    plans-done false y long k figures = refl
+
+    go : (a : Answer) → CheckDone a → WeekDone (weekBy b f a)
+    go (Check.refused n i) e = e
+    go (Check.accepted z) e =
+        plans-done (readable f) (any (isFaulty (z .actions)) (plans f)) (isLong (getD (plans f) (firstFaulty (z .actions) (plans f)) []))
+        (firstFaulty (z .actions) (plans f)) (figures (z .preferences) (map (verdict (taskOf b)) (plans f)))
+
+-- Every operation: on the file b, the plan p, the text t, the file f of plans, a cost and met preferences, with areas of so many bytes
+
+pub record ZeroMeansDone (b p t f : List ℕ) (cost : ℕ) (met : ℕ → Bool) (room more : ℕ) : Type 0 where
   pub checking : returnsZero (ofCheck (check b)) ≡ isAccepted (check b)
   pub translating : returnsZero (ofOutcome (outcome b room)) ≡ isWritten (outcome b room)
   pub spelling : returnsZero (ofOutcome (spelled b room)) ≡ isWritten (spelled b room)
@@ -240,10 +273,11 @@ pub record ZeroMeansDone (b p t : List ℕ) (cost : ℕ) (met : ℕ → Bool) (r
   pub writing : returnsZero (ofOutcome (writeOutcome p room)) ≡ isWritten (writeOutcome p room)
   pub walking-text : returnsZero (ofWalk (textWalked b t)) ≡ isGiven (textWalked b t)
   pub writing-pddl : returnsZero (ofTexts (texts b room more)) ≡ areWritten (texts b room more)
+  pub reckoning : returnsZero (ofWeek (weekOf b f)) ≡ areFigures (weekOf b f)
   pub reporting : returnsZero (ofOutcome (reportOutcome b p room)) ≡ isWritten (reportOutcome b p room)
 
-pub zero-means-done : (b p t : List ℕ) (cost : ℕ) (met : ℕ → Bool) (room more : ℕ) → ZeroMeansDone b p t cost met room more
-zero-means-done b p t cost met room more =
+pub zero-means-done : (b p t f : List ℕ) (cost : ℕ) (met : ℕ → Bool) (room more : ℕ) → ZeroMeansDone b p t f cost met room more
+zero-means-done b p t f cost met room more =
     record {
       checking = check-done b;
       translating = translate-done b room;
@@ -254,5 +288,6 @@ zero-means-done b p t cost met room more =
       writing = write-done p room;
       walking-text = text-done b t;
       writing-pddl = texts-done b room more;
+      reckoning = week-done b f;
       reporting = report-done b p room;
     }

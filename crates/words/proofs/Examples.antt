@@ -2,6 +2,7 @@
 use mathlib.Core.Path.{_≡_, refl}
 use mathlib.Core.List.{List, [], _∷_, map}
 use Prim.Native.Nat.{ℕ, _-_, _^_}
+use lib.ListN.{replicate}
 use Rattle.task.specs.Check.{check, checkRows}
 use Rattle.meaning.specs.Literals.{literals}
 use Rattle.meaning.specs.Verdict.{verdict}
@@ -10,11 +11,13 @@ use Rattle.state.specs.Member.{bit}
 use Rattle.plan.specs.Judged.{judged}
 use Rattle.plan.specs.Walked.{given, stopped, rule-missed, walked}
 use Rattle.settling.specs.Settled.{settled}
+use Rattle.figures.specs.Plans.{readable}
+use Rattle.figures.specs.Week.{weekOf}
 use Rattle.classical.specs.Translation.{translated}
 use Rattle.translation.specs.Translated.{outcome}
 use Rattle.canonical.specs.Canonical.{canonical}
 use Rattle.spelling.specs.Outcome.{outcome as spelled}
-use Rattle.words.specs.Numbers.{Call, call, bits, ofCheck, ofOutcome, ofWalk, ofSettle}
+use Rattle.words.specs.Numbers.{Call, call, bits, ofCheck, ofOutcome, ofWalk, ofSettle, ofWeek}
 
 pub record Example : Type 0 where
   pub given : Call
@@ -48,8 +51,14 @@ examples =
     ∷ example (ofSettle (settled belt 8796093020161 (bit 0))) 15 (0 ∷ 0 ∷ 0 ∷ 0 ∷ 0 ∷ 0 ∷ 0 ∷ 0 ∷ [])
     ∷ example (ofSettle (settled belt 0 (bit 4))) 15 (0 ∷ 0 ∷ 0 ∷ 0 ∷ 0 ∷ 0 ∷ 0 ∷ 0 ∷ [])
     ∷ example (ofSettle (settled [] 8796093020161 (bit 0))) 1 (0 ∷ 0 ∷ 0 ∷ 0 ∷ 0 ∷ 0 ∷ 0 ∷ 0 ∷ [])
+    -- four plans over the steps 0 1 0, of which three solve; plans of no steps, which don't; an unknown step in plan 1
+    ∷ example (ofWeek (weekOf belt (4 ∷ 0 ∷ 0 ∷ 0 ∷ 0 ∷ 0 ∷ 3 ∷ 0 ∷ 2 ∷ 0 ∷ 3 ∷ 0 ∷ 1 ∷ 0 ∷ 0 ∷ 0 ∷ 1 ∷ 0 ∷ 0 ∷ 1 ∷ 0 ∷ []))) 0
+    (0 ∷ 3 ∷ 8 ∷ 12 ∷ 28 ∷ 9 ∷ 1 ∷ 0 ∷ 0 ∷ 3 ∷ replicate 14 0)
+    ∷ example (ofWeek (weekOf belt (1 ∷ 0 ∷ 0 ∷ 0 ∷ 0 ∷ 0 ∷ []))) 0 (replicate 24 0)
+    ∷ example (ofWeek (weekOf belt (2 ∷ 0 ∷ 0 ∷ 0 ∷ 0 ∷ 0 ∷ 1 ∷ 0 ∷ 2 ∷ 0 ∷ 0 ∷ 2 ∷ []))) 11 (1 ∷ replicate 23 0)
+    ∷ example (ofWeek (weekOf belt [])) 18 (replicate 24 0)
     ∷ []
 
 pub as-said : map (λ (e : Example). e .given) examples ≡ map (λ (e : Example). call (e .number) (e .words)) examples
-unfolding check checkRows judged verdict literals walked settled bit translated outcome canonical spelled bits
+unfolding check checkRows judged verdict literals walked settled bit translated outcome canonical spelled bits weekOf readable
 as-said = refl

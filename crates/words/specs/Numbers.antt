@@ -1,15 +1,19 @@
 -- Answers as numbers, for callers in C and Rust: the number that a function returns, and the words that it leaves in the
 -- answer area.
 use mathlib.Core.Bool.{Bool, cond}
-use mathlib.Core.List.{List, [], _∷_}
+use mathlib.Core.List.{List, [], _∷_, map}
 use Prim.Native.Nat.{ℕ, zero, suc, _+_, _*_, _-_, _^_}
 use lib.IntN.{ℤ, pos, negsuc}
+use lib.ListN.{getD, replicate}
+use Rattle.lists.specs.Lists.{range}
 use Rattle.task.specs.Check
 use Rattle.task.specs.Check.{Answer}
 use Rattle.plan.specs.Walked
 use Rattle.plan.specs.Walked.{Walk, solved, stopped, goal-missed, rule-missed, Walked, given}
 use Rattle.settling.specs.Settled
 use Rattle.settling.specs.Settled.{Settled, worth}
+use Rattle.figures.specs.Figures.{Figures, none-solves, solve}
+use Rattle.figures.specs.Week
 use Rattle.pddl_text.specs.Outcomes
 use Rattle.outcome.specs.Outcome
 use Rattle.outcome.specs.Outcome.{Outcome, written}
@@ -67,3 +71,14 @@ ofWalk (Walked.refused n i) = refusal n i
 abbrev pub ofSettle : Settled → Call
 ofSettle (worth metric utility) = answered metric (signed utility) 0 0 0 0 0
 ofSettle (Settled.refused n i) = refusal n i
+
+-- A week has 24 words. Words 1 to 6 are how many plans solve, of their metrics the least, the greatest, the sum and the mean as
+-- quotient and remainder; word 8 + k is how many of them meet preference k, 0 where there is none. Where no plan solves all are 0
+abbrev pub ofFigures : Figures → Call
+ofFigures none-solves = call 0 (replicate 24 0)
+ofFigures (solve n a) =
+    call 0 (0 ∷ n ∷ a .lowest ∷ a .highest ∷ a .total ∷ a .quotient ∷ a .remainder ∷ 0 ∷ map (λ (k : ℕ). getD (a .meetings) k 0) (range 0 16))
+
+abbrev pub ofWeek : Week.Answer → Call
+ofWeek (Week.given x) = ofFigures x
+ofWeek (Week.refused n i) = call n (i ∷ replicate 23 0)

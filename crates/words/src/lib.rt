@@ -1,5 +1,7 @@
-// What each operation answers to callers in C and Rust: the number that a function returns, and eight words.
+// What each operation answers to callers in C and Rust: the number that a function returns, and eight words, or 24 of a week.
 ghost use mathlib.Core.Path.{_≡_};
+ghost use Prim.Native.Nat.{_<_};
+ghost use lib.ListN.{getD, take};
 ghost use Rattle.task.specs.Answers.{answer as ofChecked};
 ghost use Rattle.plan.specs.Answers.{asVerdict, walkedAs};
 ghost use Rattle.settling.specs.Answers.{settledAs};
@@ -7,7 +9,10 @@ ghost use Rattle.plan.specs.declared.Verdict.the-variants.{Solved};
 ghost use Rattle.settling.specs.declared.Settled.the-variants.{Given};
 ghost use Rattle.outcome.specs.Answers.{answer as asOutcome};
 ghost use Rattle.pddl_text.specs.Answers.{answer as asTexts};
-ghost use Rattle.words.specs.Numbers.{call, refusal, answered, ofCheck, ofOutcome, ofTexts, ofVerdict, ofWalk, ofSettle, signed};
+ghost use Rattle.figures.specs.Week.{refused as refusedWeek};
+ghost use Rattle.weekly.specs.Answers.{figuresAs, reckonedAs};
+ghost use Rattle.weekly.specs.declared.Figures.the-variants.{Solve};
+ghost use Rattle.words.specs.Numbers.{call, refusal, answered, ofCheck, ofOutcome, ofTexts, ofVerdict, ofWalk, ofSettle, ofWeek, signed};
 use outcome::Outcome;
 use plan::Solution;
 use plan::Verdict;
@@ -16,6 +21,9 @@ use settling::Settled;
 use settling::Worth;
 use task::Checked;
 use task::Refusal;
+use weekly::Amounts;
+use weekly::Figures;
+use weekly::Reckoned;
 
 // Word 1 of a verdict.
 const SOLVED: u64 = 1;
@@ -125,5 +133,72 @@ pub fn put_settled(s: Settled, answer: &mut [u64; 8]) -> u32
     match s {
         Settled::Given(w) => put_worth(w, answer),
         Settled::Refused(f) => put_refusal(f, answer),
+    }
+}
+
+// How many plans meet preference k, of so many preferences; 0 where there is none.
+fn count_at(meeting: &[u64; 16], preferences: usize, k: usize) -> u64
+    requires { ⌜ k < 16 ⌝ }
+    ensures { λ r. ⌜ r ≡ getD (take preferences (now (meeting .entry))) k 0 ⌝ }
+{
+    if k < preferences {
+        return meeting[k];
+    }
+    0
+}
+
+fn put_amounts(a: Amounts, meeting: [u64; 16], answer: &mut [u64; 24]) -> u32
+    ensures { λ r. ⌜ call r (now (answer .exit)) ≡ ofWeek (figuresAs (Solve a) meeting) ⌝ }
+{
+    let n = a.preferences;
+    *answer = [
+        0,
+        a.solving,
+        a.least,
+        a.greatest,
+        a.sum,
+        a.mean,
+        a.remainder,
+        0,
+        count_at(&meeting, n, 0),
+        count_at(&meeting, n, 1),
+        count_at(&meeting, n, 2),
+        count_at(&meeting, n, 3),
+        count_at(&meeting, n, 4),
+        count_at(&meeting, n, 5),
+        count_at(&meeting, n, 6),
+        count_at(&meeting, n, 7),
+        count_at(&meeting, n, 8),
+        count_at(&meeting, n, 9),
+        count_at(&meeting, n, 10),
+        count_at(&meeting, n, 11),
+        count_at(&meeting, n, 12),
+        count_at(&meeting, n, 13),
+        count_at(&meeting, n, 14),
+        count_at(&meeting, n, 15),
+    ];
+    0
+}
+
+fn put_refused_week(f: Refusal, answer: &mut [u64; 24]) -> u32
+    ensures { λ r. ⌜ call r (now (answer .exit)) ≡ ofWeek (refusedWeek (f .number) (f .place)) ⌝ }
+{
+    *answer = [0; 24];
+    answer[0] = f.place as u64;
+    f.number as u32
+}
+
+pub fn put_week(r: Reckoned, answer: &mut [u64; 24]) -> u32
+    ensures { λ n. ⌜ call n (now (answer .exit)) ≡ ofWeek (reckonedAs r) ⌝ }
+{
+    let figures = r.figures;
+    let meeting = r.meeting;
+    match figures {
+        Figures::NoneSolves => {
+            *answer = [0; 24];
+            0
+        }
+        Figures::Solve(a) => put_amounts(a, meeting, answer),
+        Figures::Refused(f) => put_refused_week(f, answer),
     }
 }
