@@ -1,5 +1,5 @@
 // A week of plans in figures.
-mod plans;
+pub mod plans;
 mod tally;
 
 ghost use mathlib.Core.Path.{_≡_};

@@ -1,0 +1,3 @@
+-- What the code writes
+pub mod Listing
+pub mod Answering
