@@ -1,5 +1,6 @@
 /* Route rules: check a task file, write the one spelling of its task, translate a task with soft and hard rules into a classical
- * task, write that as PDDL, walk a plan on a task, given as bytes or as planners print it, and settle what it is worth.
+ * task, write that as PDDL, walk a plan on a task, given as bytes or as planners print it, settle what it is worth, and put up to 64
+ * plans into figures.
  *
  * Link target/staticlib/libroute_rules.a, which `rt staticlib route_rules` writes. Every function is proved: it answers every
  * input as the definitions say (crates/words/specs/Numbers.antt has the words of the answers), always returns, and
@@ -31,6 +32,7 @@ extern "C" {
 #define ROUTE_RULES_MAX_STEPS 2048
 #define ROUTE_RULES_MAX_DEADLINE 15 /* the steps of within and always-within */
 #define ROUTE_RULES_MAX_COST 8796093020160 /* the cost of a plan: so many steps of the largest amount */
+#define ROUTE_RULES_MAX_PLANS 64 /* plans of a week */
 #define ROUTE_RULES_MAX_TEXT 65536 /* bytes of a plan's text; an area of this length is never too short for one */
 
 /* The length of the longest task file: an output area of this length is never too short. */
@@ -51,7 +53,8 @@ extern "C" {
  * 5 on one row; 6 comes after all rows. 7 to 9 are translate's, 10 and 11 walk's, in that order, after 1 to 6.
  * Of a plan's text 12 comes after 6, and before 10 and 11; reading alone is refused by 12, then 10, then 9. 13 and 14 are
  * pddl's, in that order, after 1 to 6; 15 is settle's, after 1 to 6. A spelling is refused by 1 to 6, and then by 9; a report as
- * walk is, and then by 9. */
+ * walk is, and then by 9. A week is refused by 1 to 6, then by 18, then by 10 and 11 of its plans: the first such plan decides, 10
+ * before 11 on one plan, and the place is its number. */
 enum {
     ROUTE_RULES_REFUSED_SHORT_FILE = 1,       /* under 8 bytes; 0 */
     ROUTE_RULES_REFUSED_SIZE = 2,             /* a size out of range; 0 */
@@ -68,7 +71,9 @@ enum {
     ROUTE_RULES_REFUSED_TEXT = 12,            /* text over 65,536 bytes: 0; or a line of another form or without a newline: that line */
     ROUTE_RULES_REFUSED_PREFERENCES = 13,     /* the task has preferences; 0 */
     ROUTE_RULES_REFUSED_SHORT_AREA = 14,      /* a domain or a problem longer than its area; 0 */
-    ROUTE_RULES_REFUSED_ARGUMENT = 15         /* cost over 8,796,093,020,160, or a met preference not below P; 0 */
+    ROUTE_RULES_REFUSED_ARGUMENT = 15,        /* cost over 8,796,093,020,160, or a met preference not below P; 0 */
+    ROUTE_RULES_REFUSED_PLANS = 18            /* a count of 0 or over 64, or a file of plans too short for its count, its arrays or a
+                                               * plan it names; 0 */
 };
 
 /* The four sizes of an accepted file: F, A, P and N. */
@@ -205,12 +210,35 @@ typedef struct route_rules_reported {
 uint32_t route_rules_report(const uint8_t *file, size_t file_length, const uint8_t *plan, size_t plan_length, uint8_t *out,
                             size_t out_length, route_rules_reported *answer);
 
-/* Every answer has eight words; the functions write them all. */
-typedef char route_rules_answers_have_eight_words[sizeof(route_rules_checked) == 64 && sizeof(route_rules_translated) == 64 &&
+/* The figures of a week's plans: how many solve, and over those, of the metrics the least, the greatest, the sum and the mean, as
+ * quotient and remainder, and for each preference how many meet it. Where no plan solves there are no such amounts, and all words
+ * are 0. */
+typedef struct route_rules_figures {
+    uint64_t place;
+    uint64_t solving;
+    uint64_t least;
+    uint64_t greatest;
+    uint64_t sum;
+    uint64_t mean;      /* sum = mean * solving + remainder */
+    uint64_t remainder; /* below solving */
+    uint64_t spare;
+    uint64_t meeting[ROUTE_RULES_MAX_PREFERENCES]; /* from P on: 0 */
+} route_rules_figures;
+
+/* Puts up to 64 plans for the task in a file into figures, or is refused by 1 to 6, 18, 10 or 11. The plans stand in a file of their
+ * own, little-endian: a count of 16 bits, then so many starts and so many lengths of 16 bits each, then the steps, a byte each, to
+ * its end. A start counts from the first step byte; plans may overlap. Start and length together are at most the number of step
+ * bytes, of a plan without steps too. A plan that misses a hard rule doesn't solve. */
+uint32_t route_rules_week(const uint8_t *file, size_t file_length, const uint8_t *plans, size_t plans_length,
+                          route_rules_figures *answer);
+
+/* Every other answer has eight words, that of a week has 24; the functions write them all. */
+typedef char route_rules_answers_have_their_words[sizeof(route_rules_checked) == 64 && sizeof(route_rules_translated) == 64 &&
                                                           sizeof(route_rules_spelled) == 64 &&
                                                           sizeof(route_rules_walked) == 64 && sizeof(route_rules_settled) == 64 &&
                                                           sizeof(route_rules_length) == 64 && sizeof(route_rules_texts) == 64 &&
-                                                          sizeof(route_rules_reported) == 64
+                                                          sizeof(route_rules_reported) == 64 &&
+                                                          sizeof(route_rules_figures) == 192
                                                       ? 1
                                                       : -1];
 

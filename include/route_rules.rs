@@ -3,7 +3,7 @@
 //! Take it into a crate as a module, and link `libroute_rules.a`: `rustc -L target/staticlib -l static=route_rules`.
 #![allow(dead_code)]
 
-/// Why a call was refused, and where: a row, a step, a line, or 0. The numbers are those of `refused`.
+/// Why a call was refused, and where: a row, a step, a line, a plan, or 0. The numbers are those of `refused`.
 #[derive(Clone, Copy, PartialEq, Eq, Debug)]
 pub struct Refusal {
     pub number: u32,
@@ -27,6 +27,7 @@ pub mod refused {
     pub const PREFERENCES: u32 = 13;
     pub const SHORT_AREA: u32 = 14;
     pub const ARGUMENT: u32 = 15;
+    pub const PLANS: u32 = 18;
 }
 
 /// The length of the longest task file: an output area of this length is never too short.
@@ -83,8 +84,25 @@ pub struct Worth {
     pub utility: i64,
 }
 
+/// The figures of a week of plans, one of which solves at least.
+#[derive(Clone, Copy, PartialEq, Eq, Debug)]
+pub struct Figures {
+    /// How many plans solve; what follows is over those.
+    pub solving: u64,
+    /// Of the metrics.
+    pub least: u64,
+    pub greatest: u64,
+    pub sum: u64,
+    /// `sum` is `mean * solving + remainder`.
+    pub mean: u64,
+    pub remainder: u64,
+    /// How many meet preference k; 0 where there is no such preference.
+    pub meeting: [u64; 16],
+}
+
 /// The words of an answer: the structs of the header.
 type Answer = [u64; 8];
+type WeekAnswer = [u64; 24];
 
 extern "C" {
     fn route_rules_check(file: *const u8, length: usize, answer: *mut Answer) -> u32;
@@ -155,6 +173,13 @@ extern "C" {
         out_length: usize,
         answer: *mut Answer,
     ) -> u32;
+    fn route_rules_week(
+        file: *const u8,
+        file_length: usize,
+        plans: *const u8,
+        plans_length: usize,
+        answer: *mut WeekAnswer,
+    ) -> u32;
 }
 
 /// A function that fills one area from another.
@@ -164,8 +189,10 @@ type Filling = unsafe extern "C" fn(*const u8, usize, *mut u8, usize, *mut Answe
 type Walking = unsafe extern "C" fn(*const u8, usize, *const u8, usize, *mut Answer) -> u32;
 
 /// The answer of a call that lends an answer area, or its refusal.
-fn answered(call: impl FnOnce(*mut Answer) -> u32) -> Result<Answer, Refusal> {
-    let mut answer = Answer::default();
+fn answered<const WORDS: usize>(
+    call: impl FnOnce(*mut [u64; WORDS]) -> u32,
+) -> Result<[u64; WORDS], Refusal> {
+    let mut answer = [0; WORDS];
     match call(&mut answer) {
         0 => Ok(answer),
         number => Err(Refusal {
@@ -301,4 +328,30 @@ pub fn report(file: &[u8], plan: &[u8], out: &mut [u8]) -> Result<usize, Refusal
         )
     })?;
     Ok(words[1] as usize)
+}
+
+/// The figures of up to 64 plans for the task in a file, none where no plan solves; or it is refused by 1 to 6, 18, 10 or 11. The
+/// plans stand in a file of their own, little-endian: a count, then so many starts and so many lengths, 16 bits each, then the steps.
+pub fn week(file: &[u8], plans: &[u8]) -> Result<Option<Figures>, Refusal> {
+    let words = answered(|answer| unsafe {
+        route_rules_week(
+            file.as_ptr(),
+            file.len(),
+            plans.as_ptr(),
+            plans.len(),
+            answer,
+        )
+    })?;
+    let [_, solving, least, greatest, sum, mean, remainder, ..] = words;
+    let mut meeting = [0; 16];
+    meeting.copy_from_slice(&words[8..]);
+    Ok((solving > 0).then_some(Figures {
+        solving,
+        least,
+        greatest,
+        sum,
+        mean,
+        remainder,
+        meeting,
+    }))
 }
