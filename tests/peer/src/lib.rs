@@ -1,6 +1,7 @@
 //! Task files with soft and hard rules: check a file, give it its one spelling, walk a
-//! plan on it, settle what that is worth, translate it into a classical task, write that
-//! as PDDL. Written plainly from the specification, to compare another implementation with.
+//! plan on it, settle what that is worth, put a week of plans into figures, translate it
+//! into a classical task, write that as PDDL. Written plainly from the specification, to
+//! compare another implementation with.
 
 pub mod decode;
 pub mod encode;
@@ -14,6 +15,7 @@ pub mod task;
 pub mod text;
 pub mod translate;
 pub mod walk;
+pub mod week;
 
 pub use decode::{check, decode, Sizes};
 pub use encode::encode;
@@ -24,8 +26,9 @@ pub use spelling::{alike, spell};
 pub use task::{Action, Clause, Condition, Effect, Kind, Literal, Preference, Task};
 pub use translate::{complete, translate, translated};
 pub use walk::{verdict, walk, walked, Verdict, Walked};
+pub use week::{week, week_text, Figures};
 
-/// Why something is refused, and where: a row, a step, or 0.
+/// Why something is refused, and where: a row, a step, a line, a plan, or 0.
 #[derive(Clone, Copy, PartialEq, Eq, Debug)]
 pub struct Refusal {
     pub number: u8,

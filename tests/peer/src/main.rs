@@ -3,7 +3,8 @@
 use peer::random::{arguments, case, MAX_FILE};
 use peer::settle::is_met;
 use peer::{
-    check, decode, pddl, refused_text, report, settle, spell, translate, walk, Refusal, Verdict,
+    check, decode, pddl, refused_text, report, settle, spell, translate, walk, week_text, Refusal,
+    Verdict,
 };
 use std::collections::BTreeMap;
 use std::fs;
@@ -11,6 +12,7 @@ use std::fs;
 const USAGE: &str = "usage:
   peer check FILE
   peer judge TASK PLAN
+  peer week TASK PLANS
   peer translate TASK OUT
   peer spell TASK OUT
   peer pddl TASK DOMAIN PROBLEM
@@ -35,7 +37,8 @@ fn main() {
 fn answer(words: &[&str]) -> Option<String> {
     match words {
         ["check", file] => Some(check_file(file)),
-        ["judge", task, plan] => Some(judge_files(task, plan)),
+        ["judge", task, plan] => Some(two_files(report, task, plan)),
+        ["week", task, plans] => Some(two_files(week_text, task, plans)),
         ["translate", task, out] => Some(write_file(translate, task, out)),
         ["spell", task, out] => Some(write_file(spell, task, out)),
         ["pddl", task, domain, problem] => Some(write_pddl(task, domain, problem)),
@@ -58,11 +61,12 @@ fn check_file(path: &str) -> String {
     }
 }
 
-fn judge_files(task: &str, plan: &str) -> String {
-    let (Ok(task), Ok(plan)) = (fs::read(task), fs::read(plan)) else {
+/// The lines about a task and another file.
+fn two_files(lines: fn(&[u8], &[u8]) -> String, task: &str, other: &str) -> String {
+    let (Ok(task), Ok(other)) = (fs::read(task), fs::read(other)) else {
         return NO_FILE.to_string();
     };
-    report(&task, &plan)
+    lines(&task, &other)
 }
 
 /// An operation that makes a task file, with the room that it is given.

@@ -1,11 +1,13 @@
 //! Random cases by seed: a task file, often damaged, a plan and an output room.
 //! Shapes and choices are weighed so that every answer comes up often.
 
+use crate::decode::decode;
 use crate::encode::{encode, rows, to_bytes, Row};
 use crate::meaning::{after, condition_true, opening, State};
 use crate::spelling::{lists, List};
 use crate::task::*;
 use crate::translate::{deadline_facts, translate, translated};
+use crate::week::{joined, MAX_PLANS};
 
 /// The length of the longest accepted file.
 pub const MAX_FILE: usize = 8 + 5 * MAX_ROWS;
@@ -80,6 +82,76 @@ fn met_set(r: &mut Random, preferences: usize) -> u64 {
             ])
         }
     }
+}
+
+/// A file of plans for the task of a case: its plan, beginnings of it, plans of chance and
+/// pieces of all these, which overlap; and now and then a damaged one.
+pub fn plans(seed: u64, case: &Case) -> Vec<u8> {
+    let r = &mut Random::new(seed ^ 0x7EEC);
+    let (mut steps, mut whole) = (case.plan.clone(), vec![(0, case.plan.len())]);
+    steps.truncate(MAX_STEPS + 2);
+    whole[0].1 = steps.len();
+    if let Ok(task) = decode(&case.file) {
+        for _ in 0..r.between(0, 4) {
+            let length = r.between(0, 6);
+            let (more, _) = plan(r, &task, length);
+            whole.push((steps.len(), more.len()));
+            steps.extend(more);
+        }
+    }
+    let many = r.between(1, MAX_PLANS);
+    let count = r.pick(&[1, 2, 3, 4, 6, many, MAX_PLANS]);
+    let mut entries: Vec<(usize, usize)> = (0..count).map(|_| r.pick(&whole)).collect();
+    for entry in &mut entries {
+        match r.below(20) {
+            0 => *entry = (entry.0, r.between(0, entry.1)),
+            1 => {
+                let start = r.between(0, steps.len());
+                *entry = (start, r.between(0, (steps.len() - start).min(8)));
+            }
+            _ => {}
+        }
+    }
+    if r.chance(4) {
+        let length = MAX_STEPS + r.below(2);
+        steps.resize(steps.len().max(length), 0);
+        let at = r.below(count);
+        entries[at] = (r.between(0, steps.len() - length), length);
+    }
+    match r.chance(15) {
+        true => damaged_plans(r, entries, steps),
+        false => joined(&entries, &steps),
+    }
+}
+
+/// A file of plans with one fault in it, or something at the edge of one.
+fn damaged_plans(r: &mut Random, mut entries: Vec<(usize, usize)>, mut steps: Vec<u8>) -> Vec<u8> {
+    let (at, end) = (r.below(entries.len()), steps.len());
+    match r.below(8) {
+        // At the end and past it, without steps and with one.
+        0 => entries[at] = (end, 0),
+        1 => entries[at] = (end + 1, 0),
+        2 => entries[at] = (end, 1),
+        3 => entries[at] = (r.between(0, 65_535), r.between(0, 65_535)),
+        4 if end > 0 => {
+            let (step, any) = (r.below(end), r.between(0, 255));
+            steps[step] = r.pick(&[any, 255, 128]) as u8;
+        }
+        5 => {
+            let length = r.between(0, 2 + 4 * entries.len());
+            let mut file = joined(&entries, &steps);
+            file.truncate(length);
+            return file;
+        }
+        _ => {
+            let any = r.between(0, 65_535);
+            let count = r.pick(&[0, 64, 65, 256, 257, entries.len() + 1, any]) as u16;
+            let mut file = joined(&entries, &steps);
+            file[..2].copy_from_slice(&count.to_le_bytes());
+            return file;
+        }
+    }
+    joined(&entries, &steps)
 }
 
 /// A small source of random numbers (splitmix64).
