@@ -1,4 +1,4 @@
-/* check, walk, settle, translate and spell in C, written from documents 01 and 02 for speed, to measure the library beside. The
+/* check, walk, settle, week, translate and spell in C, written from documents 01 and 02 for speed, to measure the library beside. The
  * answers are those of include/route_rules.h.
  *
  * plain_ reads the rows where they lie: parts of a file are found once, a condition is left as soon as it is decided, parts of
@@ -321,31 +321,39 @@ static void watch_all(const Task *t, Monitor *m, int last, State s, uint64_t *lo
     }
 }
 
-uint32_t plain_walk(const uint8_t *file, size_t length, const uint8_t *plan, size_t steps, uint64_t answer[8])
+/* A walk of a plan of known steps on an accepted file. */
+static void walk(const Task *t, const uint8_t *plan, size_t steps, uint64_t answer[8])
 {
-    Task t;
     Monitor m[16] = {{0, 0, 0}};
-    memset(answer, 0, 64);
-    if (!check(&t, file, length) || !admitted(&t, plan, steps)) {
-        answer[0] = t.place;
-        return t.number;
-    }
-    State s = opening(&t);
+    State s = opening(t);
     uint64_t cost = 0, looked = 0;
     for (size_t i = 0; i < steps; i++) {
-        uint32_t at = t.action[plan[i]], from = at + 1;
-        watch_all(&t, m, 0, s, &looked);
-        if (!condition_true(&t, &from, s, &looked)) return stopped(i, looked, answer);
-        cost += value_at(&t, at);
-        s = after(&t, from, t.action[plan[i] + 1], s, &looked);
+        uint32_t at = t->action[plan[i]], from = at + 1;
+        watch_all(t, m, 0, s, &looked);
+        if (!condition_true(t, &from, s, &looked)) {
+            stopped(i, looked, answer);
+            return;
+        }
+        cost += value_at(t, at);
+        s = after(t, from, t->action[plan[i] + 1], s, &looked);
     }
-    watch_all(&t, m, 1, s, &looked);
-    if (true_at(&t, t.goal + 1, s, &looked))
-        solved(&t, m, cost, answer);
+    watch_all(t, m, 1, s, &looked);
+    if (true_at(t, t->goal + 1, s, &looked))
+        solved(t, m, cost, answer);
     else
         answer[1] = ROUTE_RULES_GOAL_MISSED;
     answer[5] = looked;
-    return 0;
+}
+
+uint32_t plain_walk(const uint8_t *file, size_t length, const uint8_t *plan, size_t steps, uint64_t answer[8])
+{
+    Task t;
+    memset(answer, 0, 64);
+    if (check(&t, file, length) && admitted(&t, plan, steps))
+        walk(&t, plan, steps, answer);
+    else
+        answer[0] = t.place;
+    return t.number;
 }
 
 /* The same with tables. A literal is its fact, and 128 more where the fact is to lack. */
@@ -495,6 +503,69 @@ uint32_t plain_settle(const uint8_t *file, size_t length, uint64_t cost, uint64_
     }
     answer[1] = cost + lost;
     answer[2] = gained - cost;
+    return 0;
+}
+
+/* ---- week */
+
+/* A file of plans: a count, starts, lengths, and the steps. */
+typedef struct { const uint8_t *starts, *lengths, *steps; uint32_t count; size_t room; } Plans;
+
+static inline uint32_t half_at(const uint8_t *at) { return at[0] | at[1] << 8; }
+
+static int read_plans(Plans *p, const uint8_t *plans, size_t length)
+{
+    if (length < 2) return 0;
+    p->count = half_at(plans);
+    if (p->count < 1 || p->count > ROUTE_RULES_MAX_PLANS || length < 2 + 4 * (size_t)p->count) return 0;
+    p->starts = plans + 2;
+    p->lengths = p->starts + 2 * p->count;
+    p->steps = p->lengths + 2 * p->count;
+    p->room = length - 2 - 4 * (size_t)p->count;
+    for (uint32_t i = 0; i < p->count; i++)
+        if ((size_t)half_at(p->starts + 2 * i) + half_at(p->lengths + 2 * i) > p->room) return 0;
+    return 1;
+}
+
+/* One more plan that solves: a preference is met, or its weight is paid. */
+static void count_plan(const Task *t, uint64_t metric, uint64_t met, uint64_t answer[24])
+{
+    for (uint32_t k = 0; k < t->preferences; k++)
+        if (met >> k & 1)
+            answer[8 + k]++;
+        else
+            metric += value_at(t, t->side[k].open);
+    if (answer[1] == 0 || metric < answer[2]) answer[2] = metric;
+    if (metric > answer[3]) answer[3] = metric;
+    answer[1]++;
+    answer[4] += metric;
+}
+
+static uint32_t refused_week(uint32_t number, uint64_t place, uint64_t answer[24])
+{
+    memset(answer, 0, 192);
+    answer[0] = place;
+    return number;
+}
+
+uint32_t plain_week(const uint8_t *file, size_t length, const uint8_t *plans, size_t plans_length, uint64_t answer[24])
+{
+    Task t;
+    Plans p;
+    memset(answer, 0, 192);
+    if (!check(&t, file, length)) return refused_week(t.number, t.place, answer);
+    if (!read_plans(&p, plans, plans_length)) return ROUTE_RULES_REFUSED_PLANS;
+    for (uint32_t i = 0; i < p.count; i++) {
+        const uint8_t *plan = p.steps + half_at(p.starts + 2 * i);
+        uint32_t steps = half_at(p.lengths + 2 * i);
+        uint64_t walked[8] = {0};
+        if (!admitted(&t, plan, steps)) return refused_week(t.number, i, answer);
+        walk(&t, plan, steps, walked);
+        if (walked[1] == ROUTE_RULES_SOLVED) count_plan(&t, walked[3], walked[4], answer);
+    }
+    if (answer[1] == 0) return 0;
+    answer[5] = answer[4] / answer[1];
+    answer[6] = answer[4] % answer[1];
     return 0;
 }
 

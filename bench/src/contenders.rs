@@ -1,7 +1,7 @@
 //! The implementations beside each other, all with the answers of include/route_rules.h.
 
 use crate::inputs::Input;
-use peer::{text, Refusal, Sizes, Verdict, Walked, Worth};
+use peer::{text, Figures, Refusal, Sizes, Verdict, Walked, Worth};
 
 /// What a call returns, and the words of its answer.
 pub type Answer = (u32, [u64; 8]);
@@ -18,6 +18,7 @@ type Words = *mut [u64; 8];
 type Check = unsafe extern "C" fn(*const u8, usize, Words) -> u32;
 type Walk = unsafe extern "C" fn(*const u8, usize, *const u8, usize, Words) -> u32;
 type Settle = unsafe extern "C" fn(*const u8, usize, u64, u64, Words) -> u32;
+type Week = unsafe extern "C" fn(*const u8, usize, *const u8, usize, *mut [u64; 24]) -> u32;
 type Write = unsafe extern "C" fn(*const u8, usize, *mut u8, usize, Words) -> u32;
 type Report =
     unsafe extern "C" fn(*const u8, usize, *const u8, usize, *mut u8, usize, Words) -> u32;
@@ -55,6 +56,12 @@ functions! {
     tuned_translate(*const u8, usize, *mut u8, usize);
 }
 
+// The answer of a week has more words.
+extern "C" {
+    fn route_rules_week(_: *const u8, _: usize, _: *const u8, _: usize, _: *mut [u64; 24]) -> u32;
+    fn plain_week(_: *const u8, _: usize, _: *const u8, _: usize, _: *mut [u64; 24]) -> u32;
+}
+
 // ---- answers of the Rust as words
 
 fn refused(refusal: Refusal) -> Answer {
@@ -80,6 +87,22 @@ fn walked(walked: Walked) -> Answer {
 
 fn settled(worth: Worth) -> Answer {
     (0, [0, worth.metric, worth.utility as u64, 0, 0, 0, 0, 0])
+}
+
+/// Of 24 words eight at a time.
+fn in_three(number: u32, words: [u64; 24]) -> [Answer; 3] {
+    let eight = |n: usize| words[8 * n..8 * n + 8].try_into().expect("eight words");
+    [(number, eight(0)), (number, eight(1)), (number, eight(2))]
+}
+
+fn figures(figures: Option<Figures>) -> [Answer; 3] {
+    let mut words = [0; 24];
+    if let Some(f) = figures {
+        let amounts = [f.solving, f.least, f.greatest, f.sum, f.mean, f.remainder];
+        words[1..7].copy_from_slice(&amounts);
+        words[8..8 + f.meeting.len()].copy_from_slice(&f.meeting);
+    }
+    in_three(0, words)
 }
 
 /// The Rust makes an area of its own, and its bytes are copied.
@@ -160,6 +183,22 @@ pub fn settle(who: usize, file: &[u8], cost: u64, met: u64) -> Answer {
 pub fn walk_and_settle(who: usize, input: &Input) -> [Answer; 2] {
     let walked = walk(who, input);
     [walked, settle(who, &input.file, walked.1[3], walked.1[4])]
+}
+
+/// The figures of a week.
+pub fn week(who: usize, input: &Input) -> [Answer; 3] {
+    let (file, plans) = (&input.file, &input.plans);
+    let call = |week: Week| {
+        let mut words = [0; 24];
+        let (from, of) = (file.as_ptr(), plans.as_ptr());
+        let number = unsafe { week(from, file.len(), of, plans.len(), &mut words) };
+        in_three(number, words)
+    };
+    match who {
+        0 => call(route_rules_week),
+        1 => peer::week(file, plans).map_or_else(|why| [refused(why); 3], figures),
+        _ => call(plain_week),
+    }
 }
 
 pub fn translate(who: usize, input: &Input, areas: &mut Areas) -> Answer {

@@ -2,6 +2,7 @@
 
 use peer::random::{task_and_plan, Random, Shape, MAX_FILE};
 use peer::task::{MAX_DEADLINE, MAX_ROWS};
+use peer::week::{joined, split, MAX_PLANS};
 use peer::{
     encode, pddl, text, translate, translated, verdict, walk, Action, Clause, Condition, Effect,
     Kind, Literal, Preference, Task, Verdict,
@@ -9,12 +10,13 @@ use peer::{
 use std::fs;
 use std::path::Path;
 
-/// A task file and a plan, with its text, and what it costs and meets where it solves.
+/// A task file and a plan, with its text, what it costs and meets where it solves, and a week in which it comes as often as it may.
 pub struct Input {
     pub name: String,
     pub file: Vec<u8>,
     pub plan: Vec<u8>,
     pub text: Vec<u8>,
+    pub plans: Vec<u8>,
     pub cost: u64,
     pub met: u64,
 }
@@ -29,6 +31,7 @@ impl Input {
             ("file", &self.file),
             ("plan", &self.plan),
             ("text", &self.text),
+            ("plans", &self.plans),
             ("amounts", &amounts),
         ] {
             fs::write(folder.join(name), bytes).expect("a file");
@@ -47,10 +50,19 @@ impl Input {
             file: read("file"),
             plan: read("plan"),
             text: read("text"),
+            plans: read("plans"),
             cost: amount(0),
             met: amount(8),
         };
         (String::from_utf8(read("operation")).expect("a name"), input)
+    }
+}
+
+impl Input {
+    /// The steps of the week's plans together.
+    pub fn planned_steps(&self) -> u64 {
+        let plans = split(&self.plans).expect("plans");
+        plans.iter().map(|plan| plan.len() as u64).sum()
     }
 }
 
@@ -62,6 +74,7 @@ fn of_file(name: &str, file: Vec<u8>, plan: Vec<u8>) -> Input {
     Input {
         name: name.to_string(),
         text: text::write(&plan, text::MAX_TEXT).expect("a text"),
+        plans: joined(&[(0, plan.len()); MAX_PLANS], &plan),
         file,
         plan,
         cost,

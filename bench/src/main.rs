@@ -30,7 +30,7 @@ fn areas(filled: u8) -> Areas {
 fn agree(operation: Operation, input: &Input) {
     let result = |who| {
         let mut areas = areas(0xA5);
-        let answers: [Answer; 2] = operation.call(who, input, &mut areas);
+        let answers: [Answer; 3] = operation.call(who, input, &mut areas);
         (answers, areas.out, areas.other)
     };
     let first = result(0);
@@ -76,6 +76,15 @@ fn lines() -> Vec<(Operation, Vec<Input>)> {
         ),
         (Walk, walked()),
         (Settle, walked()),
+        (
+            Week,
+            vec![
+                belt(),
+                middle(),
+                inputs::in_preferences(12_000, 32),
+                each_in_turn(),
+            ],
+        ),
         (
             Translate,
             vec![
@@ -170,6 +179,11 @@ fn series() -> Vec<Series> {
             Walk,
             "number of the action, 2,048 steps",
             grown(by_action, &[0, 31, 63, 95, 127]),
+        ),
+        (
+            Week,
+            "steps of each of 64 plans, 12,000 rows",
+            grown(by_steps, &[2, 4, 8, 16, 32]),
         ),
         (
             Pddl,

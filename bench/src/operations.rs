@@ -9,6 +9,7 @@ pub enum Operation {
     WalkAndSettle,
     Walk,
     Settle,
+    Week,
     Translate,
     Spell,
     Pddl,
@@ -20,11 +21,12 @@ pub enum Operation {
 
 use Operation::*;
 
-pub const ALL: [Operation; 11] = [
+pub const ALL: [Operation; 12] = [
     Check,
     WalkAndSettle,
     Walk,
     Settle,
+    Week,
     Translate,
     Spell,
     Pddl,
@@ -41,6 +43,7 @@ impl Operation {
             WalkAndSettle => "walk and settle",
             Walk => "walk",
             Settle => "settle",
+            Week => "week",
             Translate => "translate",
             Spell => "spell",
             Pddl => "pddl",
@@ -59,23 +62,26 @@ impl Operation {
         }
     }
 
-    pub fn call(self, who: usize, input: &Input, areas: &mut Areas) -> [Answer; 2] {
+    /// Its answers; only that of a week has words in all three.
+    pub fn call(self, who: usize, input: &Input, areas: &mut Areas) -> [Answer; 3] {
         let none = (0, [0; 8]);
+        let one = |answer| [answer, none, none];
         match self {
-            Check => [contenders::check(who, input), none],
-            WalkAndSettle => contenders::walk_and_settle(who, input),
-            Walk => [contenders::walk(who, input), none],
-            Settle => [
-                contenders::settle(who, &input.file, input.cost, input.met),
-                none,
-            ],
-            Translate => [contenders::translate(who, input, areas), none],
-            Spell => [contenders::spell(who, input, areas), none],
-            Pddl => [contenders::pddl(who, input, areas), none],
-            ReadPlan => [contenders::read_plan(who, input, areas), none],
-            WritePlan => [contenders::write_plan(who, input, areas), none],
-            WalkText => [contenders::walk_text(who, input), none],
-            Report => [contenders::report(who, input, areas), none],
+            Check => one(contenders::check(who, input)),
+            WalkAndSettle => {
+                let [walked, settled] = contenders::walk_and_settle(who, input);
+                [walked, settled, none]
+            }
+            Walk => one(contenders::walk(who, input)),
+            Settle => one(contenders::settle(who, &input.file, input.cost, input.met)),
+            Week => contenders::week(who, input),
+            Translate => one(contenders::translate(who, input, areas)),
+            Spell => one(contenders::spell(who, input, areas)),
+            Pddl => one(contenders::pddl(who, input, areas)),
+            ReadPlan => one(contenders::read_plan(who, input, areas)),
+            WritePlan => one(contenders::write_plan(who, input, areas)),
+            WalkText => one(contenders::walk_text(who, input)),
+            Report => one(contenders::report(who, input, areas)),
         }
     }
 
@@ -89,6 +95,7 @@ impl Operation {
                 _ => (rows, "rows"),
             },
             ReadPlan | WritePlan => (input.plan.len() as u64, "steps"),
+            Week => (input.planned_steps(), "steps"),
             WalkAndSettle | Walk | WalkText | Report => {
                 (Walk.call(0, input, areas)[0].1[5], "literals")
             }

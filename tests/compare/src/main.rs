@@ -8,10 +8,12 @@ mod library;
 mod pddl;
 mod settling;
 mod spelling;
+mod stored;
 mod tally;
 mod texts;
 mod translating;
 mod walking;
+mod weekly;
 
 use std::process::exit;
 
@@ -30,6 +32,9 @@ fn main() {
         .and_then(|()| spelling::edges())
         .and_then(|()| spelling::compare(first, count))
         .and_then(|()| spelling::properties(first, count / 4))
+        .and_then(|()| weekly::edges())
+        .and_then(|()| weekly::vectors())
+        .and_then(|()| weekly::compare(first, count / 4))
         .and_then(|()| texts::compare(first, count))
         .and_then(|()| pddl::edges())
         .and_then(|()| pddl::compare(first, count / 10));
