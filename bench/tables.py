@@ -109,10 +109,10 @@ def fuzzed():
     cells = []
     for name, *numbers in reached(log):
         counts = [(number, f'{int(count):,}') for number, count in (word.split(':') for word in numbers)]
-        answered = '' if name == 'verdicts' else counts.pop(0)[1]
+        answered = counts.pop(0)[1] if counts[0][0] == '0' else ''  # verdicts and the like have no refusals
         cells.append([name, answered, ', '.join(f'{number}: {count}' for number, count in counts)])
-    return f'{executions:,} executions, {clean}. How often each operation answered, and gave each refusal, or walk each verdict:\n\n' + table(
-        ['operation', 'answered', 'refused, by number'], cells)
+    return f'{executions:,} executions, {clean}. How often each operation answered, and gave each refusal; then which answers came:\n\n' + table(
+        ['operation', 'answered', 'refused, by number, or which answer'], cells)
 
 
 def coverage():

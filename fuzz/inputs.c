@@ -24,6 +24,49 @@ static size_t make_plan(Data *d, uint8_t *plan, int any)
     return length;
 }
 
+static void put_size(uint8_t *at, uint32_t size)
+{
+    at[0] = size & 255;
+    at[1] = size >> 8;
+}
+
+/* ---- plans of a week */
+
+/* A start near the first steps or near the end, and a length from there: none, up to the end, a step less or more, or any. */
+static size_t start_from(uint8_t byte, size_t steps)
+{
+    if (byte < 128) return byte % 4;
+    return byte < 224 ? steps + 1 - (steps > 1 ? byte % 4 : 0) : 257u * byte;
+}
+
+static size_t length_from(uint8_t byte, size_t start, size_t steps)
+{
+    size_t rest = start < steps ? steps - start : 0;
+    if (byte < 32) return 0;
+    if (byte < 192) return byte % 3 == 0 && rest > 0 ? rest - 1 : rest + (byte % 16 == 1);
+    return byte < 248 ? byte % 8 : 257u * byte;
+}
+
+/* A count, and so many starts and lengths over the plan's steps, from eight pairs of bytes at most; perhaps with a higher byte in
+ * the count, or cut. */
+static size_t make_plans(Data *d, const uint8_t *plan, size_t steps, uint8_t *plans)
+{
+    uint8_t first = next(d), how = next(d), count = first % 68, given = count < 8 ? count : 8;
+    uint8_t *starts = plans + 2, *lengths = starts + 2 * count;
+    size_t made = 2 + 4 * (size_t)count;
+    put_size(plans, count + (how % 16 == 15 ? 256 : 0));
+    for (uint8_t i = 0; i < count; i++) {
+        uint8_t from = i < given ? next(d) : 0, to = i < given ? next(d) : 0;
+        size_t start = start_from(from, steps), length = length_from(to, start, steps);
+        put_size(starts + 2 * i, i < given ? start : (size_t)(starts[2 * (i % given)] | starts[2 * (i % given) + 1] << 8));
+        put_size(lengths + 2 * i, i < given ? length : (size_t)(lengths[2 * (i % given)] | lengths[2 * (i % given) + 1] << 8));
+    }
+    memcpy(plans + made, plan, steps);
+    made += steps;
+    if (how % 16 == 14) return how / 16 < made ? how / 16 : made;
+    return how % 16 == 13 ? made - 1 : made;
+}
+
 /* ---- texts */
 
 /* Lines that are none, or look as if they were none. */
@@ -120,12 +163,6 @@ static uint32_t wide(uint8_t mark, uint8_t value)
         if (mark >= HARD_ALWAYS) return value == 255;
         return value * 16843009u; /* the byte four times: the greatest amount from 255 */
     }
-}
-
-static void put_size(uint8_t *at, uint32_t size)
-{
-    at[0] = size & 255;
-    at[1] = size >> 8;
 }
 
 /* Rows with the sizes that fit them. Each literal stands there so many times. */
@@ -275,6 +312,7 @@ void make_input(Input *in, const uint8_t *bytes, size_t size)
     for (int i = 0; i < 3; i++) three[i] = next(&d);
     in->steps = make_plan(&d, in->plan, choice & ANY_STEPS);
     in->text_length = make_text(&d, in->text, choice & MADE_TEXT);
+    in->plans_length = make_plans(&d, in->plan, in->steps, in->plans);
     in->file_length = (choice & TASK_FILE ? task_file : choice & MADE_FILE ? make_file : copy_file)(&d, in->file);
     in->met = make_met(three, choice & CUT_MET, in->file, in->file_length);
 }

@@ -18,11 +18,13 @@ BYTE_SHORT, SMALL, EXACT, MORE = 0, 1, 2, 3
 LONG_PLAN, LONGEST_PLAN = 253, 252  # 2,049 steps and 2,048
 FILLED, CUT, BOTH = 15, 14, 13      # a text is filled up, loses its last byte, or both
 
+WHOLE = (3, 0, 0, 32, 0, 32, 0, 0)  # the whole plan twice, and one without steps
 
-def seed(data, plan=b'\0', text=b'(a0)\n', choice=0, room=EXACT, cost=(0, 3), met=(2, 0, 255), how=0, steps=None):
-    """An input: a file, a plan (`steps` is the byte of its length), a text, and what else fuzz/inputs.c reads."""
+
+def seed(data, plan=b'\0', text=b'(a0)\n', choice=0, room=EXACT, cost=(0, 3), met=(2, 0, 255), how=0, steps=None, week=WHOLE):
+    """An input: a file, a plan (`steps` is the byte of its length), a text, a week's plans, and what else fuzz/inputs.c reads."""
     rooms = [room] * 7 if isinstance(room, int) else room
-    return bytes([choice, *rooms, *cost, *met, len(plan) if steps is None else steps, *plan, how, len(text), *text]) + data
+    return bytes([choice, *rooms, *cost, *met, len(plan) if steps is None else steps, *plan, how, len(text), *text, *week]) + data
 
 
 def made(rows, facts, repeat=0):
@@ -136,17 +138,40 @@ def spellings():
         yield seed(file('GOAL CLAUSE HOLDS 1 LACKS 1 HOLDS 0 CLAUSE LACKS 2 HOLDS 2 LACKS 2'), room=room)
 
 
+def weeks():
+    """Counts, starts and lengths at their edges over short plans and long ones, cut files, and weeks in which some plans solve."""
+    belt = file(BELT, F=2)
+    for count in (0, 1, 2, 8, 63, 64, 65):
+        yield seed(belt, week=(count, 0, *(0, 32) * min(count, 8)))
+        yield seed(belt, week=(count, 15, *(0, 32) * min(count, 8)))
+    for start in (0, 1, 2, 128, 129, 130, 131, 224, 255):
+        for length in (0, 32, 33, 34, 49, 192, 255):
+            yield seed(belt, plan=b'\0\1\0', week=(1, 0, start, length))
+            yield seed(belt, plan=b'\0\1\0', week=(2, 0, 0, 32, start, length))
+    for how in (13, 14, 30, 46, 254):
+        yield seed(belt, week=(2, how, 0, 32, 0, 32))
+    for steps in (LONGEST_PLAN, LONG_PLAN):
+        for plan in (b'\0' * 8, b'\0' * 7 + b'\3'):                               # 10, 11, and 10 before 11
+            yield seed(belt, plan=plan, steps=steps, week=(2, 0, 0, 0, 0, 32))
+            yield seed(belt, plan=plan, steps=steps, week=(64, 0, 0, 33, 1, 32, 2, 34))
+    for plans in ((0, 32, 1, 32, 2, 32, 1, 0), (2, 33, 0, 32, 1, 193, 0, 33)):
+        yield seed(belt, plan=b'\1\0\1\0', week=(4, 0, *plans))
+        yield seed(file('GOAL ACTION 3 EFFECT ADD 0 ACTION 1 hard-at-end CLAUSE LACKS 0 sometime 9 CLAUSE HOLDS 0'), plan=b'\1\0\1\0',
+                   week=(4, 0, *plans))
+
+
 def chance_tasks():
     """Chance tasks in the order of rows, with plans of their first actions."""
     chance = random.Random(1)
     for _ in range(120):
         plan = bytes(chance.randrange(3) for _ in range(chance.randrange(8)))
-        yield seed(chance.randbytes(250), plan=plan, text=plan, choice=TASK_FILE + MADE_TEXT + chance.randrange(2))
+        week = (6, 0, 0, 32, 1, 32, 2, 32, 0, 33, 0, 0, 1, 193)
+        yield seed(chance.randbytes(250), plan=plan, text=plan, choice=TASK_FILE + MADE_TEXT + chance.randrange(2), week=week)
 
 
 def main(folder):
     os.makedirs(folder, exist_ok=True)
-    for group in (examples, refusals, texts, kinds, values, spellings, chance_tasks):
+    for group in (examples, refusals, texts, kinds, values, spellings, weeks, chance_tasks):
         for number, data in enumerate(group()):
             with open(os.path.join(folder, f'{group.__name__}_{number}'), 'wb') as out:
                 out.write(data)

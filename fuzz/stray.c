@@ -83,3 +83,13 @@ uint32_t route_rules_report(const uint8_t *file, size_t file_length, const uint8
     if (STRAY == 10 && plan_length > 0) ((uint8_t *)(uintptr_t)plan)[0] ^= 1; /* writes what is only read */
     return number;
 }
+
+uint32_t route_rules_week(const uint8_t *file, size_t file_length, const uint8_t *plans, size_t plans_length,
+                          route_rules_figures *answer)
+{
+    uint64_t words[24];
+    uint32_t number = plain_week(file, file_length, plans, plans_length, words);
+    if (STRAY == 21 && plans_length > 0) seen = plans[plans_length]; /* reads past the plans */
+    memcpy(answer, words, STRAY == 22 ? 184 : 192);                  /* leaves the last word as it was */
+    return number;
+}

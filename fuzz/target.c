@@ -7,10 +7,10 @@
 #include <stdlib.h>
 #include <string.h>
 
-enum { CHECK, TRANSLATE, SPELL, WALK, SETTLE, READ_PLAN, WRITE_PLAN, WALK_TEXT, PDDL, REPORT, OPERATIONS, REFUSALS = 16 };
+enum { CHECK, TRANSLATE, SPELL, WALK, SETTLE, READ_PLAN, WRITE_PLAN, WALK_TEXT, PDDL, REPORT, WEEK, OPERATIONS, REFUSALS = 19 };
 
 static const char *const NAMES[OPERATIONS] = {"check", "translate", "spell", "walk", "settle", "read_plan", "write_plan",
-                                              "walk_text", "pddl", "report"};
+                                              "walk_text", "pddl", "report", "week"};
 
 /* The refusals of each operation, bit n for number n. */
 #define OF_FILE 0x7eu
@@ -25,23 +25,24 @@ static const uint32_t ALLOWED[OPERATIONS] = {
     OF_FILE | 1 << 12 | 1 << 10 | 1 << 11,
     OF_FILE | 1 << 13 | 1 << 14,
     OF_FILE | 1 << 10 | 1 << 11 | 1 << 9,
+    OF_FILE | 1 << 18 | 1 << 10 | 1 << 11,
 };
 
-static Pages file_pages, plan_pages, text_pages, made_pages, out_pages, other_pages, answer_pages;
+static Pages file_pages, plan_pages, plans_pages, text_pages, made_pages, out_pages, other_pages, answer_pages;
 
 /* Bytes that C wrote. */
 static uint8_t expected[ROUTE_RULES_MAX_PDDL], expected_problem[ROUTE_RULES_MAX_PDDL];
 
-/* How often each operation gave each number, and walk each verdict. */
-static uint64_t numbers[OPERATIONS][REFUSALS], verdicts[5];
+/* How often each operation gave each number, walk each verdict, and a week figures or none. */
+static uint64_t numbers[OPERATIONS][REFUSALS], verdicts[5], weeks[2];
 
 static void same_answer(int operation, uint32_t number, Area answer, uint32_t expected_number, const uint64_t *words)
 {
     guarded(answer);
-    if (number != expected_number || memcmp(answer.at, words, 64) != 0) fail("another answer");
+    if (number != expected_number || memcmp(answer.at, words, answer.length) != 0) fail("another answer");
     if (number >= REFUSALS || (number != 0 && !(ALLOWED[operation] >> number & 1))) fail("a refusal of another operation");
     numbers[operation][number]++;
-    for (int i = 1; i < 8; i++)
+    for (size_t i = 1; i < answer.length / 8; i++)
         if (number != 0 && words[i] != 0) fail("a refusal with more than a place");
     if (number == 0 && words[0] != 0) fail("an answer with a place");
 }
@@ -75,6 +76,28 @@ static void try_walk(Area file, Area plan, int at_end)
     if (number == 0) verdicts[words[1]]++;
     if (words[5] > (plan.length + 1) * (file.length / 5)) fail("more literals than rows in all states");
     if (words[1] == ROUTE_RULES_SOLVED && try_settle(file, words[3], words[4], at_end) != 0) fail("a solution that is not settled");
+}
+
+/* Of a week with figures: quotient and remainder give back the sum, the mean is between the ends, no count is over the number that
+ * solve. */
+static void try_figures(const uint64_t words[24])
+{
+    uint64_t solving = words[1], mean = words[5];
+    if (mean * solving + words[6] != words[4] || words[6] >= solving) fail("a mean that is none");
+    if (words[2] > mean || mean > words[3]) fail("a mean outside the metrics");
+    for (int k = 0; k < 16; k++)
+        if (words[8 + k] > solving) fail("more plans meet a preference than solve");
+}
+
+static void try_week(Area file, Area plans, int at_end)
+{
+    uint64_t words[24];
+    Area answer = lend(answer_pages, 192, at_end);
+    uint32_t number = route_rules_week(file.at, file.length, plans.at, plans.length, (route_rules_figures *)answer.at);
+    same_answer(WEEK, number, answer, plain_week(file.at, file.length, plans.at, plans.length, words), words);
+    if (number != 0) return;
+    weeks[words[1] != 0]++;
+    if (words[1] != 0) try_figures(words);
 }
 
 static void try_pddl(Area file, const Input *in)
@@ -225,7 +248,7 @@ static void tell(void)
     }
     fprintf(stderr, "reached verdicts");
     for (int n = 1; n < 5; n++) fprintf(stderr, " %d:%llu", n, (unsigned long long)verdicts[n]);
-    fprintf(stderr, "\n");
+    fprintf(stderr, "\nreached weeks none:%llu figures:%llu\n", (unsigned long long)weeks[0], (unsigned long long)weeks[1]);
 }
 
 int LLVMFuzzerInitialize(int *count, char ***words)
@@ -234,11 +257,12 @@ int LLVMFuzzerInitialize(int *count, char ***words)
     (void)words;
     file_pages = pages(FILE_ROOM);
     plan_pages = pages(PLAN_ROOM);
+    plans_pages = pages(PLANS_ROOM);
     text_pages = pages(TEXT_ROOM);
     made_pages = pages(ROUTE_RULES_MAX_FILE);
     out_pages = pages(ROUTE_RULES_MAX_PDDL);
     other_pages = pages(ROUTE_RULES_MAX_PDDL);
-    answer_pages = pages(64);
+    answer_pages = pages(192);
     atexit(tell);
     return 0;
 }
@@ -249,10 +273,12 @@ int LLVMFuzzerTestOneInput(const uint8_t *bytes, size_t size)
     make_input(&in, bytes, size);
     Area file = lend_copy(file_pages, in.file, in.file_length, in.at_end);
     Area plan = lend_copy(plan_pages, in.plan, in.steps, in.at_end);
+    Area plans = lend_copy(plans_pages, in.plans, in.plans_length, in.at_end);
     Area text = lend_copy(text_pages, in.text, in.text_length, in.at_end);
     try_check(file, in.at_end);
     try_walk(file, plan, in.at_end);
     try_settle(file, in.cost, in.met, in.at_end);
+    try_week(file, plans, in.at_end);
     try_pddl(file, &in);
     try_translate(file, &in);
     try_spell(file, plan, &in);
@@ -262,6 +288,7 @@ int LLVMFuzzerTestOneInput(const uint8_t *bytes, size_t size)
     try_walk_text(file, text, in.at_end);
     unchanged(file, in.file);
     unchanged(plan, in.plan);
+    unchanged(plans, in.plans);
     unchanged(text, in.text);
     return 0;
 }
