@@ -1,5 +1,5 @@
 /* Checks the belt's task, translates it, writes the translation as PDDL, spells the task, walks a plan on it, as bytes and as text,
- * settles what it is worth, and prints the answers: belt TASK PLAN. */
+ * settles what it is worth, puts a week of plans into figures, and prints the answers: belt TASK PLAN. */
 #include "route_rules.h"
 
 #include <inttypes.h>
@@ -146,8 +146,28 @@ static void report(const uint8_t *file, size_t length, const uint8_t *plan, size
         fwrite(text, 1, answer.length, stdout);
 }
 
+/* The figures of the plans that solve; where none does there are none. */
+static void week(const uint8_t *file, size_t length, const uint8_t *plans, size_t plans_length)
+{
+    route_rules_figures answer;
+    uint32_t number = route_rules_week(file, length, plans, plans_length, &answer);
+    if (number != 0) {
+        refused("week", number, answer.place);
+        return;
+    }
+    printf("week: solving %" PRIu64, answer.solving);
+    if (answer.solving > 0) {
+        printf(" least %" PRIu64 " greatest %" PRIu64 " sum %" PRIu64 " mean %" PRIu64 " remainder %" PRIu64 " meeting", answer.least,
+               answer.greatest, answer.sum, answer.mean, answer.remainder);
+        for (int k = 0; k < 2; k++) printf(" %" PRIu64, answer.meeting[k]); /* the belt has two preferences */
+    }
+    printf("\n");
+}
+
 int main(int count, char **words)
 {
+    /* Two plans that overlap, 0 1 0 and its last step, and one without steps, which misses the goal: starts, lengths, steps. */
+    static const uint8_t plans[] = {3, 0, 0, 0, 2, 0, 3, 0, 3, 0, 1, 0, 0, 0, 0, 1, 0};
     /* A byte more than the longest accepted file and plan: a longer one is refused as its whole would be. */
     static uint8_t file[ROUTE_RULES_MAX_FILE + 1], plan[ROUTE_RULES_MAX_STEPS + 1];
     if (count != 3) return 2;
@@ -174,5 +194,9 @@ int main(int count, char **words)
 
     report(file, length, plan, steps);
     report(file, length, (const uint8_t *)"\2", 1); /* no action 2 */
+
+    week(file, length, plans, sizeof plans);
+    week(file, length, (const uint8_t *)"\1\0\0\0\0\0", 6); /* the goal is missed */
+    week(file, length, plans, sizeof plans - 1);            /* a step is missing */
     return 0;
 }

@@ -1,5 +1,5 @@
 //! Checks the belt's task, translates it, writes the translation as PDDL, spells the task, walks a plan on it, as bytes and as text,
-//! settles what it is worth, and prints the answers: `belt TASK PLAN`.
+//! settles what it is worth, puts a week of plans into figures, and prints the answers: `belt TASK PLAN`.
 
 #[path = "../../include/route_rules.rs"]
 mod route_rules;
@@ -111,6 +111,19 @@ fn report(file: &[u8], plan: &[u8]) {
     }
 }
 
+/// The figures of the plans that solve; where none does there are none.
+fn week(file: &[u8], plans: &[u8]) {
+    let line = match route_rules::week(file, plans) {
+        Ok(Some(f)) => format!(
+            "solving {} least {} greatest {} sum {} mean {} remainder {} meeting {} {}",
+            f.solving, f.least, f.greatest, f.sum, f.mean, f.remainder, f.meeting[0], f.meeting[1]
+        ),
+        Ok(None) => "solving 0".to_string(),
+        Err(refusal) => refused(refusal),
+    };
+    println!("week: {line}");
+}
+
 fn main() {
     let mut names = std::env::args().skip(1);
     let mut read = || fs::read(names.next().expect("a file's name")).expect("a file");
@@ -136,4 +149,10 @@ fn main() {
 
     report(&file, &plan);
     report(&file, &[2]); // no action 2
+
+    // Two plans that overlap, 0 1 0 and its last step, and one without steps, which misses the goal: starts, lengths, steps.
+    let plans = [3, 0, 0, 0, 2, 0, 3, 0, 3, 0, 1, 0, 0, 0, 0, 1, 0];
+    week(&file, &plans);
+    week(&file, &[1, 0, 0, 0, 0, 0]); // the goal is missed
+    week(&file, &plans[..plans.len() - 1]); // a step is missing
 }
