@@ -86,6 +86,7 @@ def main(option=None):
         expect(text, answered(lambda: Text(text).file()), why)
     for lines, source in SOURCES:
         expect(lines, answered(lambda: Text('FACTS 1\nGOAL\nACTION').source(lines)), source)
+    expect('three plans', TOOL.week([b'\2', b'', b'\0\1']), bytes([3, 0, 0, 0, 1, 0, 1, 0, 1, 0, 0, 0, 2, 0, 2, 0, 1]))
     count = round_trips()
 
     text, stored = text_of(os.path.join(HOUSE, 'task.txt')), os.path.join(HOUSE, 'answers')

@@ -4,6 +4,7 @@
 tools/task.py make TEXT             writes the task file of a text to standard output
 tools/task.py show FILE [TEXT]      writes a task file as text, with the names that TEXT gives
 tools/task.py plan TEXT STEPS       writes the plan of a text: names or numbers of the actions of TEXT
+tools/task.py plans TEXT STEPS..    writes the file of a week's plans, each of them a text, one after the other
 tools/task.py source TEXT PLANNED   writes the source part of what a planner prints for the translation, a line `(aN)` for each step
 
 A text has a row on each line: the documents' name of the mark, then its value; a value that is 0 may be left out. A rule that must
@@ -150,6 +151,12 @@ def show(data, text=None):
     return '\n'.join(out) + '\n'
 
 
+def week(plans):
+    """The file of plans that stand one after the other: a count, starts and lengths, 16 bits each, and the steps."""
+    starts = [sum(map(len, plans[:number])) for number in range(len(plans))]
+    return struct.pack(f'<{1 + 2 * len(plans)}H', len(plans), *starts, *map(len, plans)) + b''.join(plans)
+
+
 def read(name):
     with open(name, 'rb') as file:
         return file.read()
@@ -159,7 +166,12 @@ def text_of(name):
     return Text(read(name).decode())
 
 
-def main(command, first, second=None):
+def main(command, first, second=None, *others):
+    if command == 'plans' and second:
+        text = text_of(first)
+        return week([text.plan(read(name).decode()) for name in (second, *others)])
+    if others:
+        raise Wrong(__doc__)
     if command == 'make':
         return text_of(first).file()
     if command == 'plan':
@@ -172,7 +184,7 @@ def main(command, first, second=None):
 
 
 if __name__ == '__main__':
-    if not 3 <= len(sys.argv) <= 4:
+    if len(sys.argv) < 3:
         sys.exit(__doc__)
     try:
         sys.stdout.buffer.write(main(*sys.argv[1:]))
