@@ -34,7 +34,7 @@ fn main() {
         .and_then(|()| spelling::properties(first, count / 4))
         .and_then(|()| weekly::edges())
         .and_then(|()| weekly::vectors())
-        .and_then(|()| weekly::compare(first, count / 4))
+        .and_then(|()| weekly::compare(first, count / 10))
         .and_then(|()| texts::compare(first, count))
         .and_then(|()| pddl::edges())
         .and_then(|()| pddl::compare(first, count / 10));
