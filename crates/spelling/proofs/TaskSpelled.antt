@@ -166,7 +166,7 @@ abbrev Becomes : (List Row → Type 0) → List Row → List Row → Type 0
 Becomes ok xs ys = (zs : List Row) → ok zs → spelled (xs ++ zs) ≡ ys ++ spelled zs
 
 -- no row of a mark from a to b comes first
-abbrev Clear : ℕ → ℕ → List Row → Type 0
+abbrev pub Clear : ℕ → ℕ → List Row → Type 0
 Clear a b = Stops (between a b)
 
 abbrev Anything : List Row → Type 0
@@ -188,7 +188,7 @@ nothing-left : (ok : List Row → Type 0) → Becomes ok [] []
 nothing-left ok zs k = refl
 
 -- of fewer marks
-narrower : (c d a b : ℕ) → c ≤ a → b ≤ d → (zs : List Row) → Clear c d zs → Clear a b zs
+pub narrower : (c d a b : ℕ) → c ≤ a → b ≤ d → (zs : List Row) → Clear c d zs → Clear a b zs
 narrower c d a b l h [] k = tt
 narrower c d a b l h (z ∷ zs) k = go (between a b (z .mark)) refl
   where

@@ -60,7 +60,7 @@ fn advance(c: Cursor) -> Cursor
 }
 
 // The cursor after so many rows, without going through them.
-fn advance_by(c: Cursor, many: usize) -> Cursor
+pub fn advance_by(c: Cursor, many: usize) -> Cursor
     ensures { λ r. ⌜ (r .rows ≡ c .rows) × (r .next ≡ rowAfter (c .next) many) ⌝ }
 {
     let rows = c.rows;
