@@ -41,7 +41,7 @@ literal-there (l ∷ k) (suc d) ys h = literal-there k d ys (omega arith)
 literals-pass : (k : Clause) → T (all (passes (between HOLDS LACKS)) (map literalRow k))
 literals-pass = all-map (passes (between HOLDS LACKS)) literalRow (literal-passes (passes (between HOLDS LACKS)) (λ v. tt) (λ v. tt))
 
-first-of : Row → List Row → Row
+abbrev first-of : Row → List Row → Row
 first-of y [] = y
 first-of y (x ∷ xs) = x
 
