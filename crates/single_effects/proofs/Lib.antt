@@ -3,3 +3,6 @@ pub mod Counting
 pub mod EffectShape
 -- Its choices
 pub mod Picking
+pub mod ByChoice
+-- The rows of a task
+pub mod Pieces

@@ -112,7 +112,7 @@ none-effects (e ∷ es) xs h =
     go true q = refl
     go false q = q
 
-condition-effectless : (c : Condition) → T (noEffect (conditionRows c))
+pub condition-effectless : (c : Condition) → T (noEffect (conditionRows c))
 condition-effectless = condition-passes (without (hasMark EFFECT)) (λ v. tt) (λ v. tt) (λ v. tt)
 
 none-actions : (l : List Action) (xs : List Row) → Ends xs
@@ -129,7 +129,7 @@ none-actions (a ∷ l) xs h =
     ∙ ap (λ (b : Bool). all isNarrow (a .effects) && b) (none-actions l xs h)
     ∙ sym (and-assoc (all isNarrow (a .effects)) (all (λ (a : Action). all isNarrow (a .effects)) l) (isNone (firstWide 0 xs)))
 
-preferences-effectless : (qs : List Preference) → T (noEffect (concatMap preferenceRows qs))
+pub preferences-effectless : (qs : List Preference) → T (noEffect (concatMap preferenceRows qs))
 preferences-effectless =
     all-concat (without (hasMark EFFECT)) preferenceRows
     (λ q. and-both (without (hasMark EFFECT) (row (openingMark (q .hard) (q .kind)) (q .weight))) (noEffect (sideRows q))

@@ -1,0 +1,78 @@
+// The whole file.
+ghost use mathlib.Core.Path.{_≡_};
+ghost use lib.ListN.{length};
+ghost use Rattle.meaning.specs.Task.{Task};
+ghost use Rattle.task.specs.TaskRows.{taskRows};
+ghost use Rattle.task.specs.Rows.{Rows};
+ghost use Rattle.writer.specs.Writer.{rowAfter, Room, Wrote};
+ghost use Rattle.singling.specs.Singled.{singled};
+ghost use Rattle.single_effects.specs.Whole.{Narrow, Fitted};
+use super::choosing;
+use super::shapes;
+use layout::sides::Span;
+use outcome::Outcome;
+use task::limits;
+use task::marks;
+use task::refused;
+use writer::Cursor;
+
+// Writes the rows of the new task: each effect by its choices, and the rows between effects as they stand.
+fn put_task(out: &mut [u8], c: Cursor, marks: &[u8], values: &[u8]) -> Cursor
+    requires { ⌜ Room c (now out) × Rows (now marks) (now values) × ((t : Task) × Narrow (now marks) (now values) t) ⌝ }
+    ensures { λ r. ⌜ ((t : Task) → Narrow (now (marks .entry)) (now (values .entry)) t
+        → Wrote (now (out .entry)) c (taskRows (singled t)) r (now (out .exit))) ⌝ }
+{
+    let mut from = 0;
+    let mut i = 0;
+    let mut k = c;
+    while i < marks.len() {
+        if marks[i] == marks::EFFECT {
+            let s = shapes::shape_of(marks, i);
+            k = writer::copy_rows(&mut *out, k, marks, values, Span { from, to: i });
+            k = choosing::put_effect(&mut *out, k, marks, values, i, s);
+            i = s.changes.to;
+            from = i;
+        } else {
+            i += 1;
+        }
+    }
+    writer::copy_rows(&mut *out, k, marks, values, Span { from, to: i })
+}
+
+// How many rows it has: it is written into a file of no rows.
+fn count_rows(marks: &[u8], values: &[u8]) -> usize
+    requires { ⌜ Rows (now marks) (now values) × ((t : Task) × Narrow (now marks) (now values) t) ⌝ }
+    ensures { λ r. ⌜ ((t : Task) → Narrow (now (marks .entry)) (now (values .entry)) t → r ≡ rowAfter 0 (length (taskRows (singled t)))) ⌝ }
+{
+    let mut nothing: [u8; 8] = [0; 8];
+    let c = Cursor { rows: 0, next: 0 };
+    let k = put_task(&mut nothing, c, marks, values);
+    k.next
+}
+
+// Writes the file of the new task, where it fits.
+pub fn put_file(
+    out: &mut [u8],
+    marks: &[u8],
+    values: &[u8],
+    facts: u32,
+    actions: u32,
+    preferences: u32,
+) -> Outcome
+    requires { ⌜ Rows (now marks) (now values) × ((t : Task) × Narrow (now marks) (now values) t) ⌝ }
+    ensures { λ r. ⌜ ((t : Task) → Narrow (now (marks .entry)) (now (values .entry)) t
+        → Fitted facts actions preferences (taskRows (singled t)) (now (out .entry)) r (now (out .exit))) ⌝ }
+{
+    let n = count_rows(marks, values);
+    if limits::MAX_ROWS < n {
+        return outcome::refuse(refused::TRANSLATION_ROWS, 0);
+    }
+    let length = 8 + 5 * n;
+    if out.len() < length {
+        return outcome::refuse(refused::SHORT_OUTPUT, 0);
+    }
+    writer::put_sizes(&mut *out, facts, actions, preferences, n as u32);
+    let c = Cursor { rows: n, next: 0 };
+    let _ = put_task(&mut *out, c, marks, values);
+    Outcome::Written(length)
+}
