@@ -94,6 +94,17 @@ module _ (ms vs : List ℕ) (at : ℕ) (e : Effect) (xs : List Row) (there : dro
     pub end-found : r .changes .to ≡ to
     end-found = ap (λ (x : Shape). x .changes .to) is
 
+    pub after-found : r .changes .to ≡ at + length (effectRows e)
+    after-found =
+        omega (
+          arith,
+          end-found,
+          ap length grouped,
+          length-append (effectRows e) xs,
+          length-append c (changeRows e ++ xs),
+          length-append (changeRows e) xs,
+        )
+
     pub left-found : drop (r .changes .to) (paired ms vs) ≡ xs
     left-found = ap (λ (n : ℕ). drop n (paired ms vs)) end-found ∙ rows-left
 

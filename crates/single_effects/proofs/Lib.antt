@@ -6,3 +6,4 @@ pub mod Picking
 pub mod ByChoice
 -- The rows of a task
 pub mod Pieces
+pub mod Walking

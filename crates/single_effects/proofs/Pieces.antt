@@ -1,5 +1,5 @@
 -- The rows of a task as pieces: effects, and the rows between them.
-use mathlib.Core.Path.{_≡_, refl, sym, ap, ap₂, _∙_}
+use mathlib.Core.Path.{_≡_, refl, sym, ap, ap₂, _∙_, subst, subst⁻¹}
 use mathlib.Core.Bool.{Bool, true, false, cond}
 use mathlib.Core.List.{List, [], _∷_, _++_, map, append-assoc, append-nil}
 use Prim.Native.Nat.{ℕ}
@@ -14,7 +14,7 @@ use Rattle.lists.proofs.Tests.{tests, noneOf, without, as-false, all-both, all-
 use Rattle.task.proofs.Positions.{past-kinds}
 use Rattle.singling.specs.Singled.{singledEffect, singledAction, singled}
 use Rattle.singling.specs.Wide.{isNarrow, allNarrow}
-use Rattle.singling.proofs.Lists.{concat-map}
+use Rattle.singling.proofs.Lists.{concat-map, all-mapped, all-joined}
 use Rattle.singling.proofs.Wide.{noEffect, condition-effectless, preferences-effectless}
 
 pub data Piece : Type 0 where
@@ -124,15 +124,45 @@ actions-sound : (l : List Action) (ps : List Piece) → Sound ps → Apart ps �
 actions-sound [] ps s a = (s, a)
 actions-sound (x ∷ l) ps s a =
     let r = actions-sound l ps s a in
-    let es = effects-sound (x .effects) (concatMap actionPieces l ++ ps) (r .0) (r .1) in
-    ?
+    let head : List Row = row ACTION (x .cost) ∷ conditionRows (x .precondition) in
+    let more : List Piece = concatMap actionPieces l in
+    let es : List Piece = map effect (x .effects) in
+    let grouped : map plain head ++ es ++ more ++ ps ≡ map plain head ++ (es ++ (more ++ ps)) =
+    cc (append-assoc (map plain head ++ es) more ps, append-assoc (map plain head) es (more ++ ps)) in
+    (
+      subst⁻¹ Sound grouped
+      (plain-sound head (es ++ (more ++ ps)) (condition-effectless (x .precondition)) (effects-sound (x .effects) (more ++ ps) (r .0) (r .1) .0)),
+      refl,
+    )
 
 preferences-apart : (qs : List Preference) → Apart (map plain (concatMap preferenceRows qs))
 preferences-apart [] = tt
 preferences-apart (q ∷ qs) = past-kinds (between CLAUSE DELETE) tt (q .hard) (q .kind)
 
 pub task-sound : (t : Task) → Sound (taskPieces t)
-task-sound t = ?
+task-sound t =
+    let prefs : List Row = concatMap preferenceRows (t .preferences) in
+    let last : Sound (map plain prefs) =
+    subst Sound (append-nil (map plain prefs)) (plain-sound prefs [] (preferences-effectless (t .preferences)) tt) in
+    plain-sound (frontRows t) (concatMap actionPieces (t .actions) ++ map plain prefs)
+    (all-both (without (hasMark EFFECT)) (map (row START) (t .start)) (row GOAL 0 ∷ conditionRows (t .goal))
+    (all-map (without (hasMark EFFECT)) (row START) (λ v. tt) (t .start)) (condition-effectless (t .goal)))
+    (actions-sound (t .actions) (map plain prefs) last (preferences-apart (t .preferences)) .0)
+
+-- and narrow where the task is
+
+plain-narrow : (xs : List Row) → T (all narrowPiece (map plain xs))
+plain-narrow = all-map narrowPiece plain (λ x. tt)
+
+action-narrow : (a : Action) → T (all isNarrow (a .effects)) → T (all narrowPiece (actionPieces a))
+action-narrow a h =
+    all-both narrowPiece (map plain (row ACTION (a .cost) ∷ conditionRows (a .precondition))) (map effect (a .effects))
+    (plain-narrow (row ACTION (a .cost) ∷ conditionRows (a .precondition)))
+    (all-mapped narrowPiece isNarrow effect (λ e g. g) (a .effects) h)
 
 pub task-narrow : (t : Task) → T (allNarrow t) → T (all narrowPiece (taskPieces t))
-task-narrow t h = ?
+task-narrow t h =
+    let prefs : List Row = concatMap preferenceRows (t .preferences) in
+    all-both narrowPiece (map plain (frontRows t)) (concatMap actionPieces (t .actions) ++ map plain prefs) (plain-narrow (frontRows t))
+    (all-both narrowPiece (concatMap actionPieces (t .actions)) (map plain prefs)
+    (all-joined narrowPiece (λ (a : Action). all isNarrow (a .effects)) actionPieces action-narrow (t .actions) h) (plain-narrow prefs))

@@ -1,0 +1,67 @@
+-- The pieces that are left from a row on: at an EFFECT row an effect comes first, at any other a row alone.
+use mathlib.Core.Path.{_≡_, refl, sym, ap, _∙_, subst}
+use mathlib.Core.Bool.{Bool, true, false, not, _||_, true≢false}
+use mathlib.Core.List.{List, [], _∷_, _++_, append-assoc, append-nil}
+use Prim.Native.Nat.{ℕ, suc, _+_, _-_, _≤_, _<_}
+use native.Mathlib.Numerals.{add-one}
+use native.Mathlib.Omega.{arith}
+use lib.Dec.{T, eqb, leb}
+use lib.ListN.{length, drop, take, getD, length-drop}
+use lib.Seq.{take-suc, getD-drop}
+use borrow.Author.Tests.{eq-eqb, ne-eqb}
+use Rattle.lists.specs.Lists.{all, takeUntil}
+use Rattle.task.specs.Marks.{EFFECT, CLAUSE, HOLDS, LACKS, DELETE}
+use Rattle.meaning.specs.Task.{Effect}
+use Rattle.task.specs.TaskRows.{Row, row, effectRows}
+use Rattle.task.specs.File.{hasMark, paired}
+use Rattle.task.specs.Rows.{between, Stops}
+use Rattle.task.proofs.Bytes.{length-paired}
+use Rattle.task.proofs.Reading.{mark-at, row-end}
+use Rattle.layout.specs.Sides.{stretch}
+use Rattle.singling.specs.Wide.{outside}
+use Rattle.singling.proofs.Wide.{Ends}
+use Rattle.single_effects.proofs.Pieces.{Piece, plain, effect, rowsOf, newRowsOf, Sound}
+
+-- rows that are not of an effect do not go on with its condition
+pub ends : (xs : List Row) → Stops (between CLAUSE DELETE) xs → Ends xs
+ends [] s = refl
+ends (x ∷ xs) s = rw (other CLAUSE refl, other HOLDS refl, other LACKS refl) refl
+  where
+    other : (n : ℕ) → between CLAUSE DELETE n ≡ true → eqb (x .mark) n ≡ false
+    other n t = ne-eqb (x .mark) n (λ e. true≢false (sym t ∙ sym (ap (between CLAUSE DELETE) e) ∙ s))
+
+-- the pieces ps stand from row i on
+module _ (ms vs : List ℕ) (i : ℕ) where
+  -- there are some
+  some-left : i < length ms → drop i (paired ms vs) ≡ [] → ⊥
+  some-left l e = omega (arith, ap length e, length-drop i (paired ms vs), length-paired ms vs)
+
+  pub none-left : (ps : List Piece) → drop i (paired ms vs) ≡ rowsOf ps → length ms ≤ i → ps ≡ []
+  none-left [] e h = refl
+  none-left (plain x ∷ ps) e h = absurd (omega (arith, ap length (sym (row-end ms vs i h) ∙ e)))
+  none-left (effect f ∷ ps) e h = absurd (omega (arith, ap length (sym (row-end ms vs i h) ∙ e)))
+
+  pub effect-here : (ps : List Piece) → drop i (paired ms vs) ≡ rowsOf ps → Sound ps → i < length ms → getD ms i 0 ≡ EFFECT
+      → (e : Effect) × (qs : List Piece) × (ps ≡ effect e ∷ qs)
+  effect-here [] e s l m = absurd (some-left l e)
+  effect-here (plain x ∷ ps) e s l m =
+      absurd (true≢false (sym (eq-eqb (x .mark) EFFECT (sym (mark-at ms vs i l e) ∙ m)) ∙ s .0))
+  effect-here (effect f ∷ ps) e s l m = (f, ps, refl)
+
+  pub plain-here : (ps : List Piece) → drop i (paired ms vs) ≡ rowsOf ps → i < length ms → (getD ms i 0 ≡ EFFECT → ⊥)
+      → (x : Row) × (qs : List Piece) × (ps ≡ plain x ∷ qs)
+  plain-here [] e l m = absurd (some-left l e)
+  plain-here (plain x ∷ ps) e l m = (x, ps, refl)
+  plain-here (effect f ∷ ps) e l m = absurd (m (mark-at ms vs i l e))
+
+-- a row more
+pub stretch-on : (ms vs : List ℕ) (from i : ℕ) (x : Row) (xs : List Row) → from ≤ i → i < length ms → drop i (paired ms vs) ≡ x ∷ xs
+    → stretch ms vs from (i + 1) ≡ stretch ms vs from i ++ (x ∷ [])
+stretch-on ms vs from i x xs h l e =
+    let rows : List Row = paired ms vs in
+    let n : i + 1 - from ≡ suc (i - from) = omega arith in
+    let m : from + (i - from) ≡ i + 0 = omega arith in
+    ap (λ (k : ℕ). take k (drop from rows)) n
+    ∙ take-suc (drop from rows) (i - from) x (omega (arith, length-drop from rows, length-paired ms vs))
+    ∙ ap (λ (y : Row). stretch ms vs from i ++ (y ∷ []))
+    (getD-drop from rows (i - from) x ∙ ap (λ (k : ℕ). getD rows k x) m ∙ sym (getD-drop i rows 0 x) ∙ ap (λ (ys : List Row). getD ys 0 x) e)
