@@ -7,3 +7,5 @@ pub mod ByChoice
 -- The rows of a task
 pub mod Pieces
 pub mod Walking
+pub mod Seeking
+pub mod Rewriting

@@ -1,0 +1,95 @@
+-- The first effect with too many choices, sought piece by piece.
+use mathlib.Core.Path.{_≡_, refl, sym, ap, _∙_, subst}
+use mathlib.Core.Bool.{Bool, true, false, cond, _&&_}
+use mathlib.Core.List.{List, [], _∷_, _++_}
+use mathlib.Core.Option.{Option, none, some}
+use Prim.Native.Nat.{ℕ, suc, _+_, _≤_, _<_}
+use native.Mathlib.Numerals.{add-one}
+use native.Mathlib.Omega.{arith}
+use lib.Dec.{ltb}
+use lib.ListN.{length, drop, getD}
+use borrow.Author.Tests.{lt-ltb, le-ltb}
+use Rattle.meaning.specs.Task.{Effect, Task}
+use Rattle.task.specs.Marks.{EFFECT}
+use Rattle.task.specs.TaskRows.{Row, taskRows, effectRows}
+use Rattle.task.specs.File.{paired, hasMark}
+use Rattle.task.proofs.Positions.{drop-next}
+use Rattle.singling.specs.Wide.{isWide, conditionHere, firstWide}
+use Rattle.singling.proofs.Capped.{counted-wide}
+use Rattle.singling.proofs.Wide.{wide-effect}
+use Rattle.single_effects.specs.Shapes.{shapeAt}
+use Rattle.single_effects.specs.Whole.{placeAt}
+use Rattle.single_effects.specs.declared.shapes.Shape.{Shape}
+use Rattle.single_effects.proofs.EffectShape.{choices-found, after-found, left-found}
+use Rattle.single_effects.proofs.Pieces.{Piece, plain, effect, rowsOf, Sound, taskPieces, task-pieces, task-sound}
+use Rattle.single_effects.proofs.Walking.{ends, none-left, effect-here, plain-here}
+
+-- none has been found before row i
+pub record Seeking (ms vs : List ℕ) (t : Task) (i : ℕ) : Type 0 where
+  pub left : List Piece
+  pub there : drop i (paired ms vs) ≡ rowsOf left
+  pub sound : Sound left
+  pub same : firstWide i (rowsOf left) ≡ firstWide 0 (taskRows t)
+
+pub seeking-begins : (ms vs : List ℕ) (t : Task) → paired ms vs ≡ taskRows t → Seeking ms vs t 0
+seeking-begins ms vs t e =
+    record { left = taskPieces t; there = e ∙ sym (task-pieces t); sound = task-sound t; same = ap (firstWide 0) (task-pieces t) }
+
+module _ (ms vs : List ℕ) (t : Task) (i : ℕ) (S : Seeking ms vs t i) where
+  -- after the last row
+  pub none-found : length ms ≤ i → placeAt i (length ms) ≡ firstWide 0 (taskRows t)
+  none-found h =
+      let e : S .left ≡ [] = none-left ms vs i (S .left) (S .there) h in
+      rw (le-ltb i (length ms) h) (sym (ap (λ (ps : List Piece). firstWide i (rowsOf ps)) e) ∙ S .same)
+
+  module _ (l : i < length ms) where
+    pub seeking-on : (getD ms i 0 ≡ EFFECT → ⊥) → Seeking ms vs t (i + 1)
+    seeking-on m = build (plain-here ms vs i (S .left) (S .there) l m)
+      where
+        build : (x : Row) × (qs : List Piece) × (S .left ≡ plain x ∷ qs) → Seeking ms vs t (i + 1)
+        build (x, qs, q) =
+            let s : Sound (plain x ∷ qs) = subst Sound q (S .sound) in
+            let passed : firstWide i (x ∷ rowsOf qs) ≡ firstWide (i + 1) (rowsOf qs) = rw (s .0, add-one i) refl in
+            record {
+              left = qs;
+              there = drop-next i (paired ms vs) x (rowsOf qs) (S .there ∙ ap rowsOf q);
+              sound = s .1;
+              same = sym passed ∙ sym (ap (λ (ps : List Piece). firstWide i (rowsOf ps)) q) ∙ S .same;
+            }
+
+    module _ (m : getD ms i 0 ≡ EFFECT) (r : Shape) (f : r ≡ shapeAt ms vs i) where
+      module _ (e : Effect) (qs : List Piece) (q : S .left ≡ effect e ∷ qs) where
+        s : Sound (effect e ∷ qs)
+        s = subst Sound q (S .sound)
+
+        at : drop i (paired ms vs) ≡ effectRows e ++ rowsOf qs
+        at = S .there ∙ ap rowsOf q
+
+        told : isWide (e .condition) ≡ ltb 64 (r .choices)
+        told = sym (counted-wide (e .condition)) ∙ ap (ltb 64) (sym (choices-found ms vs i e (rowsOf qs) at (s .0) r f))
+
+        by-choices : cond (ltb 64 (r .choices)) (some i) (firstWide (r .changes .to) (rowsOf qs)) ≡ firstWide 0 (taskRows t)
+        by-choices =
+            let n : i + length (effectRows e) ≡ r .changes .to = sym (after-found ms vs i e (rowsOf qs) at (s .0) r f) in
+            sym (ap (λ (ps : List Piece). firstWide i (rowsOf ps)) q
+            ∙ wide-effect i e (rowsOf qs) (ends (rowsOf qs) (s .0))
+            ∙ λ z. cond (told z) (some i) (firstWide (n z) (rowsOf qs)))
+            ∙ S .same
+
+      pub found-here : 64 < r .choices → placeAt i (length ms) ≡ firstWide 0 (taskRows t)
+      found-here h = build (effect-here ms vs i (S .left) (S .there) (S .sound) l m)
+        where
+          build : (e : Effect) × (qs : List Piece) × (S .left ≡ effect e ∷ qs) → placeAt i (length ms) ≡ firstWide 0 (taskRows t)
+          build (e, qs, q) = rw (lt-ltb i (length ms) l) (rw (lt-ltb 64 (r .choices) h) at by-choices e qs q)
+
+      pub seeking-past : r .choices ≤ 64 → Seeking ms vs t (r .changes .to)
+      seeking-past h = build (effect-here ms vs i (S .left) (S .there) (S .sound) l m)
+        where
+          build : (e : Effect) × (qs : List Piece) × (S .left ≡ effect e ∷ qs) → Seeking ms vs t (r .changes .to)
+          build (e, qs, q) =
+              record {
+                left = qs;
+                there = left-found ms vs i e (rowsOf qs) (at e qs q) (s e qs q .0) r f;
+                sound = s e qs q .1;
+                same = rw (le-ltb 64 (r .choices) h) at by-choices e qs q;
+              }
