@@ -9,3 +9,5 @@ pub mod Pieces
 pub mod Walking
 pub mod Seeking
 pub mod Rewriting
+-- The file
+pub mod Fits

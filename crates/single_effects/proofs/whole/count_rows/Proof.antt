@@ -1,15 +1,11 @@
+-- Written into a file of no rows, the new task's rows are counted.
+use denote.Ref.{now}
 use borrow.Author.Needs.{needs}
 use Rattle.single_effects.proofs.whole.count_rows.Statement.{statement}
 use Rattle.single_effects.proofs.whole.count_rows.Tie as tie
 
-slice-aggregate-put-task : tie.Need-slice-aggregate-put-task
-slice-aggregate-put-task c = search needs
-
-put-task-requires : tie.Need-put-task-requires
-put-task-requires c κs = search needs
-
 returns : tie.Need-returns
-returns c = ?
+returns c = λ t N. c .before .put-task .ensures t N .next
 
 pub count-rows-spec : {M : Type 1} → statement M
-count-rows-spec = tie.close (tie.spec slice-aggregate-put-task put-task-requires returns)
+count-rows-spec = tie.close (tie.spec (λ c. search needs) (λ c κs. search needs) returns)

@@ -1,56 +1,42 @@
+-- Refused by 8 or 9 the area stays; else it holds the sizes and then the rows, which is the file (`Fits`).
+use mathlib.Core.Path.{refl}
+use Prim.Native.Nat.{_+_, _*_}
+use denote.Ref.{now}
+use Rattle.outcome.specs.declared.Outcome.the-variants.{Written}
+use Rattle.task.specs.TaskRows.{taskRows}
+use Rattle.singling.specs.Singled.{singled}
+use Rattle.single_effects.proofs.Fits.{too-many, no-room, put}
 use borrow.Author.Needs.{needs}
 use Rattle.single_effects.proofs.whole.put_file.Statement.{statement}
 use Rattle.single_effects.proofs.whole.put_file.Tie as tie
 
-count-rows-requires : tie.Need-count-rows-requires
-count-rows-requires c κs = search needs
-
-refuse-requires : tie.Need-refuse-requires
-refuse-requires c κs = search needs
-
 returns : tie.Need-returns
-returns c = ?
-
-mul-length : tie.Need-mul-length
-mul-length c = search needs
-
-add-length : tie.Need-add-length
-add-length c = search needs
-
-refuse-requires-2 : tie.Need-refuse-requires-2
-refuse-requires-2 c κs = search needs
+returns c = λ t N.
+    let n = c .before .before in
+    let a = n .before .before .before .before .args in
+    too-many (a .facts) (a .actions) (a .preferences) (taskRows (singled t)) (now (a .out)) (n .count-rows .result) (n .count-rows .ensures t N)
+    (c .refuse .result) (c .refuse .ensures) (search needs)
 
 returns-2 : tie.Need-returns-2
-returns-2 c = ?
-
-cast-put-sizes : tie.Need-cast-put-sizes
-cast-put-sizes c = search needs
-
-put-sizes-requires : tie.Need-put-sizes-requires
-put-sizes-requires c κs = search needs
-
-put-task-requires : tie.Need-put-task-requires
-put-task-requires c κs = search needs
-
-same-length : tie.Need-same-length
-same-length c = search needs
+returns-2 c = λ t N.
+    let n = c .before .before .before in
+    let a = n .before .before .before .before .args in
+    no-room (a .facts) (a .actions) (a .preferences) (taskRows (singled t)) (now (a .out)) (n .count-rows .result) (n .count-rows .ensures t N) (search needs)
+    (c .refuse2 .result) (c .refuse2 .ensures) (search needs)
 
 returns-3 : tie.Need-returns-3
-returns-3 c = ?
+returns-3 c = λ t N.
+    let w = c .before .before in
+    let m = w .before .before .before .before in
+    let n = m .before .before .before .before in
+    let a = n .before .before .before .before .args in
+    put (a .facts) (a .actions) (a .preferences) (taskRows (singled t)) (now (a .out)) (n .count-rows .result) (n .count-rows .ensures t N) (search needs)
+    (m .put-sizes .last .0) (w .put-task .last .0) (w .put-task .result) (search needs) (m .put-sizes .ensures) (w .put-task .ensures t N)
+    (Written (8 + 5 * n .count-rows .result)) refl
 
 pub put-file-spec : {M : Type 1} → statement M
 put-file-spec =
     tie.close
     (tie.spec
-    count-rows-requires
-    refuse-requires
-    returns
-    mul-length
-    add-length
-    refuse-requires-2
-    returns-2
-    cast-put-sizes
-    put-sizes-requires
-    put-task-requires
-    same-length
-    returns-3)
+    (λ c κs. search needs) (λ c κs. search needs) returns (λ c. search needs) (λ c. search needs) (λ c κs. search needs) returns-2
+    (λ c. search needs) (λ c κs. search needs) (λ c κs. search needs) (λ c. search needs) returns-3)
