@@ -11,3 +11,5 @@ pub mod Seeking
 pub mod Rewriting
 -- The file
 pub mod Fits
+pub mod Following
+pub mod Answering

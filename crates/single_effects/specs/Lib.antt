@@ -1,3 +1,4 @@
 pub mod Shapes
 pub mod Effects
 pub mod Whole
+pub mod Claim

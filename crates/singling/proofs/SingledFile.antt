@@ -12,9 +12,9 @@ use Rattle.lists.proofs.Tests.{tests}
 use Rattle.task.proofs.Spelled.{Spelling, accepted-spelling, allowed-within, read-back, spelled-accepted}
 use Rattle.alike.specs.Alike.{Alike, JudgedAlike}
 use Rattle.alike.proofs.Verdict.{judged-alike}
-use Rattle.singling.specs.Singled.{singled, singledFile, singledRows, singledSizes}
+use Rattle.singling.specs.Singled.{singled, singledFile, singledRows, singledSizes, singleEffects}
 use Rattle.singling.proofs.Leads.{singled-alike}
-use Rattle.singling.proofs.Spellable.{singleEffects, singled-single, singled-formed, singled-spellable, singled-sizes}
+use Rattle.singling.proofs.Spellable.{singled-single, singled-formed, singled-spellable, singled-sizes}
 
 pub record SingledFile (b : List ℕ) (z : Sizes) : Type 0 where
   pub accepting : check (singledFile b) ≡ accepted (singledSizes z (singledRows b))

@@ -12,17 +12,11 @@ use Rattle.task.specs.File.{sizesOf}
 use Rattle.task.specs.Spelling.{spellable}
 use Rattle.lists.proofs.Tests.{tests, and-both, all-map, all-concat, all-implies}
 use Rattle.task.proofs.Pieces.{literalsOk, clauseOk, conditionOk, effectOk, actionOk, taskOk, task-ok, ok-wellFormed, ok-spellable}
-use Rattle.singling.specs.Singled.{choices, chosen, singledEffect, singledAction, singled, singledSizes}
+use Rattle.singling.specs.Singled.{choices, chosen, singledEffect, singledAction, singled, singledSizes, isSingle, singleEffects}
 use Rattle.singling.proofs.Lists.{all-mapped, all-joined}
 use Rattle.singling.proofs.Choices.{choices-pass}
 
 -- Clauses of one literal
-
-abbrev pub isSingle : Clause → Bool
-isSingle c = eqb (length c) 1
-
-abbrev pub singleEffects : Action → Bool
-singleEffects a = all (λ (e : Effect). all isSingle (e .condition)) (a .effects)
 
 pub singled-single : (t : Task) → T (all singleEffects (singled t .actions))
 unfolding singled

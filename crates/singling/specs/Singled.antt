@@ -1,10 +1,12 @@
 -- Request 12's task: each effect becomes several, one per choice of a literal from every clause of its condition, the first clause varying
 -- slowest. Choices are by place: a literal that stands twice in a clause gives two effects. Everything else is copied.
+use mathlib.Core.Bool.{Bool}
 use mathlib.Core.List.{List, [], _∷_, map}
 use Prim.Native.Nat.{ℕ, _*_}
+use lib.Dec.{eqb}
 use lib.ListN.{length}
-use Rattle.lists.specs.Lists.{singleton, concatMap}
-use Rattle.meaning.specs.Task.{Literal, Condition, Effect, Action, Task}
+use Rattle.lists.specs.Lists.{singleton, all, concatMap}
+use Rattle.meaning.specs.Task.{Literal, Clause, Condition, Effect, Action, Task}
 use Rattle.task.specs.TaskRows.{taskRows}
 use Rattle.task.specs.File.{Sizes, fileOf, taskOf}
 
@@ -37,6 +39,14 @@ singled t =
       actions = map singledAction (t .actions);
       preferences = t .preferences;
     }
+
+-- every condition of an effect has clauses of one literal
+
+abbrev pub isSingle : Clause → Bool
+isSingle c = eqb (length c) 1
+
+abbrev pub singleEffects : Action → Bool
+singleEffects a = all (λ (e : Effect). all isSingle (e .condition)) (a .effects)
 
 -- Its file
 
