@@ -27,7 +27,8 @@ use Rattle.plan.proofs.ThenSettled.{settled-plan, walk-then-settle}
 use Rattle.outcome.specs.Outcome.{written}
 use Rattle.outcome.proofs.Outcomes.{not-written}
 use Rattle.translation.specs.Translated.{outcomeBy, outcome, Delivered}
-use Rattle.route_rules.specs.Corollary.{SettledAt, CostIsMetric}
+use Rattle.single_effects.specs.Claim as Single
+use Rattle.route_rules.specs.Corollary.{SettledAt, CostIsMetric, StillPaid}
 
 -- What judge gave on an accepted file
 
@@ -109,3 +110,24 @@ written-paid b area room n e d = go (check b) refl e
     go : (a : Answer) → check b ≡ a → outcomeBy b room a ≡ written n → CostIsMetric b area n
     go (accepted z) h w = paid-as-settled b area n z h d
     go (refused k i) h w = absurd (not-written k i n w)
+
+-- what single has written of a translation has its solutions, at their costs
+pub still-paid : (b area : List ℕ) (n : ℕ) → Single.Delivered b area n → StillPaid b area n
+still-paid b area n d source compiled m e paid =
+    let old : Task = taskOf (take m compiled) in
+    let new : Task = taskOf (take n area) in
+    let from-b : taskOf b ≡ old = ap taskOf (sym e) in
+    let solving : (x : List ℕ) → solves old x ≡ solves new x = λ x. ap (λ (t : Task). solves t x) (sym from-b) ∙ d .solving x in
+    let costing : (x : List ℕ) → cost old x ≡ cost new x = λ x. ap (λ (t : Task). cost t x) (sym from-b) ∙ d .judging x .costs in
+    record {
+      pays = λ x s short.
+          subst (SettledAt source (sourcePart (taskOf source) x)) (costing x) (paid .pays x (subst T (sym (solving x)) s) short);
+      offers = λ p c s. same (paid .offers p c s) solving costing;
+    }
+  where
+    same : {p : List ℕ} {c : ℕ}
+        → (x : List ℕ) × T (solves (taskOf (take m compiled)) x) × (sourcePart (taskOf source) x ≡ p) × (cost (taskOf (take m compiled)) x ≡ c)
+        → ((x : List ℕ) → solves (taskOf (take m compiled)) x ≡ solves (taskOf (take n area)) x)
+        → ((x : List ℕ) → cost (taskOf (take m compiled)) x ≡ cost (taskOf (take n area)) x)
+        → (x : List ℕ) × T (solves (taskOf (take n area)) x) × (sourcePart (taskOf source) x ≡ p) × (cost (taskOf (take n area)) x ≡ c)
+    same (x, s, part, q) solving costing = (x, subst T (solving x) s, part, sym (costing x) ∙ q)

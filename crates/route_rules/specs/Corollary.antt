@@ -26,3 +26,8 @@ pub record CostIsMetric (b area : List ℕ) (n : ℕ) : Type 0 where
       → SettledAt b (sourcePart (taskOf b) x) (cost (taskOf (take n area)) x)
   pub offers : (p : List ℕ) (m : ℕ) → SettledAt b p m
       → (x : List ℕ) × T (solves (taskOf (take n area)) x) × (sourcePart (taskOf b) x ≡ p) × (cost (taskOf (take n area)) x ≡ m)
+
+-- Single literals in effects: b is the file that was read, the first n bytes of the area what was written. Where b is a translation,
+-- solutions of what was written cost their source part's metric as well
+abbrev pub StillPaid : List ℕ → List ℕ → ℕ → Type 0
+StillPaid b area n = (source compiled : List ℕ) (m : ℕ) → take m compiled ≡ b → CostIsMetric source compiled m → CostIsMetric source area n

@@ -10,9 +10,12 @@ ghost use Rattle.settling.specs.Settled.{settled};
 ghost use Rattle.classical.specs.Translation.{compiled};
 ghost use Rattle.outcome.specs.Outcome.{written, areaAfter};
 ghost use Rattle.translation.specs.Translated.{outcome, Delivered};
-ghost use Rattle.route_rules.specs.Corollary.{CostIsMetric};
+ghost use Rattle.route_rules.specs.Corollary.{CostIsMetric, StillPaid};
 ghost use Rattle.canonical.specs.Canonical.{respelled};
 ghost use Rattle.spelling.specs.Outcome.{outcome as spelled};
+ghost use Rattle.singling.specs.Singled.{singledFile};
+ghost use Rattle.singling.specs.Outcome.{outcome as singleOutcome};
+ghost use Rattle.single_effects.specs.Claim.{Delivered as Singled};
 ghost use Rattle.plan_lines.specs.PlanText.{textOf};
 ghost use Rattle.plan_text.specs.Outcomes.{readOutcome, stepsIn, writeOutcome, textWalked};
 ghost use Rattle.pddl_text.specs.Outcomes.{outcomeOver as texts, domainOver, problemOver};
@@ -48,6 +51,19 @@ pub extern "C" fn route_rules_spell(file: &[u8], out: &mut [u8], answer: &mut [u
         ⌜ now (out .exit) ≡ areaAfter (respelled (now (file .entry))) (now (out .entry)) answered ⌝ }
 {
     words::put_outcome(spelling::spell(file, out), answer)
+}
+
+// Writes the task in a file with single literals in its effects into the area `out`. A refusal leaves that area as it was.
+#[no_mangle]
+pub extern "C" fn route_rules_single(file: &[u8], out: &mut [u8], answer: &mut [u64; 8]) -> u32
+    ensures { λ r. ⌜ call r (now (answer .exit)) ≡ ofOutcome (singleOutcome (now (file .entry)) (length (now (out .entry)))) ⌝ }
+    ensures { λ r.
+        let answered = singleOutcome (now (file .entry)) (length (now (out .entry))) in
+        ⌜ now (out .exit) ≡ areaAfter (singledFile (now (file .entry))) (now (out .entry)) answered ⌝ }
+    ensures { λ r. ⌜ ((n : ℕ) → singleOutcome (now (file .entry)) (length (now (out .entry))) ≡ written n → Singled (now (file .entry)) (now (out .exit)) n) ⌝ }
+    ensures { λ r. ⌜ ((n : ℕ) → singleOutcome (now (file .entry)) (length (now (out .entry))) ≡ written n → StillPaid (now (file .entry)) (now (out .exit)) n) ⌝ }
+{
+    words::put_outcome(single_effects::single(file, out), answer)
 }
 
 // Walks a plan on the task in a file.

@@ -11,7 +11,7 @@ use lib.Seq.{take-at}
 use borrow.Author.Tests.{leb-true, lt-ltb, le-ltb}
 use Rattle.meaning.specs.Task.{Task}
 use Rattle.lists.specs.Lists.{all}
-use Rattle.task.specs.TaskRows.{Row, taskRows}
+use Rattle.task.specs.TaskRows.{taskRows}
 use Rattle.task.specs.File
 use Rattle.task.specs.File.{paired, rows, sizes, sizesOf, taskOf, fileOfRows}
 use Rattle.task.specs.Check
@@ -35,7 +35,7 @@ use Rattle.layout.proofs.Parts.{marksOf, valuesOf, parts-rows}
 use Rattle.alike.specs.Alike.{Alike}
 use Rattle.alike.proofs.Verdict.{same-solves, judged-alike}
 use Rattle.singling.specs.Singled.{singled, singledFile, singledRows, singledSizes, singleEffects}
-use Rattle.singling.specs.Wide.{firstWide, allNarrow}
+use Rattle.singling.specs.Wide.{firstWide}
 use Rattle.singling.specs.Outcome.{rowsFitted, outcomeBy, outcome}
 use Rattle.singling.proofs.Spellable.{singled-sizes}
 use Rattle.singling.proofs.SingledFile.{SingledFile, singled-file}

@@ -7,9 +7,8 @@ use native.Mathlib.Omega.{arith}
 use lib.ListN.{length, length-append, length-map}
 use Rattle.lists.specs.Lists.{concatMap, range}
 use Rattle.task.specs.Marks.{EFFECT, ADD, DELETE}
-use Rattle.meaning.specs.Task.{Literal, Clause, Condition, Effect}
+use Rattle.meaning.specs.Task.{Literal, Condition, Effect}
 use Rattle.task.specs.TaskRows.{Row, row, literalRow, conditionRows, effectRows}
-use Rattle.layout.specs.Sides.{part}
 use Rattle.writer.specs.declared.Cursor.{Cursor}
 use Rattle.writer.proofs.Putting.{Onward, Kept}
 use Rattle.writer.proofs.Copying.{stretch-long}

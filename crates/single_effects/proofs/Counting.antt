@@ -3,14 +3,12 @@ use mathlib.Core.Path.{_≡_, refl, sym, ap, _∙_, subst⁻¹}
 use mathlib.Core.Bool.{Bool, true, false, cond}
 use mathlib.Core.List.{List, [], _∷_, _++_, map}
 use Prim.Native.Nat.{ℕ, suc, _+_, _*_, _≤_, _<_}
-use native.Mathlib.Nat.{add-zero, mul-le-mul-right, mul-le-mul-left}
+use native.Mathlib.Nat.{add-zero, mul-le-mul-right}
 use native.Mathlib.Omega.{arith}
-use lib.Dec.{T}
 use lib.ListN.{length, drop, getD}
-use Rattle.lists.specs.Lists.{all}
 use Rattle.task.specs.Marks.{CLAUSE, HOLDS, LACKS}
-use Rattle.meaning.specs.Task.{Literal, Clause, Condition}
-use Rattle.task.specs.TaskRows.{Row, row, literalRow, clauseRows, conditionRows}
+use Rattle.meaning.specs.Task.{Clause, Condition}
+use Rattle.task.specs.TaskRows.{Row, row, literalRow, conditionRows}
 use Rattle.task.specs.File.{hasMark, paired}
 use Rattle.task.specs.Rows.{between, run, runAt, Stops, valueAt}
 use Rattle.task.proofs.Reading.{fold, fold-append, run-stop, run-through, goes-on, stops-at, ends-at}

@@ -21,9 +21,8 @@ use Rattle.spelling.proofs.TaskSpelled.{narrower}
 use Rattle.singling.specs.Singled.{choiceCount}
 use Rattle.singling.specs.Capped.{countOn}
 use Rattle.singling.proofs.Capped.{counted}
-use Rattle.single_effects.specs.Shapes.{countedAt, shapeBy, shapeAt}
+use Rattle.single_effects.specs.Shapes.{shapeBy, shapeAt}
 use Rattle.single_effects.specs.Effects.{changeRows, EffectAt}
-use Rattle.single_effects.specs.declared.shapes.Counted.{Counted}
 use Rattle.single_effects.specs.declared.shapes.Shape.{Shape}
 use Rattle.single_effects.proofs.Counting.{condition-counted}
 

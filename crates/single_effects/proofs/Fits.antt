@@ -5,7 +5,6 @@ use Prim.Native.Nat.{ℕ, _+_, _*_, _≤_, _<_}
 use native.Mathlib.Omega.{arith}
 use lib.ListN.{length}
 use lib.Seq.{sets}
-use borrow.Author.Tests.{le-leb}
 use Rattle.task.specs.TaskRows.{Row}
 use Rattle.task.specs.File.{fileOfRows}
 use Rattle.writer.specs.Writer.{rowAfter, Wrote, header}

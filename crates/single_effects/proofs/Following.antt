@@ -1,5 +1,5 @@
 -- A task that means what a translation means is as faithful to the source.
-use mathlib.Core.Path.{_≡_, sym, ap, _∙_, subst, subst⁻¹, fun-ext}
+use mathlib.Core.Path.{_≡_, sym, _∙_, subst, subst⁻¹, fun-ext}
 use mathlib.Core.Bool.{Bool}
 use mathlib.Core.Logic.{_↔_}
 use mathlib.Core.List.{List}

@@ -13,3 +13,4 @@ pub mod Rewriting
 pub mod Fits
 pub mod Following
 pub mod Answering
+pub mod Longest

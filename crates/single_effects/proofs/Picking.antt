@@ -1,33 +1,30 @@
 -- A choice of a condition, clause by clause: the number's next digit says which literal.
 use mathlib.Core.Path.{_≡_, refl, sym, ap, _∙_, subst}
-use mathlib.Core.Bool.{Bool, true, false, cond}
 use mathlib.Core.List.{List, [], _∷_, _++_, map, append-assoc}
 use Prim.Native.Nat.{ℕ, zero, suc, _+_, _-_, _*_, _/_, _%_, _≤_, _<_}
 use native.Mathlib.Nat.{zero-mul, mul-zero, mul-div-cancel-left, div-lt-iff-lt-mul, mod-lt}
 use native.Mathlib.Omega.{arith}
 use lib.Dec.{T}
-use lib.ListN.{length, drop, getD, length-append, length-map, length-drop}
+use lib.ListN.{length, drop, getD, length-append, length-map}
 use lib.Seq.{drop-drop}
-use Rattle.lists.specs.Lists.{all, singleton}
+use Rattle.lists.specs.Lists.{all}
 use Rattle.lists.proofs.Tests.{all-map}
 use Rattle.task.specs.Marks.{CLAUSE, HOLDS, LACKS}
-use Rattle.meaning.specs.Task.{Literal, Clause, Condition}
-use Rattle.task.specs.TaskRows.{Row, row, literalRow, clauseRows, conditionRows}
+use Rattle.meaning.specs.Task.{Clause, Condition}
+use Rattle.task.specs.TaskRows.{Row, row, literalRow, conditionRows}
 use Rattle.task.specs.File.{paired}
 use Rattle.task.specs.Rows.{between, Stops, valueAt}
-use Rattle.task.proofs.Bytes.{length-paired}
 use Rattle.task.proofs.Passing.{literal-passes}
 use Rattle.task.proofs.Positions.{drop-next, drop-after}
 use Rattle.task.proofs.Reading.{passes, row-at}
 use Rattle.layout.specs.Sides.{endAt}
-use Rattle.layout.specs.declared.sides.Span.{Span}
 use Rattle.layout.proofs.Ends.{end-after}
 use Rattle.writer.specs.declared.Cursor.{Cursor}
 use Rattle.writer.proofs.Putting.{Onward, Kept}
 use Rattle.spelling.proofs.TaskSpelled.{narrower}
 use Rattle.singling.specs.Singled.{choiceCount}
-use Rattle.singling.specs.ByNumber.{noLiteral, choiceAt}
-use Rattle.single_effects.specs.Effects.{ConditionAt, Choosable, pickedRows}
+use Rattle.singling.specs.ByNumber.{noLiteral}
+use Rattle.single_effects.specs.Effects.{Choosable, pickedRows}
 use Rattle.single_effects.specs.declared.choosing.Pick.{Pick}
 
 -- The literal at a place of a clause

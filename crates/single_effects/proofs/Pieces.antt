@@ -1,16 +1,15 @@
 -- The rows of a task as pieces: effects, and the rows between them.
 use mathlib.Core.Path.{_≡_, refl, sym, ap, ap₂, _∙_, subst, subst⁻¹}
-use mathlib.Core.Bool.{Bool, true, false, cond}
+use mathlib.Core.Bool.{Bool, true, false}
 use mathlib.Core.List.{List, [], _∷_, _++_, map, append-assoc, append-nil}
-use Prim.Native.Nat.{ℕ}
 use lib.Dec.{T}
 use Rattle.lists.specs.Lists.{all, concatMap}
 use Rattle.task.specs.Marks.{ACTION, EFFECT, CLAUSE, DELETE, GOAL, START}
 use Rattle.meaning.specs.Task.{Effect, Action, Preference, Task}
-use Rattle.task.specs.TaskRows.{Row, row, openingMark, conditionRows, effectRows, actionRows, preferenceRows, taskRows}
+use Rattle.task.specs.TaskRows.{Row, row, conditionRows, effectRows, actionRows, preferenceRows, taskRows}
 use Rattle.task.specs.File.{hasMark}
 use Rattle.task.specs.Rows.{between, Stops}
-use Rattle.lists.proofs.Tests.{tests, noneOf, without, as-false, all-both, all-map, concat-append}
+use Rattle.lists.proofs.Tests.{tests, without, as-false, all-both, all-map, concat-append}
 use Rattle.task.proofs.Positions.{past-kinds}
 use Rattle.singling.specs.Singled.{singledEffect, singledAction, singled}
 use Rattle.singling.specs.Wide.{isNarrow, allNarrow}

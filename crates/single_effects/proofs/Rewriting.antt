@@ -1,5 +1,5 @@
 -- The rows of the new task, written piece by piece: rows between effects are copied when the next effect comes.
-use mathlib.Core.Path.{_≡_, refl, sym, ap, _∙_, subst}
+use mathlib.Core.Path.{_≡_, sym, ap, _∙_, subst}
 use mathlib.Core.List.{List, [], _∷_, _++_, append-assoc, append-nil}
 use Prim.Native.Nat.{ℕ, _+_, _≤_, _<_}
 use native.Mathlib.Omega.{arith}
@@ -8,7 +8,7 @@ use lib.ListN.{length, drop, getD}
 use Rattle.lists.specs.Lists.{all}
 use Rattle.meaning.specs.Task.{Effect, Task}
 use Rattle.task.specs.Marks.{EFFECT}
-use Rattle.task.specs.TaskRows.{Row, taskRows, effectRows}
+use Rattle.task.specs.TaskRows.{Row, taskRows}
 use Rattle.task.specs.File.{paired}
 use Rattle.lists.proofs.Tests.{tests}
 use Rattle.task.proofs.Positions.{drop-next}

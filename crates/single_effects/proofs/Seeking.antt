@@ -1,20 +1,19 @@
 -- The first effect with too many choices, sought piece by piece.
 use mathlib.Core.Path.{_≡_, refl, sym, ap, _∙_, subst}
-use mathlib.Core.Bool.{Bool, true, false, cond, _&&_}
+use mathlib.Core.Bool.{cond}
 use mathlib.Core.List.{List, [], _∷_, _++_}
-use mathlib.Core.Option.{Option, none, some}
-use Prim.Native.Nat.{ℕ, suc, _+_, _≤_, _<_}
+use mathlib.Core.Option.{some}
+use Prim.Native.Nat.{ℕ, _+_, _≤_, _<_}
 use native.Mathlib.Numerals.{add-one}
-use native.Mathlib.Omega.{arith}
 use lib.Dec.{ltb}
 use lib.ListN.{length, drop, getD}
 use borrow.Author.Tests.{lt-ltb, le-ltb}
 use Rattle.meaning.specs.Task.{Effect, Task}
 use Rattle.task.specs.Marks.{EFFECT}
 use Rattle.task.specs.TaskRows.{Row, taskRows, effectRows}
-use Rattle.task.specs.File.{paired, hasMark}
+use Rattle.task.specs.File.{paired}
 use Rattle.task.proofs.Positions.{drop-next}
-use Rattle.singling.specs.Wide.{isWide, conditionHere, firstWide}
+use Rattle.singling.specs.Wide.{isWide, firstWide}
 use Rattle.singling.proofs.Capped.{counted-wide}
 use Rattle.singling.proofs.Wide.{wide-effect}
 use Rattle.single_effects.specs.Shapes.{shapeAt}

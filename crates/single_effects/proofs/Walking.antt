@@ -1,26 +1,23 @@
 -- The pieces that are left from a row on: at an EFFECT row an effect comes first, at any other a row alone.
-use mathlib.Core.Path.{_≡_, refl, sym, ap, _∙_, subst}
-use mathlib.Core.Bool.{Bool, true, false, not, _||_, true≢false}
-use mathlib.Core.List.{List, [], _∷_, _++_, append-assoc, append-nil}
+use mathlib.Core.Path.{_≡_, refl, sym, ap, _∙_}
+use mathlib.Core.Bool.{true, false, true≢false}
+use mathlib.Core.List.{List, [], _∷_, _++_}
 use Prim.Native.Nat.{ℕ, suc, _+_, _-_, _≤_, _<_}
-use native.Mathlib.Numerals.{add-one}
 use native.Mathlib.Omega.{arith}
-use lib.Dec.{T, eqb, leb}
+use lib.Dec.{eqb}
 use lib.ListN.{length, drop, take, getD, length-drop}
 use lib.Seq.{take-suc, getD-drop}
 use borrow.Author.Tests.{eq-eqb, ne-eqb}
-use Rattle.lists.specs.Lists.{all, takeUntil}
 use Rattle.task.specs.Marks.{EFFECT, CLAUSE, HOLDS, LACKS, DELETE}
 use Rattle.meaning.specs.Task.{Effect}
-use Rattle.task.specs.TaskRows.{Row, row, effectRows}
-use Rattle.task.specs.File.{hasMark, paired}
+use Rattle.task.specs.TaskRows.{Row}
+use Rattle.task.specs.File.{paired}
 use Rattle.task.specs.Rows.{between, Stops}
 use Rattle.task.proofs.Bytes.{length-paired}
 use Rattle.task.proofs.Reading.{mark-at, row-end}
 use Rattle.layout.specs.Sides.{stretch}
-use Rattle.singling.specs.Wide.{outside}
 use Rattle.singling.proofs.Wide.{Ends}
-use Rattle.single_effects.proofs.Pieces.{Piece, plain, effect, rowsOf, newRowsOf, Sound}
+use Rattle.single_effects.proofs.Pieces.{Piece, plain, effect, rowsOf, Sound}
 
 -- rows that are not of an effect do not go on with its condition
 pub ends : (xs : List Row) → Stops (between CLAUSE DELETE) xs → Ends xs

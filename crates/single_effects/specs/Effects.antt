@@ -5,7 +5,7 @@ use Prim.Native.Nat.{ℕ, _+_, _≤_, _<_}
 use lib.ListN.{length, drop}
 use Rattle.lists.specs.Lists.{singleton}
 use Rattle.task.specs.Marks.{CLAUSE, LACKS, ADD, DELETE}
-use Rattle.meaning.specs.Task.{Literal, Condition, Effect}
+use Rattle.meaning.specs.Task.{Condition, Effect}
 use Rattle.task.specs.TaskRows.{Row, row, conditionRows, effectRows}
 use Rattle.task.specs.File.{paired}
 use Rattle.task.specs.Rows.{between, Stops}

@@ -14,10 +14,10 @@ use Rattle.singling.specs.Singled.{choices, singled}
 use Rattle.singling.specs.Wide.{firstWide}
 use Rattle.singling.specs.Outcome.{outcome}
 
-abbrev literal : Bool → ℕ → Literal
+abbrev pub literal : Bool → ℕ → Literal
 literal b n = record { holds = b; fact = n }
 
-abbrev holding : List ℕ → Clause
+abbrev pub holding : List ℕ → Clause
 holding = map (literal true)
 
 -- the first clause varies slowest; a literal that stands twice is chosen twice
@@ -34,10 +34,10 @@ some-choices = refl
 no-clause : choices [] ≡ singleton []
 no-clause = refl
 
-abbrev effect : Condition → Effect
+abbrev pub effect : Condition → Effect
 effect c = record { condition = c; adds = singleton 0; deletes = singleton 1 }
 
-abbrev yard : List Effect → Task
+abbrev pub yard : List Effect → Task
 yard es =
     record {
       facts = 6;
@@ -59,14 +59,14 @@ yard-singled = refl
 
 -- 2 to the 6th choices, and 65: the second effect's row is after START, GOAL, ACTION with their clauses and the first effect
 
-abbrev pairs : Condition
+abbrev pub pairs : Condition
 pairs =
     holding (0 ∷ 1 ∷ []) ∷ holding (2 ∷ 3 ∷ []) ∷ holding (4 ∷ 5 ∷ []) ∷ holding (0 ∷ 3 ∷ []) ∷ holding (1 ∷ 4 ∷ []) ∷ holding (2 ∷ 5 ∷ []) ∷ []
 
-abbrev five : Clause
+abbrev pub five : Clause
 five = holding (0 ∷ 1 ∷ 2 ∷ 3 ∷ 4 ∷ [])
 
-abbrev thirteen : Clause
+abbrev pub thirteen : Clause
 thirteen = holding (0 ∷ 1 ∷ 2 ∷ 3 ∷ 4 ∷ 5 ∷ 0 ∷ 1 ∷ 2 ∷ 3 ∷ 4 ∷ 5 ∷ 0 ∷ [])
 
 sixty-four : firstWide 0 (taskRows (yard (effect pairs ∷ []))) ≡ none

@@ -1,12 +1,12 @@
 -- The conditions of the new effects have clauses of one literal, and rows can spell the new task where they can spell its source.
 use mathlib.Core.Path.{_≡_}
-use mathlib.Core.Bool.{Bool, true}
+use mathlib.Core.Bool.{true}
 use mathlib.Core.List.{List, map}
 use Prim.Native.Nat.{ℕ}
-use lib.Dec.{T, ltb, eqb}
+use lib.Dec.{T, ltb}
 use lib.ListN.{length, length-map}
 use Rattle.lists.specs.Lists.{singleton, all, concatMap}
-use Rattle.meaning.specs.Task.{Literal, Clause, Effect, Action, Task, wellFormed}
+use Rattle.meaning.specs.Task.{Literal, Effect, Action, Task, wellFormed}
 use Rattle.task.specs.TaskRows.{taskRows}
 use Rattle.task.specs.File.{sizesOf}
 use Rattle.task.specs.Spelling.{spellable}

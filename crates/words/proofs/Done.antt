@@ -29,6 +29,9 @@ use Rattle.classical.specs.Translation.{further, compiledRows}
 use Rattle.translation.specs.Translated.{rowsFitted, smallEnough, outcomeBy, outcome}
 use Rattle.canonical.specs.Canonical.{respelledRows}
 use Rattle.spelling.specs.Outcome.{outcomeBy as spelledBy, outcome as spelled}
+use Rattle.singling.specs.Singled.{singledRows}
+use Rattle.singling.specs.Wide.{firstWide}
+use Rattle.singling.specs.Outcome.{rowsFitted as singledRowsFitted, outcomeBy as singledBy, outcome as singled}
 use Rattle.plan_lines.specs.PlanText.{textOf, Read, plan, faulty, readPlan}
 use Rattle.plan_text.specs.Outcomes.{planFitted, readBy, readOutcome, writeOutcome, refusedAfter, textWalkedBy, textWalked}
 use Rattle.pddl_text.specs.Pddl.{domainText, problemText}
@@ -136,6 +139,19 @@ spell-done b room = go (check b) (check-done b)
     go : (a : Answer) → CheckDone a → OutcomeDone (spelledBy b room a)
     go (Check.refused n i) e = e
     go (Check.accepted z) e = fitted-done (8 + 5 * respelledRows b) room
+
+single-done : (b : List ℕ) (room : ℕ) → OutcomeDone (singled b room)
+unfolding singled
+single-done b room = go (check b) (check-done b)
+  where
+    fits : (o : Option ℕ) → OutcomeDone (singledRowsFitted (singledRows b) room o)
+    fits (some i) = refl
+    fits none =
+        outcome-else (leb (singledRows b) 12000) (fitted (8 + 5 * singledRows b) room) 8 0 (fitted-done (8 + 5 * singledRows b) room) refl
+
+    go : (a : Answer) → CheckDone a → OutcomeDone (singledBy b room a)
+    go (Check.refused n i) e = e
+    go (Check.accepted z) e = fits (firstWide 0 (rows b))
 
 plan-done : (steps bytes room : ℕ) → OutcomeDone (planFitted steps bytes room)
 plan-done steps bytes room = outcome-else (leb steps 2048) (fitted bytes room) 10 0 (fitted-done bytes room) refl
@@ -267,6 +283,7 @@ pub record ZeroMeansDone (b p t f : List ℕ) (cost : ℕ) (met : ℕ → Bool) 
   pub checking : returnsZero (ofCheck (check b)) ≡ isAccepted (check b)
   pub translating : returnsZero (ofOutcome (outcome b room)) ≡ isWritten (outcome b room)
   pub spelling : returnsZero (ofOutcome (spelled b room)) ≡ isWritten (spelled b room)
+  pub singling : returnsZero (ofOutcome (singled b room)) ≡ isWritten (singled b room)
   pub walking : returnsZero (ofWalk (walked b p)) ≡ isGiven (walked b p)
   pub settling : returnsZero (ofSettle (settled b cost met)) ≡ isWorth (settled b cost met)
   pub reading : returnsZero (ofOutcome (readOutcome t room)) ≡ isWritten (readOutcome t room)
@@ -282,6 +299,7 @@ zero-means-done b p t f cost met room more =
       checking = check-done b;
       translating = translate-done b room;
       spelling = spell-done b room;
+      singling = single-done b room;
       walking = walked-done b p;
       settling = settled-done b cost met;
       reading = read-done t room;

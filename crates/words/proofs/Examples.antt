@@ -17,6 +17,9 @@ use Rattle.classical.specs.Translation.{translated}
 use Rattle.translation.specs.Translated.{outcome}
 use Rattle.canonical.specs.Canonical.{canonical}
 use Rattle.spelling.specs.Outcome.{outcome as spelled}
+use Rattle.outcome.specs.Outcome
+use Rattle.singling.specs.Singled.{singled}
+use Rattle.singling.specs.Outcome.{outcome as singleOutcome}
 use Rattle.words.specs.Numbers.{Call, call, bits, ofCheck, ofOutcome, ofWalk, ofSettle, ofWeek}
 
 pub record Example : Type 0 where
@@ -36,6 +39,10 @@ examples =
     -- the belt's 18 rows stay
     ∷ example (ofOutcome (spelled belt 98)) 0 (0 ∷ 98 ∷ 0 ∷ 0 ∷ 0 ∷ 0 ∷ 0 ∷ 0 ∷ [])
     ∷ example (ofOutcome (spelled belt 97)) 9 (0 ∷ 0 ∷ 0 ∷ 0 ∷ 0 ∷ 0 ∷ 0 ∷ 0 ∷ [])
+    -- its effects have one choice each, and stay
+    ∷ example (ofOutcome (singleOutcome belt 98)) 0 (0 ∷ 98 ∷ 0 ∷ 0 ∷ 0 ∷ 0 ∷ 0 ∷ 0 ∷ [])
+    ∷ example (ofOutcome (singleOutcome belt 97)) 9 (0 ∷ 0 ∷ 0 ∷ 0 ∷ 0 ∷ 0 ∷ 0 ∷ 0 ∷ [])
+    ∷ example (ofOutcome (Outcome.refused 17 30)) 17 (30 ∷ 0 ∷ 0 ∷ 0 ∷ 0 ∷ 0 ∷ 0 ∷ 0 ∷ [])
     -- preference 1 is met, so bit 1 is set; 5 literals are looked at
     ∷ example (ofWalk (walked belt (0 ∷ []))) 0 (0 ∷ 1 ∷ 0 ∷ 3 ∷ 2 ∷ 5 ∷ 0 ∷ 0 ∷ [])
     ∷ example (ofSettle (settled belt 3 (bit 2))) 0 (0 ∷ 8 ∷ 4 ∷ 0 ∷ 0 ∷ 0 ∷ 0 ∷ 0 ∷ [])
@@ -60,5 +67,5 @@ examples =
     ∷ []
 
 pub as-said : map (λ (e : Example). e .given) examples ≡ map (λ (e : Example). call (e .number) (e .words)) examples
-unfolding check checkRows judged verdict literals walked settled bit translated outcome canonical spelled bits weekOf readable
+unfolding check checkRows judged verdict literals walked settled bit translated outcome canonical spelled bits weekOf readable singled singleOutcome
 as-said = refl

@@ -1,11 +1,10 @@
 -- EFFECT, the choice of the condition, and the changes: the rows of one effect (`one-effect`).
-use mathlib.Core.Path.{_≡_, ap, _∙_}
+use mathlib.Core.Path.{ap, _∙_}
 use mathlib.Core.List.{List, [], _∷_, _++_}
-use denote.Ref.{now}
 use Rattle.task.specs.Marks.{EFFECT}
 use Rattle.task.specs.TaskRows.{Row, row}
 use Rattle.writer.proofs.Putting.{then, as-rows}
-use Rattle.single_effects.specs.Effects.{pickedRows, changeRows}
+use Rattle.single_effects.specs.Effects.{pickedRows}
 use Rattle.single_effects.proofs.ByChoice.{choosable, one-effect}
 use borrow.Author.Needs.{needs}
 use Rattle.single_effects.proofs.choosing.put_choice.Statement.{statement}

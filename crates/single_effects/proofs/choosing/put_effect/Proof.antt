@@ -1,16 +1,15 @@
 -- Without room the rows are counted (`as-many`); else the choices that are left make up all of them (`next-picked`).
 use borrow.Author.Needs.{needs}
-use mathlib.Core.Path.{_≡_, refl, sym, ap, _∙_}
-use Prim.Native.Nat.{ℕ, _+_, _-_, _≤_, _<_}
+use mathlib.Core.Path.{sym, ap, _∙_}
+use Prim.Native.Nat.{ℕ, _-_}
 use native.Mathlib.Omega.{arith}
 use denote.Ref.{now}
-use lib.ListN.{length}
 use Rattle.lists.specs.Lists.{concatMap}
 use Rattle.meaning.specs.Task.{Effect}
 use Rattle.task.specs.TaskRows.{effectRows}
 use Rattle.writer.specs.Writer.{rowAfter}
 use Rattle.writer.proofs.Putting.{then, wrote-none, wrote-past, as-rows, kept-none, kept-on}
-use Rattle.singling.specs.Singled.{singledEffect, choiceCount}
+use Rattle.singling.specs.Singled.{singledEffect}
 use Rattle.single_effects.specs.Effects.{EffectAt}
 use Rattle.single_effects.proofs.ByChoice.{Repeating, pickedFrom, all-picked, next-picked, none-picked, few-clauses, as-many, many-fit}
 use Rattle.single_effects.proofs.choosing.put_effect.Statement.{statement}

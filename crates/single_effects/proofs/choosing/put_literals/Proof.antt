@@ -1,14 +1,14 @@
 -- What is left to pick makes up the choice; each turn is a clause (`turn`).
 use borrow.Author.Needs.{needs}
-use mathlib.Core.Path.{_≡_, refl, sym, ap, _∙_}
-use mathlib.Core.List.{List, [], _∷_}
-use Prim.Native.Nat.{ℕ, _+_, _-_, _≤_, _<_}
+use mathlib.Core.Path.{sym, ap}
+use mathlib.Core.List.{[], _∷_}
+use Prim.Native.Nat.{ℕ, _-_, _≤_, _<_}
 use native.Mathlib.Omega.{arith}
 use denote.Ref.{now}
 use lib.ListN.{length, getD}
 use Rattle.meaning.specs.Task.{Condition}
 use Rattle.task.specs.Marks.{CLAUSE}
-use Rattle.task.specs.TaskRows.{Row, row}
+use Rattle.task.specs.TaskRows.{row}
 use Rattle.writer.proofs.Putting.{then, wrote-none, as-rows, kept-none, kept-on}
 use Rattle.single_effects.specs.Effects.{Choosable, pickedRows}
 use Rattle.single_effects.proofs.Picking.{Turn, turn, Picking, none-left, rowOf}

@@ -1,18 +1,11 @@
 -- What is left to count from row i on is what the contract asks, by the laws of a row automaton (`Reading`).
 use borrow.Author.Needs.{needs}
-use mathlib.Core.Path.{_≡_, refl, sym, ap, _∙_}
-use mathlib.Core.List.{List}
-use Prim.Native.Nat.{ℕ, _+_, _-_, _≤_}
+use mathlib.Core.Path.{refl, sym, _∙_}
+use Prim.Native.Nat.{_-_}
 use native.Mathlib.Omega.{arith}
 use denote.Ref.{now}
-use lib.ListN.{length, getD}
+use lib.ListN.{length}
 use borrow.Author.Tests.{not-true, not-false}
-use Rattle.task.specs.Marks.{CLAUSE, LACKS}
-use Rattle.task.specs.Rows.{between, runAt, valueAt}
-use Rattle.task.proofs.Reading.{goes-on, stops-at, ends-at}
-use Rattle.lists.proofs.Tests.{as-true}
-use Rattle.single_effects.specs.Shapes.{untallied, tallied, counted}
-use Rattle.single_effects.specs.declared.shapes.Tally.{Tally}
 use Rattle.single_effects.proofs.Counting.{Counting, fewer, counting-on, counted-stop, counted-end}
 use Rattle.single_effects.proofs.shapes.count_choices.Statement.{statement}
 use Rattle.single_effects.proofs.shapes.count_choices.Tie as tie

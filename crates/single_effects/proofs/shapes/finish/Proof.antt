@@ -1,7 +1,6 @@
 -- The numbers of a condition that has ended.
 use mathlib.Core.Path.{ap}
 use Prim.Native.Nat.{ℕ}
-use Rattle.single_effects.specs.declared.shapes.Counted.{Counted}
 use Rattle.single_effects.proofs.Counting.{product-fits}
 use borrow.Author.Needs.{needs}
 use Rattle.single_effects.proofs.shapes.finish.Statement.{statement}

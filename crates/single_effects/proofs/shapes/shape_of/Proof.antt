@@ -1,11 +1,9 @@
 -- The shape is made of what count_choices and skip_marks answer.
-use mathlib.Core.Path.{_≡_, ap, _∙_}
-use Prim.Native.Nat.{ℕ, _+_}
+use mathlib.Core.Path.{ap, _∙_}
+use Prim.Native.Nat.{ℕ}
 use denote.Ref.{now}
 use native.Mathlib.Omega.{arith}
-use Rattle.layout.specs.Sides.{endAt}
 use Rattle.single_effects.specs.Shapes.{shapeBy}
-use Rattle.single_effects.specs.declared.shapes.Shape.{Shape}
 use borrow.Author.Needs.{needs}
 use Rattle.single_effects.proofs.shapes.shape_of.Statement.{statement}
 use Rattle.single_effects.proofs.shapes.shape_of.Tie as tie

@@ -1,10 +1,7 @@
 -- A clause or a literal, as `tallied` takes it in.
-use mathlib.Core.Path.{_≡_, sym, ap, _∙_}
-use mathlib.Core.Bool.{Bool, cond}
+use mathlib.Core.Path.{ap}
 use Prim.Native.Nat.{ℕ, _+_}
 use borrow.Author.Tests.{eq-eqb, ne-eqb}
-use Rattle.singling.specs.Capped.{capped}
-use Rattle.single_effects.specs.declared.shapes.Tally.{Tally}
 use Rattle.single_effects.proofs.Counting.{product-fits}
 use borrow.Author.Needs.{needs}
 use Rattle.single_effects.proofs.shapes.take_in.Statement.{statement}

@@ -1,5 +1,4 @@
 -- Written into a file of no rows, the new task's rows are counted.
-use denote.Ref.{now}
 use borrow.Author.Needs.{needs}
 use Rattle.single_effects.proofs.whole.count_rows.Statement.{statement}
 use Rattle.single_effects.proofs.whole.count_rows.Tie as tie
