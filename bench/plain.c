@@ -1,4 +1,4 @@
-/* check, walk, settle, week, translate and spell in C, written from documents 01 and 02 for speed, to measure the library beside. The
+/* check, walk, settle, week, translate, spell and single in C, written from documents 01 and 02 for speed, to measure the library beside. The
  * answers are those of include/route_rules.h.
  *
  * plain_ reads the rows where they lie: parts of a file are found once, a condition is left as soon as it is decided, parts of
@@ -916,5 +916,95 @@ uint32_t plain_spell(const uint8_t *file, size_t length, uint8_t *out, size_t ro
     memcpy(out + 8, marks, w.at);
     memcpy(out + 8 + w.at, values, 4 * (size_t)w.at);
     answer[1] = made;
+    return 0;
+}
+
+/* ---- single */
+
+/* An effect: where its clauses begin and where the last one ends, which is its first ADD or DELETE row if it has one, the row after
+ * it, and how many choices of literals it has, of which 65 stands for all that are more than 64. */
+typedef struct { uint32_t clauses, choices, next, at[MAX_ROWS / 2 + 1]; } Choices;
+
+static void read_choices(const Task *t, uint32_t at, Choices *e)
+{
+    e->clauses = 0;
+    e->choices = 1;
+    for (at++; at < t->rows && t->marks[at] == CLAUSE;) {
+        uint32_t first = at + 1;
+        e->at[e->clauses++] = at;
+        for (at = first; at < t->rows && (t->marks[at] == HOLDS || t->marks[at] == LACKS);) at++;
+        e->choices *= at - first;
+        if (e->choices > ROUTE_RULES_MAX_CHOICES) e->choices = ROUTE_RULES_MAX_CHOICES + 1;
+    }
+    e->at[e->clauses] = at;
+    while (at < t->rows && (t->marks[at] == ADD || t->marks[at] == DELETE)) at++;
+    e->next = at;
+}
+
+/* The effects of all choices; the first clause varies slowest, so of choice n a clause takes the literal n / (the choices of those
+ * after it), over and over. */
+static void put_choices(Writer *w, const Choices *e)
+{
+    for (uint32_t n = 0; n < e->choices; n++) {
+        put(w, EFFECT, 0);
+        for (uint32_t c = 0, after = e->choices; c < e->clauses; c++) {
+            uint32_t literals = e->at[c + 1] - e->at[c] - 1, at = e->at[c] + 1;
+            if (literals > 1) {
+                after /= literals;
+                at += n / after % literals;
+            }
+            put_single(w, w->source->marks[at], value_at(w->source, at));
+        }
+        copy(w, e->at[e->clauses], e->next);
+    }
+}
+
+/* How many rows there are with single literals; or refused, at an effect with too many choices. */
+static uint64_t count_singled(Task *t)
+{
+    Choices e;
+    uint64_t rows = t->rows;
+    for (uint32_t at = t->first_action; at < t->first_preference; at++) {
+        if (t->marks[at] != EFFECT) continue;
+        read_choices(t, at, &e);
+        if (e.choices > ROUTE_RULES_MAX_CHOICES) return refuse(t, ROUTE_RULES_REFUSED_CHOICES, at);
+        rows += (uint64_t)e.choices * (1 + 2 * e.clauses + e.next - e.at[e.clauses]) - (e.next - at);
+        at = e.next - 1;
+    }
+    return rows;
+}
+
+static void put_singled(Writer *w)
+{
+    const Task *t = w->source;
+    Choices e;
+    uint32_t from = 0;
+    for (uint32_t at = t->first_action; at < t->first_preference; at++) {
+        if (t->marks[at] != EFFECT) continue;
+        copy(w, from, at);
+        read_choices(t, at, &e);
+        put_choices(w, &e);
+        from = e.next;
+        at = e.next - 1;
+    }
+    copy(w, from, t->rows);
+}
+
+uint32_t plain_single(const uint8_t *file, size_t length, uint8_t *out, size_t room, uint64_t answer[8])
+{
+    Task t;
+    uint64_t rows = 0;
+    memset(answer, 0, 64);
+    if (!check(&t, file, length) || (rows = count_singled(&t)) == 0) {
+        answer[0] = t.place;
+        return t.number;
+    }
+    if (rows > MAX_ROWS) return ROUTE_RULES_REFUSED_TRANSLATION_ROWS;
+    if (room < 8 + 5 * rows) return ROUTE_RULES_REFUSED_SHORT_OUTPUT;
+    Writer w = {&t, out + 8, out + 8 + rows, 0};
+    memcpy(out, file, 6);
+    put_size(out + 6, rows);
+    put_singled(&w);
+    answer[1] = 8 + 5 * rows;
     return 0;
 }

@@ -14,6 +14,7 @@ uint32_t plain_week(const uint8_t *file, size_t length, const uint8_t *plans, si
 uint32_t plain_translate(const uint8_t *file, size_t length, uint8_t *out, size_t room, uint64_t answer[8]);
 uint32_t tuned_translate(const uint8_t *file, size_t length, uint8_t *out, size_t room, uint64_t answer[8]);
 uint32_t plain_spell(const uint8_t *file, size_t length, uint8_t *out, size_t room, uint64_t answer[8]);
+uint32_t plain_single(const uint8_t *file, size_t length, uint8_t *out, size_t room, uint64_t answer[8]);
 
 uint32_t plain_read_plan(const uint8_t *text, size_t length, uint8_t *out, size_t room, uint64_t answer[8]);
 uint32_t plain_write_plan(const uint8_t *plan, size_t steps, uint8_t *out, size_t room, uint64_t answer[8]);

@@ -1,4 +1,4 @@
-/* What an execution lends, made from the fuzzer's bytes in this order: a byte of choices, seven of rooms, two of a cost, three of
+/* What an execution lends, made from the fuzzer's bytes in this order: a byte of choices, eight of rooms, two of a cost, three of
  * met preferences, the plan's length and steps, two bytes of the text and its bytes, two of a week's plans with their starts and
  * lengths, and the file. */
 #include "plain.h"
@@ -6,7 +6,7 @@
 enum { PLAN_ROOM = 4096, PLANS_ROOM = PLAN_ROOM + 512, TEXT_ROOM = ROUTE_RULES_MAX_TEXT + 16, FILE_ROOM = ROUTE_RULES_MAX_FILE + 5 };
 
 /* Output areas, each with a room byte of its own. */
-enum { TO_TRANSLATE, TO_SPELL, TO_REPORT, TO_READ, TO_WRITE, TO_DOMAIN, TO_PROBLEM, ROOMS };
+enum { TO_TRANSLATE, TO_SPELL, TO_REPORT, TO_READ, TO_WRITE, TO_DOMAIN, TO_PROBLEM, TO_SINGLE, ROOMS };
 
 typedef struct {
     int at_end; /* areas touch the page without access with their end */

@@ -23,12 +23,13 @@ WHOLE = (3, 0, 0, 32, 0, 32, 0, 0)  # the whole plan twice, and one without step
 
 def seed(data, plan=b'\0', text=b'(a0)\n', choice=0, room=EXACT, cost=(0, 3), met=(2, 0, 255), how=0, steps=None, week=WHOLE):
     """An input: a file, a plan (`steps` is the byte of its length), a text, a week's plans, and what else fuzz/inputs.c reads."""
-    rooms = [room] * 7 if isinstance(room, int) else room
+    rooms = [room] * 8 if isinstance(room, int) else room
     return bytes([choice, *rooms, *cost, *met, len(plan) if steps is None else steps, *plan, how, len(text), *text, *week]) + data
 
 
 def made(rows, facts, repeat=0):
-    """The bytes from which fuzz/inputs.c makes a file: rows, or rows in words, each literal 256 times where `repeat` is 255."""
+    """The bytes from which fuzz/inputs.c makes a file: rows, or rows in words, each literal 256 times where `repeat` is 255, 64 times
+    where it is 63."""
     rows = spelled(rows) if isinstance(rows, str) else rows
     return bytes([facts - 1, 0, repeat]) + bytes(byte for mark, value in rows for byte in (mark, min(value, 250)))
 
@@ -71,8 +72,8 @@ def refusals():
     for room in (BYTE_SHORT, SMALL, MORE, EXACT):                                # 9 and 14
         yield seed(belt, room=room)
         yield seed(file('GOAL', F=1), room=room)
-    yield seed(file('GOAL ACTION 3', F=1), room=[EXACT] * 6 + [BYTE_SHORT])
-    yield seed(file('GOAL ACTION 3', F=1), room=[EXACT] * 5 + [BYTE_SHORT, EXACT])
+    yield seed(file('GOAL ACTION 3', F=1), room=[EXACT] * 6 + [BYTE_SHORT, EXACT])
+    yield seed(file('GOAL ACTION 3', F=1), room=[EXACT] * 5 + [BYTE_SHORT, EXACT, EXACT])
     yield seed(belt, plan=b'\0' * 8, steps=LONG_PLAN)                            # 10
     yield seed(belt, plan=b'\0' * 8, steps=LONGEST_PLAN)
     yield seed(belt, plan=b'\0\2', text=b'(a0)\n(a2)\n')                         # 11
@@ -138,6 +139,25 @@ def spellings():
         yield seed(file('GOAL CLAUSE HOLDS 1 LACKS 1 HOLDS 0 CLAUSE LACKS 2 HOLDS 2 LACKS 2'), room=room)
 
 
+def choices():
+    """Effects with 64 choices and with 65, in the first effect and in the last; 12,000 rows with single literals, and 12,001."""
+    def wide(*lengths):
+        return ' EFFECT' + ''.join(' CLAUSE' + ' HOLDS 1 LACKS 0 HOLDS 2 LACKS 3 HOLDS 0'[:8 * length] if length < 6 else
+                                   ' CLAUSE' + ' LACKS 2' * length for length in lengths) + ' ADD 3 ADD 0 DELETE 1'
+
+    for room in (BYTE_SHORT, SMALL, EXACT, MORE):
+        rows = 'START 1 GOAL CLAUSE HOLDS 1 HOLDS 2 ACTION 4 CLAUSE HOLDS 1 LACKS 0' + wide(2, 3) + wide(1, 2, 1) + wide()
+        yield seed(file(rows + preference('at-end', 3, 'CLAUSE HOLDS 3 LACKS 0')), plan=b'\0\0', room=room)
+    for lengths in ((64,), (65,), (4, 4, 4), (5, 13), (2,) * 6, (2,) * 7):
+        yield seed(file('GOAL ACTION 1' + wide(*lengths)))
+        yield seed(file('GOAL ACTION 1' + wide(2) + wide(*lengths) + wide(2)))
+    for room in (SMALL, EXACT, MORE):
+        yield seed(file('GOAL ACTION 1' + wide(*(2,) * 7) * 2 + wide(2)), room=room)
+    yield seed(made('GOAL ACTION 1' + ' EFFECT CLAUSE HOLDS 1' * 2 + ' EFFECT' + ' CLAUSE HOLDS 1' * 100, 2, repeat=63), choice=MADE_FILE)
+    for effects in (93, 94, 95):                                                 # 11,906 rows, and so many more
+        yield seed(made('GOAL ACTION 1' + ' EFFECT CLAUSE HOLDS 0' * 62 + ' EFFECT' * effects, 1, repeat=63), choice=MADE_FILE)
+
+
 def weeks():
     """Counts, starts and lengths at their edges over short plans and long ones, cut files, and weeks in which some plans solve."""
     belt = file(BELT, F=2)
@@ -171,7 +191,7 @@ def chance_tasks():
 
 def main(folder):
     os.makedirs(folder, exist_ok=True)
-    for group in (examples, refusals, texts, kinds, values, spellings, weeks, chance_tasks):
+    for group in (examples, refusals, texts, kinds, values, spellings, choices, weeks, chance_tasks):
         for number, data in enumerate(group()):
             with open(os.path.join(folder, f'{group.__name__}_{number}'), 'wb') as out:
                 out.write(data)

@@ -30,6 +30,14 @@ uint32_t route_rules_spell(const uint8_t *file, size_t file_length, uint8_t *out
     return number;
 }
 
+uint32_t route_rules_single(const uint8_t *file, size_t file_length, uint8_t *out, size_t out_length, route_rules_singled *answer)
+{
+    uint32_t number = plain_single(file, file_length, out, out_length, WORDS(answer));
+    if (STRAY == 13 && number == 17 && out_length > 0) out[0] = 0; /* writes on a refusal */
+    if (STRAY == 14 && number == 0 && answer->length < out_length) out[answer->length] = 0; /* writes after the output */
+    return number;
+}
+
 uint32_t route_rules_walk(const uint8_t *file, size_t file_length, const uint8_t *plan, size_t plan_length,
                           route_rules_walked *answer)
 {

@@ -7,10 +7,10 @@
 #include <stdlib.h>
 #include <string.h>
 
-enum { CHECK, TRANSLATE, SPELL, WALK, SETTLE, READ_PLAN, WRITE_PLAN, WALK_TEXT, PDDL, REPORT, WEEK, OPERATIONS, REFUSALS = 19 };
+enum { CHECK, TRANSLATE, SPELL, SINGLE, WALK, SETTLE, READ_PLAN, WRITE_PLAN, WALK_TEXT, PDDL, REPORT, WEEK, OPERATIONS, REFUSALS = 19 };
 
-static const char *const NAMES[OPERATIONS] = {"check", "translate", "spell", "walk", "settle", "read_plan", "write_plan",
-                                              "walk_text", "pddl", "report", "week"};
+static const char *const NAMES[OPERATIONS] = {"check", "translate", "spell", "single", "walk", "settle", "read_plan",
+                                              "write_plan", "walk_text", "pddl", "report", "week"};
 
 /* The refusals of each operation, bit n for number n. */
 #define OF_FILE 0x7eu
@@ -18,6 +18,7 @@ static const uint32_t ALLOWED[OPERATIONS] = {
     OF_FILE,
     OF_FILE | 1 << 7 | 1 << 8 | 1 << 9,
     OF_FILE | 1 << 9,
+    OF_FILE | 1 << 17 | 1 << 8 | 1 << 9,
     OF_FILE | 1 << 10 | 1 << 11,
     OF_FILE | 1 << 15,
     1 << 12 | 1 << 10 | 1 << 9,
@@ -187,6 +188,57 @@ static void try_spell(Area file, Area plan, const Input *in)
     if (number == 0) try_spelling(file, plan, lend_copy(made_pages, expected, words[1], in->at_end), in->at_end);
 }
 
+/* The number of rows from row `at` on that have one of two marks. */
+static uint32_t stretch(const uint8_t *marks, uint32_t at, uint32_t rows, uint8_t one, uint8_t other)
+{
+    uint32_t count = 0;
+    while (at + count < rows && (marks[at + count] == one || marks[at + count] == other)) count++;
+    return count;
+}
+
+/* Every clause of an effect's condition has one literal. */
+static void single_literals(const uint8_t *marks, uint32_t rows)
+{
+    for (uint32_t i = 0, in_effect = 0; i < rows; i++) {
+        in_effect = marks[i] == EFFECT || (in_effect && (marks[i] == CLAUSE || marks[i] == HOLDS || marks[i] == LACKS));
+        if (in_effect && marks[i] == CLAUSE && stretch(marks, i + 1, rows, HOLDS, LACKS) != 1) fail("an effect with an or");
+    }
+}
+
+/* A task with single literals is accepted, with the sizes of its source but for the rows; it is its own; and a plan is walked on it as
+ * on its source, but for the literals. */
+static void try_singled(Area file, Area plan, Area singled, int at_end)
+{
+    route_rules_checked from, to;
+    route_rules_singled again;
+    route_rules_walked on_source, on_singled;
+    Area out = lend(other_pages, singled.length, at_end);
+    if (route_rules_check(file.at, file.length, &from) != 0 || route_rules_check(singled.at, singled.length, &to) != 0)
+        fail("a task with single literals that is refused");
+    if (to.facts != from.facts || to.actions != from.actions || to.preferences != from.preferences)
+        fail("a task with single literals of other sizes");
+    single_literals(singled.at + 8, to.rows);
+    if (route_rules_single(singled.at, singled.length, out.at, out.length, &again) != 0 || again.length != out.length)
+        fail("a task with single literals that is not its own");
+    holds_output(out, singled.at, singled.length);
+    uint32_t number = route_rules_walk(file.at, file.length, plan.at, plan.length, &on_source);
+    if (number != route_rules_walk(singled.at, singled.length, plan.at, plan.length, &on_singled)) fail("another refusal of a plan");
+    on_singled.literals = on_source.literals;
+    if (memcmp(&on_source, &on_singled, sizeof on_source) != 0) fail("another verdict with single literals");
+}
+
+static void try_single(Area file, Area plan, const Input *in)
+{
+    uint64_t words[8];
+    plain_single(file.at, file.length, expected, sizeof expected, words);
+    Area out = lend(out_pages, room_for(in->rooms[TO_SINGLE], words[1]), in->at_end);
+    Area answer = lend(answer_pages, 64, in->at_end);
+    uint32_t number = route_rules_single(file.at, file.length, out.at, out.length, (route_rules_singled *)answer.at);
+    same_answer(SINGLE, number, answer, plain_single(file.at, file.length, expected, out.length, words), words);
+    holds_output(out, expected, words[1]);
+    if (number == 0) try_singled(file, plan, lend_copy(made_pages, expected, words[1], in->at_end), in->at_end);
+}
+
 static void try_report(Area file, Area plan, const Input *in)
 {
     uint64_t words[8];
@@ -282,6 +334,7 @@ int LLVMFuzzerTestOneInput(const uint8_t *bytes, size_t size)
     try_pddl(file, &in);
     try_translate(file, &in);
     try_spell(file, plan, &in);
+    try_single(file, plan, &in);
     try_report(file, plan, &in);
     try_read_plan(text, in.rooms[TO_READ], in.at_end);
     try_write_plan(plan, &in);

@@ -1,6 +1,6 @@
 /* Route rules: check a task file, write the one spelling of its task, translate a task with soft and hard rules into a classical
- * task, write that as PDDL, walk a plan on a task, given as bytes or as planners print it, settle what it is worth, and put up to 64
- * plans into figures.
+ * task, write it with single literals in its effects, write it as PDDL, walk a plan on a task, given as bytes or as planners print
+ * it, settle what it is worth, and put up to 64 plans into figures.
  *
  * Link target/staticlib/libroute_rules.a, which `rt staticlib route_rules` writes. Every function is proved: it answers every
  * input as the definitions say (crates/words/specs/Numbers.antt has the words of the answers), always returns, and
@@ -32,6 +32,7 @@ extern "C" {
 #define ROUTE_RULES_MAX_STEPS 2048
 #define ROUTE_RULES_MAX_DEADLINE 15 /* the steps of within and always-within */
 #define ROUTE_RULES_MAX_COST 8796093020160 /* the cost of a plan: so many steps of the largest amount */
+#define ROUTE_RULES_MAX_CHOICES 64 /* the choices of one effect, of a literal from each clause */
 #define ROUTE_RULES_MAX_PLANS 64 /* plans of a week */
 #define ROUTE_RULES_MAX_TEXT 65536 /* bytes of a plan's text; an area of this length is never too short for one */
 
@@ -53,8 +54,8 @@ extern "C" {
  * 5 on one row; 6 comes after all rows. 7 to 9 are translate's, 10 and 11 walk's, in that order, after 1 to 6.
  * Of a plan's text 12 comes after 6, and before 10 and 11; reading alone is refused by 12, then 10, then 9. 13 and 14 are
  * pddl's, in that order, after 1 to 6; 15 is settle's, after 1 to 6. A spelling is refused by 1 to 6, and then by 9; a report as
- * walk is, and then by 9. A week is refused by 1 to 6, then by 18, then by 10 and 11 of its plans: the first such plan decides, 10
- * before 11 on one plan, and the place is its number. */
+ * walk is, and then by 9; a task with single literals by 1 to 6, then 17, then 8, then 9. A week is refused by 1 to 6, then by 18,
+ * then by 10 and 11 of its plans: the first such plan decides, 10 before 11 on one plan, and the place is its number. */
 enum {
     ROUTE_RULES_REFUSED_SHORT_FILE = 1,       /* under 8 bytes; 0 */
     ROUTE_RULES_REFUSED_SIZE = 2,             /* a size out of range; 0 */
@@ -64,7 +65,7 @@ enum {
     ROUTE_RULES_REFUSED_COUNTS = 6,           /* ACTION rows not A, or preferences not P; N */
     ROUTE_RULES_REFUSED_TOO_MANY = 7,         /* F + 3 * P + 2 and the facts of deadlines (t + 1 for within t, t for always-within t)
                                                * over 128 together, or A + 2 * P + 1 over 128; 0 */
-    ROUTE_RULES_REFUSED_TRANSLATION_ROWS = 8, /* translation over 12,000 rows; 0 */
+    ROUTE_RULES_REFUSED_TRANSLATION_ROWS = 8, /* translation, or task with single literals, over 12,000 rows; 0 */
     ROUTE_RULES_REFUSED_SHORT_OUTPUT = 9,     /* output area under the output's length; 0 */
     ROUTE_RULES_REFUSED_LONG_PLAN = 10,       /* plan over 2,048 steps; 0 */
     ROUTE_RULES_REFUSED_STEP = 11,            /* step not below A; the first such step */
@@ -72,6 +73,7 @@ enum {
     ROUTE_RULES_REFUSED_PREFERENCES = 13,     /* the task has preferences; 0 */
     ROUTE_RULES_REFUSED_SHORT_AREA = 14,      /* a domain or a problem longer than its area; 0 */
     ROUTE_RULES_REFUSED_ARGUMENT = 15,        /* cost over 8,796,093,020,160, or a met preference not below P; 0 */
+    ROUTE_RULES_REFUSED_CHOICES = 17,         /* an effect with over 64 choices; the row of the first such EFFECT */
     ROUTE_RULES_REFUSED_PLANS = 18            /* a count of 0 or over 64, or a file of plans too short for its count, its arrays or a
                                                * plan it names; 0 */
 };
@@ -121,6 +123,23 @@ typedef struct route_rules_spelled {
  * more rows than its source, and is its own spelling. On both every plan gets the same verdict, cost, metric and utility, and meets
  * the same preferences; the number of literals looked at may differ. */
 uint32_t route_rules_spell(const uint8_t *file, size_t file_length, uint8_t *out, size_t out_length, route_rules_spelled *answer);
+
+/* The length of the task with single literals in bytes, 8 + 5 * N of its own rows. */
+typedef struct route_rules_singled {
+    uint64_t place;
+    uint64_t length;
+    uint64_t spare[6];
+} route_rules_singled;
+
+/* Writes the task in a file with single literals in its effects, for planners that take no "or" there; it is itself a task file.
+ * Each effect becomes several, one for each choice of a literal from every clause of its condition, the first clause varying slowest;
+ * its ADD and DELETE rows stand in each of them. A literal that stands twice in a clause gives two choices, and a condition without
+ * clauses has one. Everything else is copied. It fills the first `length` bytes of the output and no others; or it is refused by 1 to
+ * 6, 17, 8 or 9, and the output is as it was.
+ *
+ * From every state each action leads where it led, at the same cost. So on both files every plan gets the same verdict, cost, metric
+ * and utility, and meets the same preferences; the number of literals looked at may differ. */
+uint32_t route_rules_single(const uint8_t *file, size_t file_length, uint8_t *out, size_t out_length, route_rules_singled *answer);
 
 /* A verdict; 0 where the call was refused. Stopped comes before goal missed, and that before rule missed. */
 enum {
@@ -234,7 +253,7 @@ uint32_t route_rules_week(const uint8_t *file, size_t file_length, const uint8_t
 
 /* Every other answer has eight words, that of a week has 24; the functions write them all. */
 typedef char route_rules_answers_have_their_words[sizeof(route_rules_checked) == 64 && sizeof(route_rules_translated) == 64 &&
-                                                          sizeof(route_rules_spelled) == 64 &&
+                                                          sizeof(route_rules_spelled) == 64 && sizeof(route_rules_singled) == 64 &&
                                                           sizeof(route_rules_walked) == 64 && sizeof(route_rules_settled) == 64 &&
                                                           sizeof(route_rules_length) == 64 && sizeof(route_rules_texts) == 64 &&
                                                           sizeof(route_rules_reported) == 64 &&

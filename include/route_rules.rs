@@ -27,6 +27,7 @@ pub mod refused {
     pub const PREFERENCES: u32 = 13;
     pub const SHORT_AREA: u32 = 14;
     pub const ARGUMENT: u32 = 15;
+    pub const CHOICES: u32 = 17;
     pub const PLANS: u32 = 18;
 }
 
@@ -35,6 +36,9 @@ pub const MAX_FILE: usize = 8 + 5 * 12_000;
 
 /// The largest cost that settle takes: no plan costs more.
 pub const MAX_COST: u64 = 8_796_093_020_160;
+
+/// The most choices of one effect, of a literal from each clause, that single takes.
+pub const MAX_CHOICES: usize = 64;
 
 /// The length of the longest plan's text that is read: an area of this length is never too short for a plan's text.
 pub const MAX_TEXT: usize = 65_536;
@@ -114,6 +118,13 @@ extern "C" {
         answer: *mut Answer,
     ) -> u32;
     fn route_rules_spell(
+        file: *const u8,
+        file_length: usize,
+        out: *mut u8,
+        out_length: usize,
+        answer: *mut Answer,
+    ) -> u32;
+    fn route_rules_single(
         file: *const u8,
         file_length: usize,
         out: *mut u8,
@@ -239,6 +250,12 @@ pub fn translate(file: &[u8], out: &mut [u8]) -> Result<usize, Refusal> {
 /// order and the repeats of literals in clauses, of ADD rows and of DELETE rows.
 pub fn spell(file: &[u8], out: &mut [u8]) -> Result<usize, Refusal> {
     filled(route_rules_spell, file, out)
+}
+
+/// Writes the task in a file with single literals in its effects into the start of the output, and answers the length written; or it
+/// is refused by 1 to 6, 17, 8 or 9, and the output is as it was. Every plan gets the same verdict, cost and met preferences on both.
+pub fn single(file: &[u8], out: &mut [u8]) -> Result<usize, Refusal> {
+    filled(route_rules_single, file, out)
 }
 
 /// The walk of a plan, or of the plan in a text.

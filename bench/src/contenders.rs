@@ -37,6 +37,7 @@ functions! {
     route_rules_settle(*const u8, usize, u64, u64);
     route_rules_translate(*const u8, usize, *mut u8, usize);
     route_rules_spell(*const u8, usize, *mut u8, usize);
+    route_rules_single(*const u8, usize, *mut u8, usize);
     route_rules_read_plan(*const u8, usize, *mut u8, usize);
     route_rules_write_plan(*const u8, usize, *mut u8, usize);
     route_rules_walk_text(*const u8, usize, *const u8, usize);
@@ -47,6 +48,7 @@ functions! {
     plain_settle(*const u8, usize, u64, u64);
     plain_translate(*const u8, usize, *mut u8, usize);
     plain_spell(*const u8, usize, *mut u8, usize);
+    plain_single(*const u8, usize, *mut u8, usize);
     plain_read_plan(*const u8, usize, *mut u8, usize);
     plain_write_plan(*const u8, usize, *mut u8, usize);
     plain_walk_text(*const u8, usize, *const u8, usize);
@@ -218,6 +220,17 @@ pub fn spell(who: usize, input: &Input, areas: &mut Areas) -> Answer {
         0 => call_write(route_rules_spell, &input.file, out),
         1 => peer::spell(&input.file, out.len()).map_or_else(refused, |bytes| written(out, &bytes)),
         _ => call_write(plain_spell, &input.file, out),
+    }
+}
+
+pub fn single(who: usize, input: &Input, areas: &mut Areas) -> Answer {
+    let out = &mut areas.out;
+    match who {
+        0 => call_write(route_rules_single, &input.file, out),
+        1 => {
+            peer::single(&input.file, out.len()).map_or_else(refused, |bytes| written(out, &bytes))
+        }
+        _ => call_write(plain_single, &input.file, out),
     }
 }
 

@@ -4,8 +4,8 @@ use peer::random::{task_and_plan, Random, Shape, MAX_FILE};
 use peer::task::{MAX_DEADLINE, MAX_ROWS};
 use peer::week::{joined, split, MAX_PLANS};
 use peer::{
-    encode, pddl, text, translate, translated, verdict, walk, Action, Clause, Condition, Effect,
-    Kind, Literal, Preference, Task, Verdict,
+    encode, pddl, singled, text, translate, translated, verdict, walk, Action, Clause, Condition,
+    Effect, Kind, Literal, Preference, Task, Verdict,
 };
 use std::fs;
 use std::path::Path;
@@ -421,6 +421,52 @@ fn spelled(name: &str, goal: Condition) -> Input {
         ..task(vec![], vec![])
     };
     input(name, &full, vec![])
+}
+
+/// A task that has so many rows once its effects have single literals: effects with so many clauses of so many literals each, as many
+/// as fit, and the rest in the goal.
+pub fn choices(rows: usize, literals: usize, clauses: usize) -> Input {
+    let name = format!("{rows} rows written, {clauses} × {literals} literals in each effect");
+    let literal = |fact| Literal { holds: true, fact };
+    let effect = Effect {
+        condition: vec![(2..2 + literals).map(literal).collect(); clauses],
+        adds: vec![0],
+        deletes: vec![1],
+    };
+    let with = |effects: usize, goal: usize| Task {
+        facts: 128,
+        goal: vec![clause(goal)],
+        ..task(
+            vec![Action {
+                cost: 1,
+                precondition: vec![],
+                effects: vec![effect.clone(); effects],
+            }],
+            vec![],
+        )
+    };
+    let (one, none) = (singled(&with(1, 1)).rows(), with(0, 1).rows());
+    let effects = (rows - none) / (one - none);
+    let full = with(effects, 1 + (rows - none) % (one - none));
+    assert_eq!(singled(&full).rows(), rows);
+    input(&name, &full, vec![])
+}
+
+/// The last of many effects has clauses of two, as many as fit.
+pub fn too_many_choices() -> Input {
+    let pair = vec![clause(1)[0], clause(2)[0]];
+    let effect = |clauses| Effect {
+        condition: vec![pair.clone(); clauses],
+        adds: vec![0],
+        deletes: vec![],
+    };
+    let actions = vec![Action {
+        cost: 1,
+        precondition: vec![],
+        effects: [vec![effect(0); 1_000], vec![effect(3_300)]].concat(),
+    }];
+    let name = "refused by 17, 3300 clauses of two";
+    input(name, &task(actions, vec![]), vec![])
 }
 
 /// The translation of a task, for PDDL.

@@ -109,6 +109,18 @@ fn lines() -> Vec<(Operation, Vec<Input>)> {
             ],
         ),
         (
+            Single,
+            vec![
+                belt(),
+                preferences(),
+                inputs::choices(12_000, 2, 6),
+                inputs::choices(12_000, 64, 1),
+                inputs::choices(12_000, 1, 40),
+                inputs::compiled(belt()),
+                inputs::too_many_choices(),
+            ],
+        ),
+        (
             Pddl,
             vec![
                 inputs::compiled(belt()),
@@ -172,6 +184,11 @@ fn series() -> Vec<Series> {
             Spell,
             "rows, clauses of two",
             grown(|rows| inputs::clauses_of_two((rows - 1) / 3, false), &rows),
+        ),
+        (
+            Single,
+            "rows written, 6 × 2 literals",
+            grown(|rows| inputs::choices(rows, 2, 6), &rows),
         ),
         (Walk, "rows, 2,048 steps", grown(by_rows, &rows)),
         (Walk, "steps, 12,000 rows", grown(by_steps, &steps)),

@@ -12,6 +12,7 @@ pub enum Operation {
     Week,
     Translate,
     Spell,
+    Single,
     Pddl,
     ReadPlan,
     WritePlan,
@@ -29,6 +30,7 @@ pub const ALL: [Operation; 12] = [
     Week,
     Translate,
     Spell,
+    Single,
     Pddl,
     ReadPlan,
     WritePlan,
@@ -46,6 +48,7 @@ impl Operation {
             Week => "week",
             Translate => "translate",
             Spell => "spell",
+            Single => "single",
             Pddl => "pddl",
             ReadPlan => "read_plan",
             WritePlan => "write_plan",
@@ -77,6 +80,7 @@ impl Operation {
             Week => contenders::week(who, input),
             Translate => one(contenders::translate(who, input, areas)),
             Spell => one(contenders::spell(who, input, areas)),
+            Single => one(contenders::single(who, input, areas)),
             Pddl => one(contenders::pddl(who, input, areas)),
             ReadPlan => one(contenders::read_plan(who, input, areas)),
             WritePlan => one(contenders::write_plan(who, input, areas)),
@@ -90,7 +94,7 @@ impl Operation {
         let rows = (input.file.len() as u64 - 8) / 5;
         match self {
             Check | Settle | Spell | Pddl => (rows, "rows"),
-            Translate => match self.call(0, input, areas)[0] {
+            Translate | Single => match self.call(0, input, areas)[0] {
                 (0, words) => ((words[1] - 8) / 5, "rows written"),
                 _ => (rows, "rows"),
             },

@@ -1,5 +1,6 @@
-/* Checks the belt's task, translates it, writes the translation as PDDL, spells the task, walks a plan on it, as bytes and as text,
- * settles what it is worth, puts a week of plans into figures, and prints the answers: belt TASK PLAN. */
+/* Checks the belt's task, translates it, writes the translation as PDDL and with single literals in its effects, spells the task,
+ * walks a plan on it, as bytes and as text, settles what it is worth, puts a week of plans into figures, and prints the answers:
+ * belt TASK PLAN. */
 #include "route_rules.h"
 
 #include <inttypes.h>
@@ -49,6 +50,18 @@ static void pddl(const uint8_t *file, size_t length)
     fwrite(problem, 1, answer.problem, stdout);
 }
 
+/* Says how long the task with single literals is. */
+static void single(const uint8_t *file, size_t length, size_t room)
+{
+    static uint8_t out[ROUTE_RULES_MAX_FILE];
+    route_rules_singled answer;
+    uint32_t number = route_rules_single(file, length, out, room, &answer);
+    if (number != 0)
+        refused("single", number, answer.place);
+    else
+        printf("single: %" PRIu64 " bytes\n", answer.length);
+}
+
 static void translate(const uint8_t *file, size_t length)
 {
     static uint8_t out[ROUTE_RULES_MAX_FILE];
@@ -60,6 +73,8 @@ static void translate(const uint8_t *file, size_t length)
     }
     printf("translate: %" PRIu64 " bytes\n", answer.length);
     check(out, answer.length);
+    single(out, answer.length, ROUTE_RULES_MAX_FILE); /* every clause of an effect has one literal already */
+    single(out, answer.length, answer.length - 1);    /* an area that is a byte short */
     pddl(out, answer.length);
 }
 

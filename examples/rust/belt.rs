@@ -1,5 +1,6 @@
-//! Checks the belt's task, translates it, writes the translation as PDDL, spells the task, walks a plan on it, as bytes and as text,
-//! settles what it is worth, puts a week of plans into figures, and prints the answers: `belt TASK PLAN`.
+//! Checks the belt's task, translates it, writes the translation as PDDL and with single literals in its effects, spells the task,
+//! walks a plan on it, as bytes and as text, settles what it is worth, puts a week of plans into figures, and prints the answers:
+//! `belt TASK PLAN`.
 
 #[path = "../../include/route_rules.rs"]
 mod route_rules;
@@ -33,12 +34,22 @@ fn pddl(file: &[u8]) {
     }
 }
 
+/// Says how long the task with single literals is.
+fn single(file: &[u8], room: usize) {
+    let mut out = vec![0; room];
+    let line = route_rules::single(file, &mut out)
+        .map_or_else(refused, |length| format!("{length} bytes"));
+    println!("single: {line}");
+}
+
 fn translate(file: &[u8]) {
     let mut out = vec![0; MAX_FILE];
     match route_rules::translate(file, &mut out) {
         Ok(length) => {
             println!("translate: {length} bytes");
             check(&out[..length]);
+            single(&out[..length], MAX_FILE); // every clause of an effect has one literal already
+            single(&out[..length], length - 1); // an area that is a byte short
             pddl(&out[..length]);
         }
         Err(refusal) => println!("translate: {}", refused(refusal)),

@@ -4,6 +4,8 @@ and meanings are written anew, from the documents.
 files      task files: marks by name, rows in words, files made of them and taken apart
 account    which files and plans are refused, and by what
 tasks      tasks and plans that several scripts try
+spelling   the one spelling of a task, by sorting
+singling   a task with single literals in its effects, by the products of its clauses
 chance     random choices that are the same in every version of Python
 stored     vectors as they stand in a crate: written, read, held to what they should be
 weeks      a week of plans: its file, what is refused of it, its figures over what judge has to write

@@ -4,7 +4,7 @@
 mod route_rules;
 
 pub use route_rules::{
-    check, refused, settle, walk, walk_text, week, Figures, Refusal, Sizes, Verdict, Walked, Worth,
+    check, refused, settle, walk, walk_text, week, Figures, Refusal, Sizes, Verdict, Walked, Worth, MAX_CHOICES,
     MAX_COST, MAX_PDDL, MAX_REPORT,
 };
 
@@ -31,6 +31,10 @@ pub fn translate(file: &[u8], room: usize) -> Left {
 
 pub fn spell(file: &[u8], room: usize) -> Left {
     left(room, |out| route_rules::spell(file, out))
+}
+
+pub fn single(file: &[u8], room: usize) -> Left {
+    left(room, |out| route_rules::single(file, out))
 }
 
 pub fn read_plan(text: &[u8], room: usize) -> Left {

@@ -7,6 +7,7 @@
 mod library;
 mod pddl;
 mod settling;
+mod singling;
 mod spelling;
 mod stored;
 mod tally;
@@ -32,6 +33,9 @@ fn main() {
         .and_then(|()| spelling::edges())
         .and_then(|()| spelling::compare(first, count))
         .and_then(|()| spelling::properties(first, count / 4))
+        .and_then(|()| singling::edges())
+        .and_then(|()| singling::compare(first, count / 8))
+        .and_then(|()| singling::properties(first, count / 20))
         .and_then(|()| weekly::edges())
         .and_then(|()| weekly::vectors())
         .and_then(|()| weekly::compare(first, count / 10))

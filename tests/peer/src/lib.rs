@@ -1,7 +1,7 @@
 //! Task files with soft and hard rules: check a file, give it its one spelling, walk a
 //! plan on it, settle what that is worth, put a week of plans into figures, translate it
-//! into a classical task, write that as PDDL. Written plainly from the specification, to
-//! compare another implementation with.
+//! into a classical task, give its effects single literals, write that as PDDL. Written
+//! plainly from the specification, to compare another implementation with.
 
 pub mod decode;
 pub mod encode;
@@ -10,6 +10,7 @@ pub mod pddl;
 pub mod random;
 pub mod report;
 pub mod settle;
+pub mod single;
 pub mod spelling;
 pub mod task;
 pub mod text;
@@ -22,6 +23,7 @@ pub use encode::encode;
 pub use meaning::run;
 pub use report::{refused_text, report};
 pub use settle::{settle, worth, Worth};
+pub use single::{single, singled};
 pub use spelling::{alike, spell};
 pub use task::{Action, Clause, Condition, Effect, Kind, Literal, Preference, Task};
 pub use translate::{complete, translate, translated};

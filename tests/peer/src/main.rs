@@ -3,7 +3,8 @@
 use peer::random::{arguments, case, MAX_FILE};
 use peer::settle::is_met;
 use peer::{
-    check, decode, pddl, refused_text, report, settle, spell, translate, walk, week_text, Refusal,
+    check, decode, pddl, refused_text, report, settle, single, spell, translate, walk, week_text,
+    Refusal,
     Verdict,
 };
 use std::collections::BTreeMap;
@@ -15,6 +16,7 @@ const USAGE: &str = "usage:
   peer week TASK PLANS
   peer translate TASK OUT
   peer spell TASK OUT
+  peer single TASK OUT
   peer pddl TASK DOMAIN PROBLEM
   peer case SEED DIR      write the files task and plan of a random case
   peer tally FIRST COUNT  count the answers on the cases of seeds from FIRST";
@@ -41,6 +43,7 @@ fn answer(words: &[&str]) -> Option<String> {
         ["week", task, plans] => Some(two_files(week_text, task, plans)),
         ["translate", task, out] => Some(write_file(translate, task, out)),
         ["spell", task, out] => Some(write_file(spell, task, out)),
+        ["single", task, out] => Some(write_file(single, task, out)),
         ["pddl", task, domain, problem] => Some(write_pddl(task, domain, problem)),
         ["case", seed, folder] => Some(write_case(seed.parse().ok()?, folder)),
         ["tally", first, count] => Some(tally(first.parse().ok()?, count.parse().ok()?)),
@@ -146,6 +149,10 @@ fn tally(first: u64, count: u64) -> String {
         add(match spell(&case.file, case.room) {
             Ok(_) => "spell written".to_string(),
             Err(refusal) => format!("spell refused {:2}", refusal.number),
+        });
+        add(match single(&case.file, case.room) {
+            Ok(_) => "single written".to_string(),
+            Err(refusal) => format!("single refused {:2}", refusal.number),
         });
         if let Ok(Verdict::Solved { met, .. }) =
             walk(&case.file, &case.plan).map(|walked| walked.verdict)

@@ -4,6 +4,7 @@
 use crate::decode::decode;
 use crate::encode::{encode, rows, to_bytes, Row};
 use crate::meaning::{after, condition_true, opening, State};
+use crate::single::{allowed, singled};
 use crate::spelling::{lists, List};
 use crate::task::*;
 use crate::translate::{deadline_facts, translate, translated};
@@ -572,7 +573,11 @@ fn pad(r: &mut Random, task: &mut Task) {
         true => task.rows(),
         false => translated(task, aim).map_or(aim, |translation| translation.rows()),
     };
-    let mut missing = aim.saturating_sub(now);
+    lengthen(r, task, aim.saturating_sub(now));
+}
+
+/// Lengthens the goal by so many rows, or by none where it is one.
+fn lengthen(r: &mut Random, task: &mut Task, mut missing: usize) {
     while missing >= 2 {
         let mut rows = r.between(2, 3_000).min(missing);
         if missing - rows == 1 {
@@ -587,6 +592,55 @@ fn pad(r: &mut Random, task: &mut Task) {
         task.goal.push((0..rows - 1).map(literal).collect());
         missing -= rows;
     }
+}
+
+/// Clauses by their lengths, with about as many choices as an effect may have.
+const WIDE: [&[usize]; 14] = [
+    &[64],
+    &[65],
+    &[63],
+    &[8, 8],
+    &[4, 4, 4],
+    &[2, 2, 2, 2, 2, 2],
+    &[1, 32, 1, 2, 1],
+    &[5, 13],
+    &[13, 5],
+    &[2, 33],
+    &[3, 21],
+    &[3, 22],
+    &[2, 2, 2, 2, 2, 2, 2],
+    &[1, 1, 1, 1, 1],
+];
+
+/// The task with other conditions in some of its effects, about as wide as single
+/// literals allow; now and then as long as makes the singled task just as long as is
+/// allowed, or a row longer.
+pub fn widened(r: &mut Random, task: &Task) -> Task {
+    let mut wide = task.clone();
+    let facts = task.facts;
+    let often = r.pick(&[5, 30, 100]);
+    for effect in wide.actions.iter_mut().flat_map(|a| &mut a.effects) {
+        if !r.chance(often) {
+            continue;
+        }
+        let lengths = r.pick(&WIDE[..]);
+        let mut literal = || Literal {
+            holds: r.chance(50),
+            fact: r.below(facts),
+        };
+        let clause = |&length: &usize| (0..length).map(|_| literal()).collect();
+        effect.condition = lengths.iter().map(clause).collect();
+    }
+    if r.chance(10) {
+        let aim = MAX_ROWS + r.below(2);
+        let now = if allowed(&wide) {
+            singled(&wide).rows()
+        } else {
+            aim
+        };
+        lengthen(r, &mut wide, aim.saturating_sub(now));
+    }
+    wide
 }
 
 /// The file of a task with one fault or two in it.
