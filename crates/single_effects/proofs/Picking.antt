@@ -1,8 +1,8 @@
 -- A choice of a condition, clause by clause: the number's next digit says which literal.
-use mathlib.Core.Path.{_≡_, refl, sym, ap, _∙_, subst}
+use mathlib.Core.Path.{_≡_, refl, sym, ap, _∙_, subst, subst⁻¹}
 use mathlib.Core.List.{List, [], _∷_, _++_, map, append-assoc}
 use Prim.Native.Nat.{ℕ, zero, suc, _+_, _-_, _*_, _/_, _%_, _≤_, _<_}
-use native.Mathlib.Nat.{zero-mul, mul-zero, mul-div-cancel-left, div-lt-iff-lt-mul, mod-lt}
+use native.Mathlib.Nat.{zero-mul, mul-zero, mul-div-cancel-left, div-lt-iff-lt-mul, div-one, div-eq-of-lt, mod-lt, mod-eq-of-lt}
 use native.Mathlib.Omega.{arith}
 use lib.Dec.{T}
 use lib.ListN.{length, drop, getD, length-append, length-map}
@@ -24,8 +24,9 @@ use Rattle.writer.proofs.Putting.{Onward, Kept}
 use Rattle.spelling.proofs.TaskSpelled.{narrower}
 use Rattle.singling.specs.Singled.{choiceCount}
 use Rattle.singling.specs.ByNumber.{noLiteral}
-use Rattle.single_effects.specs.Effects.{Choosable, pickedRows}
+use Rattle.single_effects.specs.Effects.{digitOf, Dividing, Choosable, pickedRows}
 use Rattle.single_effects.specs.declared.choosing.Pick.{Pick}
+use Rattle.single_effects.specs.declared.choosing.Digit.{Digit}
 
 -- The literal at a place of a clause
 
@@ -42,28 +43,36 @@ abbrev first-of : Row → List Row → Row
 first-of y [] = y
 first-of y (x ∷ xs) = x
 
+-- One digit
+
+-- of a clause of one literal nothing is to choose
+pub one-literal : (p : Pick) (n : ℕ) → n ≡ 1 → p .number < p .choices → record { literal = 0; later = p } ≡ digitOf p n
+one-literal p n e h =
+    let all-later : p .choices ≡ p .choices / n = sym (ap (λ (m : ℕ). p .choices / m) e ∙ div-one (p .choices)) in
+    λ z. record {
+      literal = (sym (div-eq-of-lt h) ∙ ap (λ (m : ℕ). p .number / m) all-later) z;
+      later = record { choices = all-later z; number = (sym (mod-eq-of-lt h) ∙ ap (λ (m : ℕ). p .number % m) all-later) z };
+    }
+
 -- One turn
 
 -- the choices of the clauses after the one that ends before row `end`
-abbrev pub laterOf : ℕ → Pick → ℕ → ℕ
+abbrev laterOf : ℕ → Pick → ℕ → ℕ
 laterOf i p end = p .choices / (end - i - 1)
 
 -- the row of the literal
-abbrev pub rowOf : ℕ → Pick → ℕ → ℕ
+abbrev rowOf : ℕ → Pick → ℕ → ℕ
 rowOf i p end = i + 1 + p .number / laterOf i p end
 
-abbrev pub nextPick : ℕ → Pick → ℕ → Pick
-nextPick i p end = record { choices = laterOf i p end; number = p .number % laterOf i p end }
-
-pub record Turn (ms vs : List ℕ) (i to : ℕ) (p : Pick) (c : Condition) (end : ℕ) : Type 0 where
+-- the clause that row i opens ends before row `end`, and d is the number's digit for it
+pub record Turn (ms vs : List ℕ) (i to : ℕ) (c : Condition) (j end : ℕ) (d : Digit) : Type 0 where
   pub rest : Condition
-  pub literals : 0 < end - i - 1
   pub goes : i < end
   pub within : end ≤ to
-  pub positive : 0 < laterOf i p end
-  pub inside : rowOf i p end < length ms
-  pub onward : Choosable ms vs (record { from = end; to = to }) (nextPick i p end) rest
-  pub written : (row CLAUSE 0 ∷ row (getD ms (rowOf i p end) 0) (valueAt vs (rowOf i p end)) ∷ []) ++ pickedRows rest (nextPick i p end .number) ≡ pickedRows c (p .number)
+  pub inside : i + 1 + d .literal < length ms
+  pub onward : Choosable ms vs (record { from = end; to = to }) (d .later) rest
+  pub written : (row CLAUSE 0 ∷ row (getD ms (i + 1 + d .literal) 0) (valueAt vs (i + 1 + d .literal)) ∷ []) ++ pickedRows rest (d .later .number)
+      ≡ pickedRows c j
 
 module _ (ms vs : List ℕ) (i to : ℕ) (p : Pick) where
   at-end : (c : Condition) → Choosable ms vs (record { from = i; to = to }) p c → to ≤ i → c ≡ []
@@ -131,14 +140,12 @@ module _ (ms vs : List ℕ) (i to : ℕ) (p : Pick) where
       at-is : row (getD ms (rowOf i p end) 0) (valueAt vs (rowOf i p end)) ≡ literalRow (getD k d noLiteral)
       at-is = ap (first-of (row 0 0)) (sym (row-at ms vs (rowOf i p end) at-inside) ∙ sym (drop-drop d (i + 1) (paired ms vs)) ∙ ap (drop d) literals-there ∙ literal-there k d ys digit)
 
-      turned : Turn ms vs i to p (k ∷ c) end
+      turned : Turn ms vs i to (k ∷ c) (p .number) end (digitOf p (end - i - 1))
       turned =
           record {
             rest = c;
-            literals = omega (arith, many, some-literals);
             goes = omega (arith, end-is);
             within = omega (arith, to-is);
-            positive = omega (arith, later-is, some-later);
             inside = at-inside;
             onward = record {
               condition = record {
@@ -156,9 +163,24 @@ module _ (ms vs : List ℕ) (i to : ℕ) (p : Pick) where
           literalOr : row (getD ms (rowOf i p end) 0) (valueAt vs (rowOf i p end)) ≡ literalRow (getD k (p .number / choiceCount c) noLiteral)
           literalOr = at-is ∙ ap (λ (n : ℕ). literalRow (getD k (p .number / n) noLiteral)) later-is
 
-    pub turn : (c : Condition) → Choosable ms vs (record { from = i; to = to }) p c → Turn ms vs i to p c end
-    turn [] C = absurd (omega (arith, C .condition .long))
-    turn (k ∷ c) C = turned k c C
+    pub goes-on : (c : Condition) → Choosable ms vs (record { from = i; to = to }) p c → i + 2 ≤ end
+    goes-on [] C = absurd (omega (arith, C .condition .long))
+    goes-on (k ∷ c) C = omega (arith, end-is k c C, some-literals k c C)
+
+    pub dividing : length ms ≤ 12000 → (c : Condition) → Choosable ms vs (record { from = i; to = to }) p c → Dividing p (end - i - 1)
+    dividing few [] C = absurd (omega (arith, C .condition .long))
+    dividing few (k ∷ c) C =
+        record {
+          some-literals = omega (arith, many k c C, some-literals k c C);
+          few-literals = omega (arith, to-is k c C, C .condition .inside);
+          some-later = omega (arith, later-is k c C, some-later k c C);
+          one-of = C .one-of;
+        }
+
+    pub turn : (c : Condition) → Choosable ms vs (record { from = i; to = to }) p c → (d : Digit) → d ≡ digitOf p (end - i - 1)
+        → Turn ms vs i to c (p .number) end d
+    turn [] C d q = absurd (omega (arith, C .condition .long))
+    turn (k ∷ c) C d q = subst⁻¹ (Turn ms vs i to (k ∷ c) (p .number) end) q (turned k c C)
 
 -- the loop: what is left to pick makes up the rows xs
 pub record Picking (b : List ℕ) (c : Cursor) (xs : List Row) (ms vs : List ℕ) (i to : ℕ) (p : Pick) (out : List ℕ) (k : Cursor) : Type 0 where

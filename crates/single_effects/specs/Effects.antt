@@ -1,15 +1,16 @@
 -- Where a condition and an effect stand among the rows, and which choice of it is written.
 use mathlib.Core.Path.{_≡_}
 use mathlib.Core.List.{List, _++_, map}
-use Prim.Native.Nat.{ℕ, _+_, _≤_, _<_}
+use Prim.Native.Nat.{ℕ, _+_, _/_, _%_, _≤_, _<_}
 use lib.ListN.{length, drop}
 use Rattle.lists.specs.Lists.{singleton}
-use Rattle.task.specs.Marks.{CLAUSE, LACKS, ADD, DELETE}
+use Rattle.task.specs.Marks.{CLAUSE, HOLDS, LACKS, ADD, DELETE}
 use Rattle.meaning.specs.Task.{Condition, Effect}
 use Rattle.task.specs.TaskRows.{Row, row, conditionRows, effectRows}
 use Rattle.task.specs.File.{paired}
 use Rattle.task.specs.Rows.{between, Stops}
-use Rattle.layout.specs.Sides.{part}
+use Rattle.task.specs.Limits.{MAX-ROWS}
+use Rattle.layout.specs.Sides.{endAt, part}
 use Rattle.layout.specs.declared.sides.Span.{Span}
 use Rattle.singling.specs.Singled.{choiceCount, chosen}
 use Rattle.singling.specs.Wide.{mostChoices}
@@ -17,6 +18,22 @@ use Rattle.singling.specs.ByNumber.{choiceAt}
 use Rattle.single_effects.specs.Shapes.{InOrder}
 use Rattle.single_effects.specs.declared.shapes.Shape.{Shape}
 use Rattle.single_effects.specs.declared.choosing.Pick.{Pick}
+use Rattle.single_effects.specs.declared.choosing.Digit.{Digit}
+
+-- where the span begins with a clause, it ends with it
+abbrev pub Known : List ℕ → Span → Type 0
+Known ms s = s .from < length ms → s .to ≡ endAt HOLDS LACKS ms (s .from + 1)
+
+-- the digit of p for a clause of n literals: which literal, and the choice of the clauses after it
+abbrev pub digitOf : Pick → ℕ → Digit
+digitOf p n =
+    record { literal = p .number / (p .choices / n); later = record { choices = p .choices / n; number = p .number % (p .choices / n) } }
+
+pub record Dividing (p : Pick) (n : ℕ) : Type 0 where
+  pub some-literals : 0 < n
+  pub few-literals : n ≤ MAX-ROWS
+  pub some-later : 0 < p .choices / n
+  pub one-of : p .number < p .choices
 
 -- the rows of the span are those of c, and no more of it stands after them
 pub record ConditionAt (ms vs : List ℕ) (s : Span) (c : Condition) : Type 0 where

@@ -1,14 +1,17 @@
 // An effect, written once for each choice.
 ghost use mathlib.Core.Path.{_≡_};
 ghost use Prim.Native.Nat.{_+_, _-_, _*_, _≤_, _<_};
+ghost use lib.ListN.{length};
 ghost use Rattle.lists.specs.Lists.{concatMap};
 ghost use Rattle.meaning.specs.Task.{Condition, Effect};
 ghost use Rattle.task.specs.TaskRows.{effectRows};
 ghost use Rattle.task.specs.Limits.{MAX-ROWS};
 ghost use Rattle.task.specs.Rows.{Rows};
+ghost use Rattle.task.specs.Marks.{HOLDS, LACKS};
+ghost use Rattle.layout.specs.Sides.{endAt};
 ghost use Rattle.writer.specs.Writer.{Room, Wrote};
 ghost use Rattle.singling.specs.Singled.{singledEffect};
-ghost use Rattle.single_effects.specs.Effects.{Choosable, pickedRows, EffectAt, pickedEffect};
+ghost use Rattle.single_effects.specs.Effects.{Known, Dividing, digitOf, Choosable, pickedRows, EffectAt, pickedEffect};
 use super::shapes::Shape;
 use layout::sides;
 use layout::sides::Span;
@@ -18,8 +21,69 @@ use writer::Cursor;
 
 // A choice by its number, of so many.
 pub struct Pick {
-    pub choices: usize,
-    pub number: usize,
+    pub choices: u32,
+    pub number: u32,
+}
+
+// The literal of a clause that a choice takes, and the choice of the clauses after it.
+pub struct Digit {
+    pub literal: usize,
+    pub later: Pick,
+}
+
+// Takes the number's next digit, for a clause of so many literals; one literal asks for no division.
+fn take_digit(p: Pick, literals: usize) -> Digit
+    requires { ⌜ Dividing p literals ⌝ }
+    ensures { λ r. ⌜ r ≡ digitOf p literals ⌝ }
+{
+    if literals == 1 {
+        return Digit {
+            literal: 0,
+            later: p,
+        };
+    }
+    let choices = p.choices / (literals as u32);
+    Digit {
+        literal: (p.number / choices) as usize,
+        later: Pick {
+            choices,
+            number: p.number % choices,
+        },
+    }
+}
+
+// The longest clause of a condition, so that its end is not sought for each choice; the row after the last where there are no choices.
+fn find_longest(marks: &[u8], s: Span, choices: usize) -> Span
+    requires { ⌜ (s .to ≤ length (now marks)) × (length (now marks) ≤ MAX-ROWS) ⌝ }
+    ensures { λ r. ⌜ Known (now (marks .entry)) r ⌝ }
+{
+    let to = s.to;
+    let mut i = s.from;
+    let mut from = marks.len();
+    let mut end = from;
+    if choices == 1 {
+        return Span { from, to: end };
+    }
+    while i < to {
+        let next = sides::skip_marks(marks, i + 1, marks::HOLDS, marks::LACKS);
+        if end - from < next - i {
+            from = i;
+            end = next;
+        }
+        i = next;
+    }
+    Span { from, to: end }
+}
+
+// The row after the clause that row i opens, one clause being known.
+fn clause_end(marks: &[u8], i: usize, known: Span) -> usize
+    requires { ⌜ (i < length (now marks)) × Known (now marks) known ⌝ }
+    ensures { λ r. ⌜ r ≡ endAt HOLDS LACKS (now (marks .entry)) (i + 1) ⌝ }
+{
+    if i == known.from {
+        return known.to;
+    }
+    sides::skip_marks(marks, i + 1, marks::HOLDS, marks::LACKS)
 }
 
 // Writes a choice of the condition: from each clause the literal that the number's next digit says.
@@ -30,8 +94,10 @@ fn put_literals(
     values: &[u8],
     s: Span,
     first: Pick,
+    known: Span,
 ) -> Cursor
-    requires { ⌜ Room c (now out) × Rows (now marks) (now values) × ((k : Condition) × Choosable (now marks) (now values) s first k) ⌝ }
+    requires { ⌜ Room c (now out) × Rows (now marks) (now values) × Known (now marks) known ⌝ }
+    requires { ⌜ ((k : Condition) × Choosable (now marks) (now values) s first k) ⌝ }
     ensures { λ r. ⌜ ((k : Condition) → Choosable (now (marks .entry)) (now (values .entry)) s first k
         → Wrote (now (out .entry)) c (pickedRows k (first .number)) r (now (out .exit))) ⌝ }
 {
@@ -40,14 +106,11 @@ fn put_literals(
     let mut k = c;
     let mut p = first;
     while i < to {
-        let end = sides::skip_marks(marks, i + 1, marks::HOLDS, marks::LACKS);
-        let later = p.choices / (end - i - 1);
-        let at = i + 1 + p.number / later;
+        let end = clause_end(marks, i, known);
+        let d = take_digit(p, end - i - 1);
+        let at = i + 1 + d.literal;
         k = writer::put_single(&mut *out, k, marks[at], rows::value_at(values, at));
-        p = Pick {
-            choices: later,
-            number: p.number % later,
-        };
+        p = d.later;
         i = end;
     }
     k
@@ -62,8 +125,10 @@ fn put_choice(
     at: usize,
     s: Shape,
     j: usize,
+    known: Span,
 ) -> Cursor
-    requires { ⌜ Room c (now out) × Rows (now marks) (now values) × (j < s .choices) × ((e : Effect) × EffectAt (now marks) (now values) at s e) ⌝ }
+    requires { ⌜ Room c (now out) × Rows (now marks) (now values) × (j < s .choices) × Known (now marks) known ⌝ }
+    requires { ⌜ ((e : Effect) × EffectAt (now marks) (now values) at s e) ⌝ }
     ensures { λ r. ⌜ ((e : Effect) → EffectAt (now (marks .entry)) (now (values .entry)) at s e
         → Wrote (now (out .entry)) c (pickedEffect e j) r (now (out .exit))) ⌝ }
 {
@@ -74,8 +139,11 @@ fn put_choice(
         to: changes.from,
     };
     let k = writer::put_row(&mut *out, c, marks::EFFECT, 0);
-    let p = Pick { choices, number: j };
-    let k = put_literals(&mut *out, k, marks, values, condition, p);
+    let p = Pick {
+        choices: choices as u32,
+        number: j as u32,
+    };
+    let k = put_literals(&mut *out, k, marks, values, condition, p, known);
     writer::copy_rows(&mut *out, k, marks, values, changes)
 }
 
@@ -104,10 +172,15 @@ pub fn put_effect(
     if c.rows <= c.next {
         return writer::advance_by(c, choices * rows_of_one(s));
     }
+    let condition = Span {
+        from: at + 1,
+        to: s.changes.from,
+    };
+    let known = find_longest(marks, condition, choices);
     let mut j = 0;
     let mut k = c;
     while j < choices {
-        k = put_choice(&mut *out, k, marks, values, at, s, j);
+        k = put_choice(&mut *out, k, marks, values, at, s, j, known);
         j += 1;
     }
     k

@@ -10,19 +10,28 @@ use borrow.Author.Needs.{needs}
 use Rattle.single_effects.proofs.choosing.put_choice.Statement.{statement}
 use Rattle.single_effects.proofs.choosing.put_choice.Tie as tie
 
+cast-choices : tie.Need-cast-t18
+cast-choices c = let few = c .before .before .before .before .before .before .before .before .pre .1 .1 .few in search needs
+
+cast-number : tie.Need-cast-t19
+cast-number c = let few = c .before .before .before .before .before .before .before .before .pre .1 .1 .few in search needs
+
 put-literals-requires : tie.Need-put-literals-requires
 put-literals-requires c κs =
     let p = c .before .before .before in
     let st = p .before .before .before .before .before .before in
-    (p .put-row .ensures .room, st .pre .1, (st .pre .3 .0 .condition, choosable (st .pre .3 .1) (st .args .j) (st .pre .2)))
+    (
+      (p .put-row .ensures .room, st .pre .0 .1, st .pre .0 .3),
+      (st .pre .1 .0 .condition, choosable (st .pre .1 .1) (st .args .j) (st .pre .0 .2)),
+    )
 
 copy-rows-requires : tie.Need-copy-rows-requires
 copy-rows-requires c κs =
     let l = c .before .before .before in
     let p = l .before .before .before .before in
     let st = p .before .before .before .before .before .before in
-    let w = l .put-literals .ensures (st .pre .3 .0 .condition) (choosable (st .pre .3 .1) (st .args .j) (st .pre .2)) in
-    (w .room, st .pre .1, st .pre .3 .1 .order .inside)
+    let w = l .put-literals .ensures (st .pre .1 .0 .condition) (choosable (st .pre .1 .1) (st .args .j) (st .pre .0 .2)) in
+    (w .room, st .pre .0 .1, st .pre .1 .1 .order .inside)
 
 returns : tie.Need-returns
 returns c = λ e E.
@@ -32,9 +41,9 @@ returns c = λ e E.
     let st = p .before .before .before .before .before .before in
     let a = st .args in
     as-rows (ap (λ (xs : List Row). (row EFFECT 0 ∷ []) ++ pickedRows (e .condition) (a .j) ++ xs) (E .changes) ∙ one-effect e (a .j))
-    (then (then (p .put-row .ensures) (l .put-literals .ensures (e .condition) (choosable E (a .j) (st .pre .2)))) (w .copy-rows .ensures))
+    (then (then (p .put-row .ensures) (l .put-literals .ensures (e .condition) (choosable E (a .j) (st .pre .0 .2)))) (w .copy-rows .ensures))
 
 pub put-choice-spec : {M : Type 1} → statement M
 put-choice-spec =
     tie.close
-    (tie.spec (λ c. search needs) (λ c κs. search needs) put-literals-requires copy-rows-requires (λ c. search needs) returns)
+    (tie.spec (λ c. search needs) (λ c κs. search needs) cast-choices cast-number put-literals-requires copy-rows-requires (λ c. search needs) returns)
