@@ -12,7 +12,7 @@ use Rattle.figures.specs.Week.{given, refused, weekOf}
 
 -- Four plans that overlap, over the steps 0 1 0: all of them, the first, none, the last. The one of no steps misses the goal.
 
-abbrev four : List ℕ
+abbrev pub four : List ℕ
 four = 4 ∷ 0 ∷ 0 ∷ 0 ∷ 0 ∷ 0 ∷ 3 ∷ 0 ∷ 2 ∷ 0 ∷ 3 ∷ 0 ∷ 1 ∷ 0 ∷ 0 ∷ 0 ∷ 1 ∷ 0 ∷ 0 ∷ 1 ∷ 0 ∷ []
 
 four-plans : plans four ≡ (0 ∷ 1 ∷ 0 ∷ []) ∷ (0 ∷ []) ∷ [] ∷ (0 ∷ []) ∷ []

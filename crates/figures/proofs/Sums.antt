@@ -3,7 +3,7 @@ use mathlib.Core.Path.{_≡_, sym, subst}
 use mathlib.Core.Logic.{_⊎_, inl, inr}
 use mathlib.Core.Bool.{true, false}
 use mathlib.Core.List.{List, [], _∷_}
-use Prim.Native.Nat.{ℕ, _*_, _≤_, min, max}
+use Prim.Native.Nat.{ℕ, _+_, _*_, _≤_, min, max}
 use native.Mathlib.Nat.{suc-mul}
 use native.Mathlib.Omega.{arith, min-cases, max-cases}
 use lib.Dec.{T, leb, eqb, leb→le, le→leb, eqb-refl}
@@ -41,6 +41,11 @@ greatest-high x (y ∷ ys) =
     let m : ℕ = greatest y ys in
     and-both (leb x (max x m)) (all (λ (v : ℕ). leb v (max x m)) (y ∷ ys)) (le→leb x (max x m) (omega arith))
     (all-implies (λ (v : ℕ). leb v m) (λ (v : ℕ). leb v (max x m)) (λ v t. le→leb v (max x m) (omega (arith, leb→le v m t))) (y ∷ ys) (greatest-high y ys))
+
+-- and at most their sum
+pub greatest-sum : (x : ℕ) (xs : List ℕ) → greatest x xs ≤ x + sum xs
+greatest-sum x [] = omega arith
+greatest-sum x (y ∷ ys) = omega (arith, greatest-sum y ys)
 
 -- and each is one of them
 module _ (choose : ℕ → ℕ → ℕ) (one-of : (x y : ℕ) → (choose x y ≡ x) ⊎ (choose x y ≡ y)) where

@@ -21,6 +21,7 @@ use Rattle.figures.specs.Figures.{Solution, solutions, Amounts, Figures,
 use Rattle.figures.specs.Week.{Answer, given, refused, isFaulty, firstFaulty, faultNumber, ofPlans, weekBy, weekOf}
 use Rattle.figures.specs.Sound.{SoundIn, FitsIn, IfGiven}
 use Rattle.figures.proofs.Numbered.{length-entries}
+use Rattle.figures.proofs.Sums.{greatest-sum}
 use Rattle.figures.proofs.Reorder.{same}
 use Rattle.figures.proofs.Keeping.{filter-fewer, sound}
 use Rattle.figures.proofs.Judging.{not-long, First, first}
@@ -69,7 +70,7 @@ few-plans f t = omega (arith, count-plans f, leb→le (count f) 64 (search tests
 
 fits-in : (M P : ℕ) (xs : List Solution) → length xs ≤ 64 → sum (metrics xs) ≤ M → FitsIn M (figuresOver P xs)
 fits-in M P [] n s = tt
-fits-in M P (x ∷ xs) n s = record { few = n; small = s }
+fits-in M P (x ∷ xs) n s = record { few = n; small = s; within = greatest-sum (x .metric) (metrics xs) }
 
 -- at most 64 plans of 2,048 steps and 16 preferences, at the limit of costs and weights
 pub week-fits : (b f : List ℕ) → IfGiven (FitsIn (132096 * MAX-AMOUNT)) (weekOf b f)

@@ -21,10 +21,11 @@ abbrev pub SoundIn : ℕ → Figures → Type 0
 SoundIn P none-solves = Unit {0}
 SoundIn P (solve n a) = Sound P n a
 
--- at most 64 plans, and a sum that is at most this
+-- at most 64 plans, a sum that is at most this, and no metric over the sum
 pub record Fits (most n : ℕ) (a : Amounts) : Type 0 where
   pub few : n ≤ 64
   pub small : a .total ≤ most
+  pub within : a .highest ≤ a .total
 
 abbrev pub FitsIn : ℕ → Figures → Type 0
 FitsIn most none-solves = Unit {0}
