@@ -1,5 +1,5 @@
 -- What is lost falls by no more than a step costs, and nothing is lost in the goal: so a solution costs at least its cost so far and the lost weights.
-use mathlib.Core.Path.{_≡_, refl, sym, _∙_, ap, ap₂, subst}
+use mathlib.Core.Path.{_≡_, refl, sym, _∙_, ap, subst}
 use mathlib.Core.Logic.{_≢_}
 use mathlib.Core.Bool.{Bool, true, false, not, cond, _&&_}
 use mathlib.Core.List.{List, [], _∷_, _++_, map}
@@ -55,7 +55,7 @@ sum-zeros k zero = refl
 sum-zeros k (suc n) = omega (arith, sum-zeros (k + 1) n)
 
 -- what the monitors m show of rule i, where it is soft
-abbrev counted : Task → (Preference → Monitor) → ℕ → Bool
+abbrev pub counted : Task → (Preference → Monitor) → ℕ → Bool
 counted t m i = not (preferenceAt t i .hard) && shown t m i
 
 -- Weights that count where a test holds
@@ -87,7 +87,7 @@ module _ (t : Task) (wf : T (wellFormed t)) where
         go true e = ap not (M .closed-is i (ltb-true i k e)) ∙ sym (lt-leb k i (ltb-true i k e))
         go false e = ap not (M .open-is i (ltb-false i k e) h) ∙ sym (le-leb k i (ltb-false i k e))
 
-    lost-is : (i : ℕ) → i < P → isLost t τ i ≡ (counted t m i && leb k i)
+    pub lost-is : (i : ℕ) → i < P → isLost t τ i ≡ (counted t m i && leb k i)
     lost-is i h = λ z. not (preferenceAt t i .hard) && broken-is t wf m r k σ τ M i h z && open-is i h z
 
     closed-lost : P ≤ k → lostIn t τ ≤ 0

@@ -9,5 +9,7 @@ pub mod Missed
 pub mod Bound
 pub mod Claim
 pub mod Answer
+-- Followed on the source
+pub mod Following
 pub mod Examples
 pub mod Refuted

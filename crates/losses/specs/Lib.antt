@@ -1,1 +1,2 @@
 pub mod Losses
+pub mod Following
