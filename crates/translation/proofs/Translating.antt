@@ -202,7 +202,7 @@ module _ (b area : List ℕ) (x : Checked) (e : checked x ≡ check b) where
       refuses (Outcome.Refused r) (f .number) (f .place) (ap (λ (g : Refusal). refused (g .number) (g .place)) (says ∙ ap refusalIn q)) (ap (outcomeBy b (length area)) (sym (ap checked q) ∙ e))
 
   module _ (z : Sizes) (q : x ≡ Accepted z) where
-    accepted : check b ≡ Check.accepted (asSizes z)
+    pub accepted : check b ≡ Check.accepted (asSizes z)
     accepted = sym e ∙ ap checked q
 
     on-task : outcomeBy b (length area) (Check.accepted (asSizes z)) ≡ outcome b (length area)
@@ -218,14 +218,14 @@ module _ (b area : List ℕ) (x : Checked) (e : checked x ≡ check b) where
     pub within : (z .rows ≤ 12000) × (1 ≤ z .facts) × (z .facts ≤ 128) × (z .actions ≤ 128) × (z .preferences ≤ 16)
     within = limits (asSizes z) (spelling .allowed)
 
-    abbrev ms : List ℕ
+    abbrev pub ms : List ℕ
     ms = take (8 + z .rows - 8) (drop 8 b)
 
-    abbrev vs : List ℕ
+    abbrev pub vs : List ℕ
     vs = take (length b - (8 + z .rows)) (drop (8 + z .rows) b)
 
     -- d facts D were counted, from the first preference on
-    abbrev Counted : Places → ℕ → Type 0
+    abbrev pub Counted : Places → ℕ → Type 0
     Counted p d = Found ms p × (d ≡ furtherRows (drop (p .to) (paired ms vs)))
 
     counted-is : (p : Places) (d : ℕ) → Counted p d → d ≡ further (taskOf b .preferences)
@@ -234,7 +234,7 @@ module _ (b area : List ℕ) (x : Checked) (e : checked x ≡ check b) where
         ∙ ap furtherRows (found ms vs (taskOf b) (parts-spell b (asSizes z) accepted) p (e .0) .prefs)
         ∙ task-further (taskOf b) (spelling .spelling)
 
-    test-is : (p : Places) (d : ℕ) → Counted p d → (x : Bool) → smallEnough (asSizes z) d ≡ x → smallEnough (asSizes z) (further (taskOf b .preferences)) ≡ x
+    pub test-is : (p : Places) (d : ℕ) → Counted p d → (x : Bool) → smallEnough (asSizes z) d ≡ x → smallEnough (asSizes z) (further (taskOf b .preferences)) ≡ x
     test-is p d e x h = ap (smallEnough (asSizes z)) (sym (counted-is p d e)) ∙ h
 
     pub too-large : (p : Places) (d : ℕ) → Counted p d → smallEnough (asSizes z) d ≡ false → (r : Outcome) → answer r ≡ refused 7 0 → Promised b area r area
@@ -251,7 +251,7 @@ module _ (b area : List ℕ) (x : Checked) (e : checked x ≡ check b) where
     sized = sym (spelling .sized)
 
     -- the rows are read as the task in b
-    reads : readTask (z .facts) ms vs ≡ taskOf b
+    pub reads : readTask (z .facts) ms vs ≡ taskOf b
     reads =
         (λ i. taskOfRows (sized i .facts) (parts-spell b (asSizes z) accepted i))
         ∙ task-back (taskOf b) (all-implies preferenceSpellable (λ (q : Preference). two-sided (q .kind) || isEmpty (q .second)) (λ q p. search tests) (taskOf b .preferences) (spelled-preferences (taskOf b) (spelling .spelling)))

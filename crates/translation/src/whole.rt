@@ -97,7 +97,7 @@ fn put_task(
 }
 
 // How many rows that translation has, up to 12,001: it is written into a file of no rows.
-fn count_rows(marks: &[u8], values: &[u8], p: Places, facts: u32, preferences: u32) -> usize
+pub fn count_rows(marks: &[u8], values: &[u8], p: Places, facts: u32, preferences: u32) -> usize
     requires { ⌜ Rows (now marks) (now values) × Found (now marks) p × Source (now marks) (now values) facts preferences ⌝ }
     ensures { λ r. ⌜ r ≡ rowAfter 0 (length (translatedRows (now (marks .entry)) (now (values .entry)) facts)) ⌝ }
 {
