@@ -1,5 +1,5 @@
 // A plan walked on a task.
-mod steps;
+pub mod steps;
 
 ghost use mathlib.Core.Path.{_≡_};
 ghost use Rattle.task.specs.Check.{accepted, check};

@@ -28,14 +28,14 @@ struct Places {
 }
 
 // Where a plan has come to: the state, the cost, and how many literals were looked at.
-struct Position {
+pub struct Position {
     pub state: State,
     pub cost: u64,
     pub looked: u64,
 }
 
 // Stopped has how many literals were looked at, those of the precondition among them.
-enum Moved {
+pub enum Moved {
     To(Position),
     Stopped(u64),
 }
@@ -48,7 +48,7 @@ pub fn step_index(k: u8) -> usize
 }
 
 // One step by the action that row `from` opens.
-fn step(marks: &[u8], values: &[u8], from: usize, p: Position) -> Moved
+pub fn step(marks: &[u8], values: &[u8], from: usize, p: Position) -> Moved
     requires { ⌜ Rows (now marks) (now values) × (from < length (now marks)) × Roomy p ⌝ }
     requires { ⌜ SomeAction (now marks) (now values) from ⌝ }
     ensures { λ r. ⌜ Little p r ⌝ }
