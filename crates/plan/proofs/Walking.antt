@@ -32,7 +32,7 @@ use Rattle.layout.proofs.Parts.{marksOf, valuesOf, parts-spelled}
 use Rattle.layout.proofs.ActionRows.{as-many}
 
 -- all steps are known exactly where as many as there are stand before the first that is not
-all-known : (A : ℕ) (p : List ℕ) → length p ≤ stepsKnown A p → T (all (λ (k : ℕ). ltb k A) p)
+pub all-known : (A : ℕ) (p : List ℕ) → length p ≤ stepsKnown A p → T (all (λ (k : ℕ). ltb k A) p)
 all-known A [] h = tt
 all-known A (k ∷ ks) h = go (leb A k) refl h (all-known A ks)
   where
@@ -41,7 +41,7 @@ all-known A (k ∷ ks) h = go (leb A k) refl h (all-known A ks)
     go true e h rest = absurd (omega arith)
     go false e h rest = rw (lt-ltb k A (leb-false A k e)) (rest (omega arith))
 
-not-all-known : (A : ℕ) (p : List ℕ) → stepsKnown A p < length p → all (λ (k : ℕ). ltb k A) p ≡ false
+pub not-all-known : (A : ℕ) (p : List ℕ) → stepsKnown A p < length p → all (λ (k : ℕ). ltb k A) p ≡ false
 not-all-known A [] h = absurd (omega arith)
 not-all-known A (k ∷ ks) h = go (leb A k) refl h (not-all-known A ks)
   where

@@ -40,7 +40,7 @@ fn refuse(number: u8, place: u16) -> Walked
 }
 
 // How many steps stand before the first that is not below the number of actions.
-fn steps_known(actions: usize, plan: &[u8]) -> usize
+pub fn steps_known(actions: usize, plan: &[u8]) -> usize
     ensures { λ r. ⌜ r ≡ stepsKnown actions (now (plan .entry)) ⌝ }
 {
     let mut i = 0;
