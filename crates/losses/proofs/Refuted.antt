@@ -1,16 +1,16 @@
 -- Wrong sums and wrong states left, each refuted on the gate: the claim fails for it.
 use mathlib.Core.Path.{_≡_, refl}
-use mathlib.Core.Bool.{Bool, true, not, cond}
+use mathlib.Core.Bool.{Bool, true, not, cond, _&&_}
 use mathlib.Core.List.{List, [], _∷_, _++_, map}
 use Prim.Native.Nat.{ℕ, _+_}
 use lib.Dec.{ltb, leb}
 use lib.ListN.{length}
-use Rattle.lists.specs.Lists.{range, sum}
+use Rattle.lists.specs.Lists.{singleton, range, sum}
 use Rattle.meaning.specs.Task.{Task}
 use Rattle.meaning.specs.Meaning.{State, opening, after, actionAt, preferenceAt, runs, final, solves, cost, met, seen, isMet}
-use Rattle.classical.specs.Translation.{factS, factB, translated}
+use Rattle.classical.specs.Translation.{factS, factB, factC, translated}
 use Rattle.classical.specs.Claim.{sourcePart}
-use Rattle.losses.specs.Losses.{broken, isLost, sourceState}
+use Rattle.losses.specs.Losses.{broken, isLost, lostIn, sourceState}
 use Rattle.losses.proofs.Examples.{gate}
 
 abbrev c : Task
@@ -66,3 +66,33 @@ end-forgotten = refl
 reached-states : Misread (leftBy (λ τ j. cond (leb j 3) (sourceState gate (after τ (actionAt c j)) ∷ []) []) (opening c)) 0 (2 ∷ [])
 unfolding translated
 reached-states = refl
+
+-- what is lost, summed over the states along xs instead of the state after it
+abbrev lostAlong : State → List ℕ → ℕ
+lostAlong τ [] = lostIn gate τ
+lostAlong τ (j ∷ js) = lostIn gate τ + lostAlong (after τ (actionAt c j)) js
+
+-- a rule is counted in each state since it was broken, and a solution costs less
+over-states : let xs : List ℕ = 0 ∷ 1 ∷ 0 ∷ 2 ∷ 3 ∷ [] in
+    let all : List ℕ = xs ++ (5 ∷ 7 ∷ 9 ∷ 10 ∷ []) in
+    (solves c all ≡ true) × (ltb (cost c all) (cost c xs + lostAlong (opening c) xs) ≡ true)
+unfolding translated
+over-states = (refl, refl)
+
+-- the gate with one rule, which is hard and has a weight; no file has such a rule, whose weight is 0
+abbrev strict : Task
+strict =
+    record {
+      facts = gate .facts;
+      start = gate .start;
+      goal = gate .goal;
+      actions = gate .actions;
+      preferences =
+          singleton (record { kind = preferenceAt gate 0 .kind; hard = true; weight = 1; first = preferenceAt gate 0 .first; second = [] });
+    }
+
+-- it is broken, isn't closed and isn't lost: a sum of all broken rules that aren't closed is another
+hard-counted : let τ : State = final (translated strict) (2 ∷ 3 ∷ []) in
+    (lostIn strict τ ≡ 0) × (cond (broken strict τ 0 && not (τ (factC 2 0))) (preferenceAt strict 0 .weight) 0 ≡ 1)
+unfolding translated
+hard-counted = (refl, refl)

@@ -11,6 +11,8 @@ ghost use Rattle.classical.specs.Translation.{compiled};
 ghost use Rattle.outcome.specs.Outcome.{written, areaAfter};
 ghost use Rattle.translation.specs.Translated.{outcome, Delivered};
 ghost use Rattle.route_rules.specs.Corollary.{CostIsMetric, StillPaid};
+ghost use Rattle.losses.specs.Losses.{Lost};
+ghost use Rattle.lost.specs.Answered.{given, answered, Claimed};
 ghost use Rattle.canonical.specs.Canonical.{respelled};
 ghost use Rattle.spelling.specs.Outcome.{outcome as spelled};
 ghost use Rattle.singling.specs.Singled.{singledFile};
@@ -21,7 +23,7 @@ ghost use Rattle.plan_text.specs.Outcomes.{readOutcome, stepsIn, writeOutcome, 
 ghost use Rattle.pddl_text.specs.Outcomes.{outcomeOver as texts, domainOver, problemOver};
 ghost use Rattle.figures.specs.Week.{weekOf};
 ghost use Rattle.figures.specs.Promised.{Promised};
-ghost use Rattle.words.specs.Numbers.{call, ofCheck, ofOutcome, ofTexts, ofWalk, ofSettle, ofWeek};
+ghost use Rattle.words.specs.Numbers.{call, ofCheck, ofOutcome, ofTexts, ofWalk, ofSettle, ofWeek, ofLosses};
 
 // Checks a task file.
 #[no_mangle]
@@ -150,4 +152,13 @@ pub extern "C" fn route_rules_week(file: &[u8], plans: &[u8], answer: &mut [u64;
     ensures { λ r. ⌜ Promised (now (file .entry)) (now (plans .entry)) (weekOf (now (file .entry)) (now (plans .entry))) ⌝ }
 {
     words::put_week(weekly::week(file, plans), answer)
+}
+
+// What is already lost after a list of translated actions of the task in a file, one byte an action.
+#[no_mangle]
+pub extern "C" fn route_rules_lost(file: &[u8], steps: &[u8], answer: &mut [u64; 8]) -> u32
+    ensures { λ r. ⌜ call r (now (answer .exit)) ≡ ofLosses (answered (now (file .entry)) (now (steps .entry))) ⌝ }
+    ensures { λ r. ⌜ ((v : Lost) → answered (now (file .entry)) (now (steps .entry)) ≡ given v → Claimed (now (file .entry))) ⌝ }
+{
+    words::put_losses(lost::lost(file, steps), answer)
 }

@@ -27,6 +27,10 @@ use Rattle.outcome.specs.Outcome
 use Rattle.outcome.specs.Outcome.{Outcome, written, fitted}
 use Rattle.classical.specs.Translation.{further, compiledRows}
 use Rattle.translation.specs.Translated.{rowsFitted, smallEnough, outcomeBy, outcome}
+use Rattle.translation.specs.Measured.{measuredBy, measured}
+use Rattle.losses.specs.Losses.{Lost, lost, stopped, lostAfter}
+use Rattle.lost.specs.Answered
+use Rattle.lost.specs.Answered.{Answered, actionsOf, answeredBy, answered}
 use Rattle.canonical.specs.Canonical.{respelledRows}
 use Rattle.spelling.specs.Outcome.{outcomeBy as spelledBy, outcome as spelled}
 use Rattle.singling.specs.Singled.{singledRows}
@@ -38,7 +42,7 @@ use Rattle.pddl_text.specs.Pddl.{domainText, problemText}
 use Rattle.pddl_text.specs.Outcomes
 use Rattle.pddl_text.specs.Outcomes.{outcomeBy as textsBy, outcome as texts}
 use Rattle.report.specs.Report.{reportOn, reportBy, reportOutcome}
-use Rattle.words.specs.Numbers.{Call, call, ofCheck, ofOutcome, ofTexts, ofWalk, ofSettle, ofWeek}
+use Rattle.words.specs.Numbers.{Call, call, ofCheck, ofOutcome, ofTexts, ofWalk, ofSettle, ofWeek, ofLosses}
 
 -- The number that a call returns, and which answers are no refusals
 
@@ -69,6 +73,10 @@ isWorth (Settled.refused n i) = false
 abbrev pub areFigures : Week.Answer → Bool
 areFigures (Week.given x) = true
 areFigures (Week.refused n i) = false
+
+abbrev pub isRun : Answered → Bool
+isRun (Answered.given v) = true
+isRun (Answered.refused n i) = false
 
 -- Check
 
@@ -253,6 +261,31 @@ settled-done b cost met = go (check b) (check-done b)
     go (Check.refused n i) e = e
     go (Check.accepted z) e = allowed (argumentsAllowed (z .preferences) cost met)
 
+-- Lists of translated actions
+
+abbrev LossesDone : Answered → Type 0
+LossesDone a = returnsZero (ofLosses a) ≡ isRun a
+
+lost-done : (b p : List ℕ) → LossesDone (answered b p)
+unfolding answered measured
+lost-done b p = go (outcome b 60008) (translate-done b 60008)
+  where
+    given-done : (v : Lost) → LossesDone (Answered.given v)
+    given-done (lost cost weights) = refl
+    given-done (stopped i) = refl
+
+    steps : (x y : Bool) (n : ℕ)
+        → LossesDone (cond x (cond y (Answered.given (lostAfter (taskOf b) p)) (Answered.refused 11 n)) (Answered.refused 10 0))
+    steps true true n = given-done (lostAfter (taskOf b) p)
+    steps true false n = refl
+    steps false y n = refl
+
+    go : (o : Outcome) → OutcomeDone o → LossesDone (answeredBy b p (measuredBy b o))
+    go (Outcome.refused n i) e = e
+    go (written n) e = steps (leb (length p) 2048) (all (λ (k : ℕ). ltb k (actionsOf (sizes b))) p) (stepsKnown (actionsOf (sizes b)) p)
+
+-- Weeks of plans
+
 abbrev WeekDone : Week.Answer → Type 0
 WeekDone x = returnsZero (ofWeek x) ≡ areFigures x
 
@@ -292,6 +325,7 @@ pub record ZeroMeansDone (b p t f : List ℕ) (cost : ℕ) (met : ℕ → Bool) 
   pub writing-pddl : returnsZero (ofTexts (texts b room more)) ≡ areWritten (texts b room more)
   pub reckoning : returnsZero (ofWeek (weekOf b f)) ≡ areFigures (weekOf b f)
   pub reporting : returnsZero (ofOutcome (reportOutcome b p room)) ≡ isWritten (reportOutcome b p room)
+  pub losing : returnsZero (ofLosses (answered b p)) ≡ isRun (answered b p)
 
 pub zero-means-done : (b p t f : List ℕ) (cost : ℕ) (met : ℕ → Bool) (room more : ℕ) → ZeroMeansDone b p t f cost met room more
 zero-means-done b p t f cost met room more =
@@ -308,4 +342,5 @@ zero-means-done b p t f cost met room more =
       writing-pddl = texts-done b room more;
       reckoning = week-done b f;
       reporting = report-done b p room;
+      losing = lost-done b p;
     }

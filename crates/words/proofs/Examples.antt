@@ -20,7 +20,10 @@ use Rattle.spelling.specs.Outcome.{outcome as spelled}
 use Rattle.outcome.specs.Outcome
 use Rattle.singling.specs.Singled.{singled}
 use Rattle.singling.specs.Outcome.{outcome as singleOutcome}
-use Rattle.words.specs.Numbers.{Call, call, bits, ofCheck, ofOutcome, ofWalk, ofSettle, ofWeek}
+use Rattle.words.specs.Numbers.{Call, call, bits, ofCheck, ofOutcome, ofWalk, ofSettle, ofWeek, ofLosses}
+use Rattle.translation.specs.Measured.{measured}
+use Rattle.losses.specs.Losses.{lostAfter}
+use Rattle.lost.specs.Answered.{answered}
 
 pub record Example : Type 0 where
   pub given : Call
@@ -64,8 +67,13 @@ examples =
     ∷ example (ofWeek (weekOf belt (1 ∷ 0 ∷ 0 ∷ 0 ∷ 0 ∷ 0 ∷ []))) 0 (replicate 24 0)
     ∷ example (ofWeek (weekOf belt (2 ∷ 0 ∷ 0 ∷ 0 ∷ 0 ∷ 0 ∷ 1 ∷ 0 ∷ 2 ∷ 0 ∷ 0 ∷ 2 ∷ []))) 11 (1 ∷ replicate 23 0)
     ∷ example (ofWeek (weekOf belt [])) 18 (replicate 24 0)
+    -- rule 0 is lost once its state is left, and no more once it is forgone; collect 0 asks that it is met; 7 is no action
+    ∷ example (ofLosses (answered belt (0 ∷ 2 ∷ []))) 0 (0 ∷ 1 ∷ 0 ∷ 3 ∷ 5 ∷ 0 ∷ 0 ∷ 0 ∷ [])
+    ∷ example (ofLosses (answered belt (0 ∷ 2 ∷ 4 ∷ []))) 0 (0 ∷ 1 ∷ 0 ∷ 8 ∷ 0 ∷ 0 ∷ 0 ∷ 0 ∷ [])
+    ∷ example (ofLosses (answered belt (0 ∷ 2 ∷ 3 ∷ []))) 0 (0 ∷ 2 ∷ 2 ∷ 0 ∷ 0 ∷ 0 ∷ 0 ∷ 0 ∷ [])
+    ∷ example (ofLosses (answered belt (0 ∷ 7 ∷ []))) 11 (1 ∷ 0 ∷ 0 ∷ 0 ∷ 0 ∷ 0 ∷ 0 ∷ 0 ∷ [])
     ∷ []
 
 pub as-said : map (λ (e : Example). e .given) examples ≡ map (λ (e : Example). call (e .number) (e .words)) examples
-unfolding check checkRows judged verdict literals walked settled bit translated outcome canonical spelled bits weekOf readable singled singleOutcome
+unfolding check checkRows judged verdict literals walked settled bit translated outcome canonical spelled bits weekOf readable singled singleOutcome measured lostAfter answered
 as-said = refl

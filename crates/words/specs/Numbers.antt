@@ -15,6 +15,10 @@ use Rattle.settling.specs.Settled.{Settled, worth}
 use Rattle.figures.specs.Figures.{Figures, none-solves, solve}
 use Rattle.figures.specs.Week
 use Rattle.pddl_text.specs.Outcomes
+use Rattle.losses.specs.Losses
+use Rattle.losses.specs.Losses.{Lost}
+use Rattle.lost.specs.Answered
+use Rattle.lost.specs.Answered.{Answered}
 use Rattle.outcome.specs.Outcome
 use Rattle.outcome.specs.Outcome.{Outcome, written}
 
@@ -82,3 +86,13 @@ ofFigures (solve n a) =
 abbrev pub ofWeek : Week.Answer → Call
 ofWeek (Week.given x) = ofFigures x
 ofWeek (Week.refused n i) = call n (i ∷ replicate 23 0)
+
+-- word 1 says what a list of translated actions comes to: 1 every step applies, 2 stopped. Word 2 is the step at which it stopped, words
+-- 3 and 4 are the cost so far and the lost weights
+abbrev pub ofLost : Lost → Call
+ofLost (Losses.lost cost weights) = answered 1 0 cost weights 0 0 0
+ofLost (Losses.stopped step) = answered 2 step 0 0 0 0 0
+
+abbrev pub ofLosses : Answered → Call
+ofLosses (Answered.given v) = ofLost v
+ofLosses (Answered.refused n i) = refusal n i

@@ -7,12 +7,16 @@ ghost use Rattle.plan.specs.Answers.{asVerdict, walkedAs};
 ghost use Rattle.settling.specs.Answers.{settledAs};
 ghost use Rattle.plan.specs.declared.Verdict.the-variants.{Solved};
 ghost use Rattle.settling.specs.declared.Settled.the-variants.{Given};
+ghost use Rattle.lost_run.specs.Run.{runAs};
+ghost use Rattle.lost.specs.Answers.{lossesAs};
 ghost use Rattle.outcome.specs.Answers.{answer as asOutcome};
 ghost use Rattle.pddl_text.specs.Answers.{answer as asTexts};
 ghost use Rattle.figures.specs.Week.{refused as refusedWeek};
 ghost use Rattle.weekly.specs.Answers.{figuresAs, reckonedAs};
 ghost use Rattle.weekly.specs.declared.Figures.the-variants.{Solve};
-ghost use Rattle.words.specs.Numbers.{call, refusal, answered, ofCheck, ofOutcome, ofTexts, ofVerdict, ofWalk, ofSettle, ofWeek, signed};
+ghost use Rattle.words.specs.Numbers.{call, refusal, answered, ofCheck, ofOutcome, ofTexts, ofVerdict, ofWalk, ofSettle, ofWeek, signed, ofLost, ofLosses};
+use lost::Losses;
+use lost_run::Run;
 use outcome::Outcome;
 use plan::Solution;
 use plan::Verdict;
@@ -33,6 +37,9 @@ const STOPPED: u64 = 2;
 const GOAL_MISSED: u64 = 3;
 
 const RULE_MISSED: u64 = 4;
+
+// Word 1 of a list whose every step applies; one that stops has STOPPED.
+const RUN: u64 = 1;
 
 // Writes a refusal, and returns its number.
 fn put_refusal(f: Refusal, answer: &mut [u64; 8]) -> u32
@@ -200,5 +207,24 @@ pub fn put_week(r: Reckoned, answer: &mut [u64; 24]) -> u32
         }
         Figures::Solve(a) => put_amounts(a, meeting, answer),
         Figures::Refused(f) => put_refused_week(f, answer),
+    }
+}
+
+// Writes what a list of translated actions comes to.
+fn put_run(x: Run, answer: &mut [u64; 8]) -> u32
+    ensures { λ r. ⌜ call r (now (answer .exit)) ≡ ofLost (runAs x) ⌝ }
+{
+    match x {
+        Run::Made(a) => put_values(answer, RUN, 0, a.cost, a.lost, 0, 0),
+        Run::Stopped(step) => put_values(answer, STOPPED, step as u64, 0, 0, 0, 0),
+    }
+}
+
+pub fn put_losses(l: Losses, answer: &mut [u64; 8]) -> u32
+    ensures { λ r. ⌜ call r (now (answer .exit)) ≡ ofLosses (lossesAs l) ⌝ }
+{
+    match l {
+        Losses::Given(x) => put_run(x, answer),
+        Losses::Refused(f) => put_refusal(f, answer),
     }
 }
