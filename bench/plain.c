@@ -1,4 +1,4 @@
-/* check, walk, settle, week, translate, spell and single in C, written from documents 01 and 02 for speed, to measure the library beside. The
+/* check, walk, settle, week, translate, lost, spell and single in C, written from documents 01 and 02 for speed, to measure the library beside. The
  * answers are those of include/route_rules.h.
  *
  * plain_ reads the rows where they lie: parts of a file are found once, a condition is left as soon as it is decided, parts of
@@ -270,13 +270,15 @@ static inline int good(Monitor m, uint8_t kind)
     return kind == SOMETIME || kind == AT_END || kind == WITHIN ? m.s : kind == AT_MOST_ONCE ? m.s | !m.b : !m.b;
 }
 
-static int admitted(Task *t, const uint8_t *plan, size_t steps)
+static int admitted_below(Task *t, uint32_t actions, const uint8_t *plan, size_t steps)
 {
     if (steps > ROUTE_RULES_MAX_STEPS) return refuse(t, ROUTE_RULES_REFUSED_LONG_PLAN, 0);
     for (size_t i = 0; i < steps; i++)
-        if (plan[i] >= t->actions) return refuse(t, ROUTE_RULES_REFUSED_STEP, i);
+        if (plan[i] >= actions) return refuse(t, ROUTE_RULES_REFUSED_STEP, i);
     return 1;
 }
+
+static int admitted(Task *t, const uint8_t *plan, size_t steps) { return admitted_below(t, t->actions, plan, steps); }
 
 /* The verdict on a plan whose goal holds: the lowest hard rule that is missed is named. */
 static void solved(const Task *t, const Monitor *m, uint64_t cost, uint64_t answer[8])
@@ -853,6 +855,85 @@ uint32_t plain_translate(const uint8_t *file, size_t length, uint8_t *out, size_
 uint32_t tuned_translate(const uint8_t *file, size_t length, uint8_t *out, size_t room, uint64_t answer[8])
 {
     return translate(file, length, out, room, answer, 1);
+}
+
+/* ---- lost */
+
+/* A run of the translation as far as it has come, on the source's rows: monitors write S, B and D, and C holds below `closed`. */
+typedef struct {
+    const Task *t;
+    Monitor m[16];
+    State s;
+    uint64_t cost;
+    uint32_t closed;
+    int ended;
+} Run;
+
+/* A source action, or end, which leaves the state that they find. */
+static int leave(Run *r, uint32_t step)
+{
+    const Task *t = r->t;
+    uint64_t looked = 0;
+    int last = step == t->actions;
+    uint32_t from = last ? 0 : t->action[step] + 1;
+    if (r->ended || (!last && !condition_true(t, &from, r->s, &looked))) return 0;
+    watch_all(t, r->m, last, r->s, &looked);
+    r->ended = last;
+    if (last) return 1;
+    r->cost += value_at(t, t->action[step]);
+    r->s = after(t, from, t->action[step + 1], r->s, &looked);
+    return 1;
+}
+
+/* Collect k or forgo k: rules are closed in their order, by what the monitor says, and a hard one is never forgone. */
+static int close_rule(Run *r, uint32_t k, int collect)
+{
+    if (!r->ended || k != r->closed || good(r->m[k], r->t->side[k].kind) != collect) return 0;
+    if (!collect && r->t->side[k].hard) return 0;
+    if (!collect) r->cost += value_at(r->t, r->t->side[k].open);
+    r->closed++;
+    return 1;
+}
+
+static uint64_t lost_weights(const Run *r)
+{
+    uint64_t lost = 0;
+    for (uint32_t k = r->closed; k < r->t->preferences; k++) {
+        uint8_t kind = r->t->side[k].kind;
+        int shown = kind == ALWAYS || kind == SOMETIME_BEFORE || (kind == AT_MOST_ONCE && !r->m[k].s);
+        if (shown && r->m[k].b && !r->t->side[k].hard) lost += value_at(r->t, r->t->side[k].open);
+    }
+    return lost;
+}
+
+/* Whether the source has a translation: 7 and 8, which is over its rows. */
+static int translatable(Task *t)
+{
+    if (number_facts(t) > 128 || t->actions + 2 * t->preferences + 1 > 128) return refuse(t, ROUTE_RULES_REFUSED_TOO_MANY, 0);
+    return count_rows(t) <= MAX_ROWS || refuse(t, ROUTE_RULES_REFUSED_TRANSLATION_ROWS, 0);
+}
+
+uint32_t plain_lost(const uint8_t *file, size_t length, const uint8_t *steps, size_t count, uint64_t answer[8])
+{
+    Task t;
+    memset(answer, 0, 64);
+    if (!check(&t, file, length) || !translatable(&t) || !admitted_below(&t, t.actions + 2 * t.preferences + 1, steps, count)) {
+        answer[0] = t.place;
+        return t.number;
+    }
+    Run r = {.t = &t, .s = opening(&t)};
+    for (size_t i = 0; i < count; i++) {
+        uint32_t closing = steps[i] - t.actions - 1; /* of a number over A */
+        if (steps[i] <= t.actions ? !leave(&r, steps[i]) : !close_rule(&r, closing / 2, closing % 2 == 0)) {
+            answer[1] = ROUTE_RULES_STOPPED;
+            answer[2] = i;
+            return 0;
+        }
+    }
+    answer[1] = ROUTE_RULES_RUN;
+    answer[3] = r.cost;
+    answer[4] = lost_weights(&r);
+    return 0;
 }
 
 /* ---- spell */

@@ -11,6 +11,7 @@ uint32_t plain_walk(const uint8_t *file, size_t length, const uint8_t *plan, siz
 uint32_t tuned_walk(const uint8_t *file, size_t length, const uint8_t *plan, size_t steps, uint64_t answer[8]);
 uint32_t plain_settle(const uint8_t *file, size_t length, uint64_t cost, uint64_t met, uint64_t answer[8]);
 uint32_t plain_week(const uint8_t *file, size_t length, const uint8_t *plans, size_t plans_length, uint64_t answer[24]);
+uint32_t plain_lost(const uint8_t *file, size_t length, const uint8_t *steps, size_t count, uint64_t answer[8]);
 uint32_t plain_translate(const uint8_t *file, size_t length, uint8_t *out, size_t room, uint64_t answer[8]);
 uint32_t tuned_translate(const uint8_t *file, size_t length, uint8_t *out, size_t room, uint64_t answer[8]);
 uint32_t plain_spell(const uint8_t *file, size_t length, uint8_t *out, size_t room, uint64_t answer[8]);

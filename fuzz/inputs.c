@@ -67,6 +67,18 @@ static size_t make_plans(Data *d, const uint8_t *plan, size_t steps, uint8_t *pl
     return how % 16 == 13 ? made - 1 : made;
 }
 
+/* ---- translated actions */
+
+/* The plan, and after it end and closings in their order, each by a byte that says collect or forgo; or any numbers. */
+static size_t make_list(const Input *in, const uint8_t *more, size_t count, uint8_t *list)
+{
+    uint8_t actions = in->file_length >= 8 ? in->file[2] : 0;
+    memcpy(list, in->plan, in->steps);
+    for (size_t i = 0; i < count; i++)
+        list[in->steps + i] = more[i] >= 192 ? more[i] - 192 : i == 0 ? actions : actions + 2 * i - 1 + more[i] % 2;
+    return in->steps + count;
+}
+
 /* ---- texts */
 
 /* Lines that are none, or look as if they were none. */
@@ -305,7 +317,7 @@ size_t room_for(uint8_t byte, size_t length)
 void make_input(Input *in, const uint8_t *bytes, size_t size)
 {
     Data d = {bytes, size};
-    uint8_t choice = next(&d), three[3];
+    uint8_t choice = next(&d), three[3], more[MORE_STEPS];
     in->at_end = choice & AT_END_OF_PAGE;
     for (int i = 0; i < ROOMS; i++) in->rooms[i] = next(&d);
     in->cost = make_cost(&d);
@@ -313,6 +325,9 @@ void make_input(Input *in, const uint8_t *bytes, size_t size)
     in->steps = make_plan(&d, in->plan, choice & ANY_STEPS);
     in->text_length = make_text(&d, in->text, choice & MADE_TEXT);
     in->plans_length = make_plans(&d, in->plan, in->steps, in->plans);
+    size_t count = next(&d) % (MORE_STEPS + 1);
+    for (size_t i = 0; i < count; i++) more[i] = next(&d);
     in->file_length = (choice & TASK_FILE ? task_file : choice & MADE_FILE ? make_file : copy_file)(&d, in->file);
+    in->list_length = make_list(in, more, count, in->list);
     in->met = make_met(three, choice & CUT_MET, in->file, in->file_length);
 }

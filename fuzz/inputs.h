@@ -1,9 +1,9 @@
 /* What an execution lends, made from the fuzzer's bytes in this order: a byte of choices, eight of rooms, two of a cost, three of
  * met preferences, the plan's length and steps, two bytes of the text and its bytes, two of a week's plans with their starts and
- * lengths, and the file. */
+ * lengths, how many translated actions follow the plan and a byte of each, and the file. */
 #include "plain.h"
 
-enum { PLAN_ROOM = 4096, PLANS_ROOM = PLAN_ROOM + 512, TEXT_ROOM = ROUTE_RULES_MAX_TEXT + 16, FILE_ROOM = ROUTE_RULES_MAX_FILE + 5 };
+enum { PLAN_ROOM = 4096, PLANS_ROOM = PLAN_ROOM + 512, MORE_STEPS = 24, LIST_ROOM = PLAN_ROOM + MORE_STEPS, TEXT_ROOM = ROUTE_RULES_MAX_TEXT + 16, FILE_ROOM = ROUTE_RULES_MAX_FILE + 5 };
 
 /* Output areas, each with a room byte of its own. */
 enum { TO_TRANSLATE, TO_SPELL, TO_REPORT, TO_READ, TO_WRITE, TO_DOMAIN, TO_PROBLEM, TO_SINGLE, ROOMS };
@@ -12,8 +12,8 @@ typedef struct {
     int at_end; /* areas touch the page without access with their end */
     uint8_t rooms[ROOMS];
     uint64_t cost, met;
-    uint8_t plan[PLAN_ROOM], text[TEXT_ROOM], plans[PLANS_ROOM], file[FILE_ROOM];
-    size_t steps, text_length, plans_length, file_length;
+    uint8_t plan[PLAN_ROOM], text[TEXT_ROOM], plans[PLANS_ROOM], list[LIST_ROOM], file[FILE_ROOM];
+    size_t steps, text_length, plans_length, list_length, file_length;
 } Input;
 
 void make_input(Input *in, const uint8_t *bytes, size_t size);

@@ -21,10 +21,11 @@ FILLED, CUT, BOTH = 15, 14, 13      # a text is filled up, loses its last byte, 
 WHOLE = (3, 0, 0, 32, 0, 32, 0, 0)  # the whole plan twice, and one without steps
 
 
-def seed(data, plan=b'\0', text=b'(a0)\n', choice=0, room=EXACT, cost=(0, 3), met=(2, 0, 255), how=0, steps=None, week=WHOLE):
-    """An input: a file, a plan (`steps` is the byte of its length), a text, a week's plans, and what else fuzz/inputs.c reads."""
+def seed(data, plan=b'\0', text=b'(a0)\n', choice=0, room=EXACT, cost=(0, 3), met=(2, 0, 255), how=0, steps=None, week=WHOLE, more=()):
+    """An input: a file, a plan (`steps` is the byte of its length), a text, a week's plans, what follows the plan in a list of translated
+    actions, and what else fuzz/inputs.c reads."""
     rooms = [room] * 8 if isinstance(room, int) else room
-    return bytes([choice, *rooms, *cost, *met, len(plan) if steps is None else steps, *plan, how, len(text), *text, *week]) + data
+    return bytes([choice, *rooms, *cost, *met, len(plan) if steps is None else steps, *plan, how, len(text), *text, *week, len(more), *more]) + data
 
 
 def made(rows, facts, repeat=0):
@@ -180,18 +181,38 @@ def weeks():
                    week=(4, 0, *plans))
 
 
+def lists():
+    """End, collect and forgo after a plan: in their order, as the rules allow it and not; and other numbers."""
+    belt = file(BELT, F=2)
+    for more in ((), (0,), (0, 1), (0, 0), (0, 1, 0), (0, 1, 1), (0, 1, 0, 0), (0, 193), (0, 194), (1, 192), (194, 194), (195,), (199,), (255,)):
+        for plan in (b'', b'\0', b'\0\1\0'):
+            yield seed(belt, plan=plan, more=more)
+    actions = ' ACTION 3 EFFECT ADD 0 ACTION 4 EFFECT DELETE 0 ACTION 1 EFFECT ADD 1 ACTION 7 CLAUSE HOLDS 2'
+    for kind in PREFERENCES:
+        rows = 'GOAL' + actions + preference(kind, 250000, 'CLAUSE HOLDS 0', 'CLAUSE HOLDS 1', steps=1) * 2 + ' always 9 CLAUSE LACKS 0'
+        for plan in (b'', b'\0', b'\0\1\0', b'\2\0\1', b'\0\1\0\1', b'\0\2\1\1', b'\3'):
+            yield seed(file(rows, F=3), plan=plan)
+            yield seed(made(rows, 3), plan=plan, more=(0,), choice=MADE_FILE)
+            for closings in ((0, 0), (1, 1), (0, 0, 0), (1, 1, 0), (1, 1, 1)):
+                yield seed(file(rows, F=3), plan=plan, more=(0, *closings))
+    for steps in (LONGEST_PLAN, LONG_PLAN):
+        for data in (belt, file('GOAL', F=127)):                                 # 7 before 10
+            yield seed(data, plan=b'\0' * 8, steps=steps, week=(1, 0, 0, 0))
+
+
 def chance_tasks():
     """Chance tasks in the order of rows, with plans of their first actions."""
     chance = random.Random(1)
     for _ in range(120):
         plan = bytes(chance.randrange(3) for _ in range(chance.randrange(8)))
         week = (6, 0, 0, 32, 1, 32, 2, 32, 0, 33, 0, 0, 1, 193)
-        yield seed(chance.randbytes(250), plan=plan, text=plan, choice=TASK_FILE + MADE_TEXT + chance.randrange(2), week=week)
+        yield seed(chance.randbytes(250), plan=plan, text=plan, choice=TASK_FILE + MADE_TEXT + chance.randrange(2), week=week,
+                   more=[chance.randrange(192) for _ in range(chance.randrange(6))])
 
 
 def main(folder):
     os.makedirs(folder, exist_ok=True)
-    for group in (examples, refusals, texts, kinds, values, spellings, choices, weeks, chance_tasks):
+    for group in (examples, refusals, texts, kinds, values, spellings, choices, weeks, lists, chance_tasks):
         for number, data in enumerate(group()):
             with open(os.path.join(folder, f'{group.__name__}_{number}'), 'wb') as out:
                 out.write(data)

@@ -101,3 +101,12 @@ uint32_t route_rules_week(const uint8_t *file, size_t file_length, const uint8_t
     memcpy(answer, words, STRAY == 22 ? 184 : 192);                  /* leaves the last word as it was */
     return number;
 }
+
+uint32_t route_rules_lost(const uint8_t *file, size_t file_length, const uint8_t *steps, size_t steps_length,
+                          route_rules_losses *answer)
+{
+    uint32_t number = plain_lost(file, file_length, steps, steps_length, WORDS(answer));
+    if (STRAY == 23) seen = steps[-1];                      /* reads before the list */
+    if (STRAY == 24 && answer->verdict == 2) answer->cost = 1; /* stopped, with a cost */
+    return number;
+}

@@ -7,10 +7,12 @@
 #include <stdlib.h>
 #include <string.h>
 
-enum { CHECK, TRANSLATE, SPELL, SINGLE, WALK, SETTLE, READ_PLAN, WRITE_PLAN, WALK_TEXT, PDDL, REPORT, WEEK, OPERATIONS, REFUSALS = 19 };
+enum {
+    CHECK, TRANSLATE, SPELL, SINGLE, WALK, SETTLE, READ_PLAN, WRITE_PLAN, WALK_TEXT, PDDL, REPORT, WEEK, LOST, OPERATIONS, REFUSALS = 19
+};
 
 static const char *const NAMES[OPERATIONS] = {"check", "translate", "spell", "single", "walk", "settle", "read_plan",
-                                              "write_plan", "walk_text", "pddl", "report", "week"};
+                                              "write_plan", "walk_text", "pddl", "report", "week", "lost"};
 
 /* The refusals of each operation, bit n for number n. */
 #define OF_FILE 0x7eu
@@ -27,15 +29,17 @@ static const uint32_t ALLOWED[OPERATIONS] = {
     OF_FILE | 1 << 13 | 1 << 14,
     OF_FILE | 1 << 10 | 1 << 11 | 1 << 9,
     OF_FILE | 1 << 18 | 1 << 10 | 1 << 11,
+    OF_FILE | 1 << 7 | 1 << 8 | 1 << 10 | 1 << 11,
 };
 
-static Pages file_pages, plan_pages, plans_pages, text_pages, made_pages, out_pages, other_pages, answer_pages;
+static Pages file_pages, plan_pages, plans_pages, list_pages, text_pages, made_pages, out_pages, other_pages, answer_pages;
 
 /* Bytes that C wrote. */
 static uint8_t expected[ROUTE_RULES_MAX_PDDL], expected_problem[ROUTE_RULES_MAX_PDDL];
 
-/* How often each operation gave each number, walk each verdict, and a week figures or none. */
-static uint64_t numbers[OPERATIONS][REFUSALS], verdicts[5], weeks[2];
+/* How often each operation gave each number, walk each verdict, a week figures or none, and how often a list stopped or ran, with
+ * nothing lost or something. */
+static uint64_t numbers[OPERATIONS][REFUSALS], verdicts[5], weeks[2], losses[3];
 
 static void same_answer(int operation, uint32_t number, Area answer, uint32_t expected_number, const uint64_t *words)
 {
@@ -99,6 +103,27 @@ static void try_week(Area file, Area plans, int at_end)
     if (number != 0) return;
     weeks[words[1] != 0]++;
     if (words[1] != 0) try_figures(words);
+}
+
+/* Of a list that runs, so does each beginning; cost and lost weights together never fall. */
+static void try_beginning(Area file, Area list, const uint64_t words[8])
+{
+    route_rules_losses before;
+    if (list.length == 0) return;
+    if (route_rules_lost(file.at, file.length, list.at, list.length - 1, &before) != 0 || before.verdict != ROUTE_RULES_RUN)
+        fail("a list that runs, and not without its last step");
+    if (before.cost > words[3] || before.cost + before.lost > words[3] + words[4]) fail("a bound that falls");
+}
+
+static void try_lost(Area file, Area list, int at_end)
+{
+    uint64_t words[8];
+    Area answer = lend(answer_pages, 64, at_end);
+    uint32_t number = route_rules_lost(file.at, file.length, list.at, list.length, (route_rules_losses *)answer.at);
+    same_answer(LOST, number, answer, plain_lost(file.at, file.length, list.at, list.length, words), words);
+    if (number != 0) return;
+    losses[words[1] == ROUTE_RULES_STOPPED ? 0 : words[4] == 0 ? 1 : 2]++;
+    if (words[1] == ROUTE_RULES_RUN) try_beginning(file, list, words);
 }
 
 static void try_pddl(Area file, const Input *in)
@@ -301,6 +326,8 @@ static void tell(void)
     fprintf(stderr, "reached verdicts");
     for (int n = 1; n < 5; n++) fprintf(stderr, " %d:%llu", n, (unsigned long long)verdicts[n]);
     fprintf(stderr, "\nreached weeks none:%llu figures:%llu\n", (unsigned long long)weeks[0], (unsigned long long)weeks[1]);
+    fprintf(stderr, "reached lists stopped:%llu nothing:%llu lost:%llu\n", (unsigned long long)losses[0],
+            (unsigned long long)losses[1], (unsigned long long)losses[2]);
 }
 
 int LLVMFuzzerInitialize(int *count, char ***words)
@@ -310,6 +337,7 @@ int LLVMFuzzerInitialize(int *count, char ***words)
     file_pages = pages(FILE_ROOM);
     plan_pages = pages(PLAN_ROOM);
     plans_pages = pages(PLANS_ROOM);
+    list_pages = pages(LIST_ROOM);
     text_pages = pages(TEXT_ROOM);
     made_pages = pages(ROUTE_RULES_MAX_FILE);
     out_pages = pages(ROUTE_RULES_MAX_PDDL);
@@ -326,11 +354,13 @@ int LLVMFuzzerTestOneInput(const uint8_t *bytes, size_t size)
     Area file = lend_copy(file_pages, in.file, in.file_length, in.at_end);
     Area plan = lend_copy(plan_pages, in.plan, in.steps, in.at_end);
     Area plans = lend_copy(plans_pages, in.plans, in.plans_length, in.at_end);
+    Area list = lend_copy(list_pages, in.list, in.list_length, in.at_end);
     Area text = lend_copy(text_pages, in.text, in.text_length, in.at_end);
     try_check(file, in.at_end);
     try_walk(file, plan, in.at_end);
     try_settle(file, in.cost, in.met, in.at_end);
     try_week(file, plans, in.at_end);
+    try_lost(file, list, in.at_end);
     try_pddl(file, &in);
     try_translate(file, &in);
     try_spell(file, plan, &in);
@@ -342,6 +372,7 @@ int LLVMFuzzerTestOneInput(const uint8_t *bytes, size_t size)
     unchanged(file, in.file);
     unchanged(plan, in.plan);
     unchanged(plans, in.plans);
+    unchanged(list, in.list);
     unchanged(text, in.text);
     return 0;
 }

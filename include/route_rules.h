@@ -1,6 +1,6 @@
 /* Route rules: check a task file, write the one spelling of its task, translate a task with soft and hard rules into a classical
  * task, write it with single literals in its effects, write it as PDDL, walk a plan on a task, given as bytes or as planners print
- * it, settle what it is worth, and put up to 64 plans into figures.
+ * it, settle what it is worth, put up to 64 plans into figures, and say what a half-made plan has already lost.
  *
  * Link target/staticlib/libroute_rules.a, which `rt staticlib route_rules` writes. Every function is proved: it answers every
  * input as the definitions say (crates/words/specs/Numbers.antt has the words of the answers), always returns, and
@@ -55,7 +55,8 @@ extern "C" {
  * Of a plan's text 12 comes after 6, and before 10 and 11; reading alone is refused by 12, then 10, then 9. 13 and 14 are
  * pddl's, in that order, after 1 to 6; 15 is settle's, after 1 to 6. A spelling is refused by 1 to 6, and then by 9; a report as
  * walk is, and then by 9; a task with single literals by 1 to 6, then 17, then 8, then 9. A week is refused by 1 to 6, then by 18,
- * then by 10 and 11 of its plans: the first such plan decides, 10 before 11 on one plan, and the place is its number. */
+ * then by 10 and 11 of its plans: the first such plan decides, 10 before 11 on one plan, and the place is its number.
+ * What is lost is refused by 1 to 8 as a translation is, then by 10, then by 11 over the translated actions. */
 enum {
     ROUTE_RULES_REFUSED_SHORT_FILE = 1,       /* under 8 bytes; 0 */
     ROUTE_RULES_REFUSED_SIZE = 2,             /* a size out of range; 0 */
@@ -68,7 +69,7 @@ enum {
     ROUTE_RULES_REFUSED_TRANSLATION_ROWS = 8, /* translation, or task with single literals, over 12,000 rows; 0 */
     ROUTE_RULES_REFUSED_SHORT_OUTPUT = 9,     /* output area under the output's length; 0 */
     ROUTE_RULES_REFUSED_LONG_PLAN = 10,       /* plan over 2,048 steps; 0 */
-    ROUTE_RULES_REFUSED_STEP = 11,            /* step not below A; the first such step */
+    ROUTE_RULES_REFUSED_STEP = 11,            /* step not below A, for lost not below A + 2 * P + 1; the first such step */
     ROUTE_RULES_REFUSED_TEXT = 12,            /* text over 65,536 bytes: 0; or a line of another form or without a newline: that line */
     ROUTE_RULES_REFUSED_PREFERENCES = 13,     /* the task has preferences; 0 */
     ROUTE_RULES_REFUSED_SHORT_AREA = 14,      /* a domain or a problem longer than its area; 0 */
@@ -251,12 +252,38 @@ typedef struct route_rules_figures {
 uint32_t route_rules_week(const uint8_t *file, size_t file_length, const uint8_t *plans, size_t plans_length,
                           route_rules_figures *answer);
 
+/* The verdict on a beginning of a translated run: this one, or ROUTE_RULES_STOPPED. */
+enum {
+    ROUTE_RULES_RUN = 1 /* each step applies in turn */
+};
+
+/* What is lost after a list of translated actions: the weights of the soft always, at-most-once and sometime-before rules that the
+ * states left so far miss, and that are not closed yet. */
+typedef struct route_rules_losses {
+    uint64_t place;
+    uint64_t verdict; /* run or stopped */
+    uint64_t step;    /* stopped: the first step that doesn't apply; else 0 */
+    uint64_t cost;    /* run: the cost so far; else 0 */
+    uint64_t lost;    /* run: the lost weights; else 0 */
+    uint64_t spare[3];
+} route_rules_losses;
+
+/* Follows a list of actions of the translation of the task in a file, one byte each: with A and P the source's, below A the source's
+ * actions, A is end, A + 1 + 2 * k collects and A + 2 + 2 * k forgoes rule k. The list is any beginning of a run, or none, which is
+ * stopped. No translation is made. Or it is refused by 1 to 8, 10 or 11.
+ *
+ * A lost rule is missed in every continuation that solves, and every solution of the translation that begins with this list costs at
+ * least `cost` plus `lost`: a planner may take `lost` for a bound on what is still to pay. */
+uint32_t route_rules_lost(const uint8_t *file, size_t file_length, const uint8_t *steps, size_t steps_length,
+                          route_rules_losses *answer);
+
 /* Every other answer has eight words, that of a week has 24; the functions write them all. */
 typedef char route_rules_answers_have_their_words[sizeof(route_rules_checked) == 64 && sizeof(route_rules_translated) == 64 &&
                                                           sizeof(route_rules_spelled) == 64 && sizeof(route_rules_singled) == 64 &&
                                                           sizeof(route_rules_walked) == 64 && sizeof(route_rules_settled) == 64 &&
                                                           sizeof(route_rules_length) == 64 && sizeof(route_rules_texts) == 64 &&
                                                           sizeof(route_rules_reported) == 64 &&
+                                                          sizeof(route_rules_losses) == 64 &&
                                                           sizeof(route_rules_figures) == 192
                                                       ? 1
                                                       : -1];

@@ -104,6 +104,16 @@ pub struct Figures {
     pub meeting: [u64; 16],
 }
 
+/// What comes of a list of translated actions.
+#[derive(Clone, Copy, PartialEq, Eq, Debug)]
+pub enum Lost {
+    /// Each step applies: the cost so far, and the weights of the soft always, at-most-once and sometime-before rules that are
+    /// missed whatever follows and are not closed yet.
+    Run { cost: u64, lost: u64 },
+    /// The first step that doesn't apply.
+    Stopped(u64),
+}
+
 /// The words of an answer: the structs of the header.
 type Answer = [u64; 8];
 type WeekAnswer = [u64; 24];
@@ -182,6 +192,13 @@ extern "C" {
         plan_length: usize,
         out: *mut u8,
         out_length: usize,
+        answer: *mut Answer,
+    ) -> u32;
+    fn route_rules_lost(
+        file: *const u8,
+        file_length: usize,
+        steps: *const u8,
+        steps_length: usize,
         answer: *mut Answer,
     ) -> u32;
     fn route_rules_week(
@@ -371,4 +388,26 @@ pub fn week(file: &[u8], plans: &[u8]) -> Result<Option<Figures>, Refusal> {
         remainder,
         meeting,
     }))
+}
+
+/// Follows a list of actions of the translation of the task in a file, one byte each, and says what is lost after it; or it is
+/// refused by 1 to 8, 10 or 11. Every solution of the translation that begins with this list costs at least `cost` plus `lost`.
+pub fn lost(file: &[u8], steps: &[u8]) -> Result<Lost, Refusal> {
+    let words = answered(|answer| unsafe {
+        route_rules_lost(
+            file.as_ptr(),
+            file.len(),
+            steps.as_ptr(),
+            steps.len(),
+            answer,
+        )
+    })?;
+    match words[1] {
+        1 => Ok(Lost::Run {
+            cost: words[3],
+            lost: words[4],
+        }),
+        2 => Ok(Lost::Stopped(words[2])),
+        verdict => unreachable!("verdict {verdict}"),
+    }
 }

@@ -1,7 +1,7 @@
 //! The implementations beside each other, all with the answers of include/route_rules.h.
 
 use crate::inputs::Input;
-use peer::{text, Figures, Refusal, Sizes, Verdict, Walked, Worth};
+use peer::{text, Figures, Lost, Refusal, Sizes, Verdict, Walked, Worth};
 
 /// What a call returns, and the words of its answer.
 pub type Answer = (u32, [u64; 8]);
@@ -35,6 +35,7 @@ functions! {
     route_rules_check(*const u8, usize);
     route_rules_walk(*const u8, usize, *const u8, usize);
     route_rules_settle(*const u8, usize, u64, u64);
+    route_rules_lost(*const u8, usize, *const u8, usize);
     route_rules_translate(*const u8, usize, *mut u8, usize);
     route_rules_spell(*const u8, usize, *mut u8, usize);
     route_rules_single(*const u8, usize, *mut u8, usize);
@@ -46,6 +47,7 @@ functions! {
     plain_check(*const u8, usize);
     plain_walk(*const u8, usize, *const u8, usize);
     plain_settle(*const u8, usize, u64, u64);
+    plain_lost(*const u8, usize, *const u8, usize);
     plain_translate(*const u8, usize, *mut u8, usize);
     plain_spell(*const u8, usize, *mut u8, usize);
     plain_single(*const u8, usize, *mut u8, usize);
@@ -89,6 +91,13 @@ fn walked(walked: Walked) -> Answer {
 
 fn settled(worth: Worth) -> Answer {
     (0, [0, worth.metric, worth.utility as u64, 0, 0, 0, 0, 0])
+}
+
+fn losses(lost: Lost) -> Answer {
+    match lost {
+        Lost::Run { cost, lost } => (0, [0, 1, 0, cost, lost, 0, 0, 0]),
+        Lost::Stopped(step) => (0, [0, 2, step as u64, 0, 0, 0, 0, 0]),
+    }
 }
 
 /// Of 24 words eight at a time.
@@ -185,6 +194,15 @@ pub fn settle(who: usize, file: &[u8], cost: u64, met: u64) -> Answer {
 pub fn walk_and_settle(who: usize, input: &Input) -> [Answer; 2] {
     let walked = walk(who, input);
     [walked, settle(who, &input.file, walked.1[3], walked.1[4])]
+}
+
+/// What is lost after a list of translated actions. The Rust makes the translation.
+pub fn lost(who: usize, input: &Input) -> Answer {
+    match who {
+        0 => call_walk(route_rules_lost, &input.file, &input.list),
+        1 => peer::lost(&input.file, &input.list).map_or_else(refused, losses),
+        _ => call_walk(plain_lost, &input.file, &input.list),
+    }
 }
 
 /// The figures of a week.

@@ -1,21 +1,23 @@
 //! The tasks and plans that are measured.
 
 use peer::random::{task_and_plan, Random, Shape, MAX_FILE};
-use peer::task::{MAX_DEADLINE, MAX_ROWS};
+use peer::task::{MAX_DEADLINE, MAX_ROWS, MAX_STEPS};
 use peer::week::{joined, split, MAX_PLANS};
 use peer::{
-    encode, pddl, singled, text, translate, translated, verdict, walk, Action, Clause, Condition,
-    Effect, Kind, Literal, Preference, Task, Verdict,
+    complete, decode, encode, pddl, singled, text, translate, translated, verdict, walk, Action,
+    Clause, Condition, Effect, Kind, Literal, Preference, Task, Verdict,
 };
 use std::fs;
 use std::path::Path;
 
-/// A task file and a plan, with its text, what it costs and meets where it solves, and a week in which it comes as often as it may.
+/// A task file and a plan, with its text, its list of translated actions, what it costs and meets where it solves, and a week in
+/// which it comes as often as it may.
 pub struct Input {
     pub name: String,
     pub file: Vec<u8>,
     pub plan: Vec<u8>,
     pub text: Vec<u8>,
+    pub list: Vec<u8>,
     pub plans: Vec<u8>,
     pub cost: u64,
     pub met: u64,
@@ -31,6 +33,7 @@ impl Input {
             ("file", &self.file),
             ("plan", &self.plan),
             ("text", &self.text),
+            ("list", &self.list),
             ("plans", &self.plans),
             ("amounts", &amounts),
         ] {
@@ -50,6 +53,7 @@ impl Input {
             file: read("file"),
             plan: read("plan"),
             text: read("text"),
+            list: read("list"),
             plans: read("plans"),
             cost: amount(0),
             met: amount(8),
@@ -66,6 +70,16 @@ impl Input {
     }
 }
 
+/// A plan with end and the closings after it, where there is room for them and it runs.
+fn completed(file: &[u8], plan: &[u8]) -> Vec<u8> {
+    let task = decode(file).expect("a task");
+    let runs = !matches!(verdict(&task, plan), Verdict::Stopped(_));
+    match runs && plan.len() + 1 + task.preferences.len() <= MAX_STEPS {
+        true => complete(&task, plan).iter().map(|&n| n as u8).collect(),
+        false => plan.to_vec(),
+    }
+}
+
 fn of_file(name: &str, file: Vec<u8>, plan: Vec<u8>) -> Input {
     let (cost, met) = match walk(&file, &plan).map(|walked| walked.verdict) {
         Ok(Verdict::Solved { cost, met }) => (cost, met),
@@ -74,6 +88,7 @@ fn of_file(name: &str, file: Vec<u8>, plan: Vec<u8>) -> Input {
     Input {
         name: name.to_string(),
         text: text::write(&plan, text::MAX_TEXT).expect("a text"),
+        list: completed(&file, &plan),
         plans: joined(&[(0, plan.len()); MAX_PLANS], &plan),
         file,
         plan,
@@ -116,6 +131,22 @@ pub fn belt() -> Input {
         ],
     };
     input("belt", &task, vec![0])
+}
+
+/// The belt, swept and loaded so many times.
+pub fn belt_again(steps: usize) -> Input {
+    let plan = (0..steps).map(|i| (i % 2) as u8).collect();
+    of_file(&format!("belt, {steps} steps"), belt().file, plan)
+}
+
+/// The same task with a plan of so many steps by all its actions in turn.
+pub fn in_turn(source: Input, steps: usize) -> Input {
+    let actions = source.file[2];
+    let plan = (0..steps)
+        .map(|i| (i % usize::from(actions)) as u8)
+        .collect();
+    let name = format!("{}, {steps} steps", source.name);
+    of_file(&name, source.file, plan)
 }
 
 /// A random task with every kind of preference, and a plan of 200 steps that solves it.

@@ -86,6 +86,16 @@ fn lines() -> Vec<(Operation, Vec<Input>)> {
             ],
         ),
         (
+            Lost,
+            vec![
+                belt(),
+                middle(),
+                inputs::belt_again(2_048),
+                inputs::in_turn(inputs::in_trackers(12_000, 40), 2_048),
+                inputs::in_turn(inputs::in_trackers(12_000, 2), 2_048),
+            ],
+        ),
+        (
             Translate,
             vec![
                 belt(),
@@ -201,6 +211,14 @@ fn series() -> Vec<Series> {
             Week,
             "steps of each of 64 plans, 12,000 rows",
             grown(by_steps, &[2, 4, 8, 16, 32]),
+        ),
+        (
+            Lost,
+            "steps, 12,000 rows in the translation",
+            grown(
+                |steps| inputs::in_turn(inputs::in_trackers(12_000, 2), steps),
+                &steps,
+            ),
         ),
         (
             Pddl,

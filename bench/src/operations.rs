@@ -10,6 +10,7 @@ pub enum Operation {
     Walk,
     Settle,
     Week,
+    Lost,
     Translate,
     Spell,
     Single,
@@ -22,12 +23,13 @@ pub enum Operation {
 
 use Operation::*;
 
-pub const ALL: [Operation; 12] = [
+pub const ALL: [Operation; 13] = [
     Check,
     WalkAndSettle,
     Walk,
     Settle,
     Week,
+    Lost,
     Translate,
     Spell,
     Single,
@@ -46,6 +48,7 @@ impl Operation {
             Walk => "walk",
             Settle => "settle",
             Week => "week",
+            Lost => "lost",
             Translate => "translate",
             Spell => "spell",
             Single => "single",
@@ -78,6 +81,7 @@ impl Operation {
             Walk => one(contenders::walk(who, input)),
             Settle => one(contenders::settle(who, &input.file, input.cost, input.met)),
             Week => contenders::week(who, input),
+            Lost => one(contenders::lost(who, input)),
             Translate => one(contenders::translate(who, input, areas)),
             Spell => one(contenders::spell(who, input, areas)),
             Single => one(contenders::single(who, input, areas)),
@@ -100,6 +104,7 @@ impl Operation {
             },
             ReadPlan | WritePlan => (input.plan.len() as u64, "steps"),
             Week => (input.planned_steps(), "steps"),
+            Lost => (input.list.len() as u64, "steps"),
             WalkAndSettle | Walk | WalkText | Report => {
                 (Walk.call(0, input, areas)[0].1[5], "literals")
             }

@@ -1,6 +1,6 @@
 /* Checks the belt's task, translates it, writes the translation as PDDL and with single literals in its effects, spells the task,
- * walks a plan on it, as bytes and as text, settles what it is worth, puts a week of plans into figures, and prints the answers:
- * belt TASK PLAN. */
+ * walks a plan on it, as bytes and as text, settles what it is worth, puts a week of plans into figures, says what beginnings of
+ * translated runs have lost, and prints the answers: belt TASK PLAN. */
 #include "route_rules.h"
 
 #include <inttypes.h>
@@ -179,6 +179,19 @@ static void week(const uint8_t *file, size_t length, const uint8_t *plans, size_
     printf("\n");
 }
 
+/* Cost and lost weights together: no solution that begins so costs less. */
+static void lost(const uint8_t *file, size_t length, const char *steps, size_t count)
+{
+    route_rules_losses answer;
+    uint32_t number = route_rules_lost(file, length, (const uint8_t *)steps, count, &answer);
+    if (number != 0)
+        refused("lost", number, answer.place);
+    else if (answer.verdict == ROUTE_RULES_STOPPED)
+        printf("lost: stopped %" PRIu64 "\n", answer.step);
+    else
+        printf("lost: cost %" PRIu64 " lost %" PRIu64 "\n", answer.cost, answer.lost);
+}
+
 int main(int count, char **words)
 {
     /* Two plans that overlap, 0 1 0 and its last step, and one without steps, which misses the goal: starts, lengths, steps. */
@@ -213,5 +226,11 @@ int main(int count, char **words)
     week(file, length, plans, sizeof plans);
     week(file, length, (const uint8_t *)"\1\0\0\0\0\0", 6); /* the goal is missed */
     week(file, length, plans, sizeof plans - 1);            /* a step is missing */
+
+    lost(file, length, "", 0);
+    lost(file, length, "\0", 1);       /* the opening state, which has amber on the belt, is left */
+    lost(file, length, "\0\2\4\5", 4); /* the solution: end, forgo 0, collect 1 */
+    lost(file, length, "\0\2\3", 3);   /* rule 0 is missed, and can't be collected */
+    lost(file, length, "\0\7", 2);     /* no translated action 7 */
     return 0;
 }

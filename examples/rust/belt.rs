@@ -1,11 +1,13 @@
 //! Checks the belt's task, translates it, writes the translation as PDDL and with single literals in its effects, spells the task,
-//! walks a plan on it, as bytes and as text, settles what it is worth, puts a week of plans into figures, and prints the answers:
-//! `belt TASK PLAN`.
+//! walks a plan on it, as bytes and as text, settles what it is worth, puts a week of plans into figures, says what beginnings of
+//! translated runs have lost, and prints the answers: `belt TASK PLAN`.
 
 #[path = "../../include/route_rules.rs"]
 mod route_rules;
 
-use route_rules::{Refusal, Verdict, Walked, MAX_COST, MAX_FILE, MAX_PDDL, MAX_REPORT, MAX_TEXT};
+use route_rules::{
+    Lost, Refusal, Verdict, Walked, MAX_COST, MAX_FILE, MAX_PDDL, MAX_REPORT, MAX_TEXT,
+};
 use std::fs;
 
 fn refused(refusal: Refusal) -> String {
@@ -135,6 +137,16 @@ fn week(file: &[u8], plans: &[u8]) {
     println!("week: {line}");
 }
 
+/// Cost and lost weights together: no solution that begins so costs less.
+fn lost(file: &[u8], steps: &[u8]) {
+    let line = match route_rules::lost(file, steps) {
+        Ok(Lost::Run { cost, lost }) => format!("cost {cost} lost {lost}"),
+        Ok(Lost::Stopped(step)) => format!("stopped {step}"),
+        Err(refusal) => refused(refusal),
+    };
+    println!("lost: {line}");
+}
+
 fn main() {
     let mut names = std::env::args().skip(1);
     let mut read = || fs::read(names.next().expect("a file's name")).expect("a file");
@@ -166,4 +178,10 @@ fn main() {
     week(&file, &plans);
     week(&file, &[1, 0, 0, 0, 0, 0]); // the goal is missed
     week(&file, &plans[..plans.len() - 1]); // a step is missing
+
+    lost(&file, &[]);
+    lost(&file, &[0]); // the opening state, which has amber on the belt, is left
+    lost(&file, &[0, 2, 4, 5]); // the solution: end, forgo 0, collect 1
+    lost(&file, &[0, 2, 3]); // rule 0 is missed, and can't be collected
+    lost(&file, &[0, 7]); // no translated action 7
 }

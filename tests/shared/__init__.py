@@ -9,6 +9,7 @@ singling   a task with single literals in its effects, by the products of its cl
 chance     random choices that are the same in every version of Python
 stored     vectors as they stand in a crate: written, read, held to what they should be
 weeks      a week of plans: its file, what is refused of it, its figures over what judge has to write
+translated the translated task, row by row, and runs of lists on it
 engine     the outside engine, gringo and clasp, over rules that stand beside the scripts
 planning   the same engine as a planner, on task files and on PDDL
 pddl       a parser of PDDL

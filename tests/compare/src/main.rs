@@ -5,6 +5,7 @@
 //! byte outside it was written, or an answer never came up.
 
 mod library;
+mod losing;
 mod pddl;
 mod settling;
 mod singling;
@@ -39,6 +40,10 @@ fn main() {
         .and_then(|()| weekly::edges())
         .and_then(|()| weekly::vectors())
         .and_then(|()| weekly::compare(first, count / 10))
+        .and_then(|()| losing::edges())
+        .and_then(|()| losing::vectors())
+        .and_then(|()| losing::compare(first, count / 10))
+        .and_then(|()| losing::continuations(first, count / 10))
         .and_then(|()| texts::compare(first, count))
         .and_then(|()| pddl::edges())
         .and_then(|()| pddl::compare(first, count / 10));

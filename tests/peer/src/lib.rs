@@ -1,10 +1,12 @@
 //! Task files with soft and hard rules: check a file, give it its one spelling, walk a
 //! plan on it, settle what that is worth, put a week of plans into figures, translate it
-//! into a classical task, give its effects single literals, write that as PDDL. Written
-//! plainly from the specification, to compare another implementation with.
+//! into a classical task, give its effects single literals, say what a beginning of that
+//! task's runs has lost, write it as PDDL. Written plainly from the specification, to
+//! compare another implementation with.
 
 pub mod decode;
 pub mod encode;
+pub mod lost;
 pub mod meaning;
 pub mod pddl;
 pub mod random;
@@ -20,6 +22,7 @@ pub mod week;
 
 pub use decode::{check, decode, Sizes};
 pub use encode::encode;
+pub use lost::{lost, lost_text, Lost};
 pub use meaning::run;
 pub use report::{refused_text, report};
 pub use settle::{settle, worth, Worth};

@@ -3,9 +3,8 @@
 use peer::random::{arguments, case, MAX_FILE};
 use peer::settle::is_met;
 use peer::{
-    check, decode, pddl, refused_text, report, settle, single, spell, translate, walk, week_text,
-    Refusal,
-    Verdict,
+    check, decode, lost_text, pddl, refused_text, report, settle, single, spell, translate, walk,
+    week_text, Refusal, Verdict,
 };
 use std::collections::BTreeMap;
 use std::fs;
@@ -14,6 +13,7 @@ const USAGE: &str = "usage:
   peer check FILE
   peer judge TASK PLAN
   peer week TASK PLANS
+  peer lost TASK STEPS
   peer translate TASK OUT
   peer spell TASK OUT
   peer single TASK OUT
@@ -40,6 +40,7 @@ fn answer(words: &[&str]) -> Option<String> {
     match words {
         ["check", file] => Some(check_file(file)),
         ["judge", task, plan] => Some(two_files(report, task, plan)),
+        ["lost", task, steps] => Some(two_files(lost_text, task, steps)),
         ["week", task, plans] => Some(two_files(week_text, task, plans)),
         ["translate", task, out] => Some(write_file(translate, task, out)),
         ["spell", task, out] => Some(write_file(spell, task, out)),

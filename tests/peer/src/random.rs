@@ -3,11 +3,12 @@
 
 use crate::decode::decode;
 use crate::encode::{encode, rows, to_bytes, Row};
-use crate::meaning::{after, condition_true, opening, State};
+use crate::meaning::{after, condition_true, opening, states, State};
 use crate::single::{allowed, singled};
 use crate::spelling::{lists, List};
 use crate::task::*;
-use crate::translate::{deadline_facts, translate, translated};
+use crate::translate::{complete, deadline_facts, translate, translated};
+use crate::walk::admit;
 use crate::week::{joined, MAX_PLANS};
 
 /// The length of the longest accepted file.
@@ -153,6 +154,53 @@ fn damaged_plans(r: &mut Random, mut entries: Vec<(usize, usize)>, mut steps: Ve
         }
     }
     joined(&entries, &steps)
+}
+
+/// A list of translated actions for the task of a case: a beginning of its plan or of
+/// another one, often with *end* and closings after it, in their order or not; often
+/// changed in a place, and now and then with an unknown number.
+pub fn beginning(seed: u64, case: &Case) -> Vec<u8> {
+    let r = &mut Random::new(seed ^ 0x1057);
+    let Ok(task) = decode(&case.file) else {
+        return case.plan.clone();
+    };
+    let (actions, closings) = (task.actions.len(), 2 * task.preferences.len());
+    let mut list = match r.chance(50) {
+        true => case.plan.clone(),
+        false => {
+            let length = r.between(0, 8);
+            plan(r, &task, length).0
+        }
+    };
+    if r.chance(20) {
+        list.truncate(r.between(0, list.len()));
+    }
+    if r.chance(40) && admit(&task, &list).is_ok() && states(&task, &list).is_ok() {
+        let whole: Vec<u8> = complete(&task, &list).iter().map(|&n| n as u8).collect();
+        let length = r.between(list.len(), whole.len());
+        list = match r.chance(25) {
+            true => whole,
+            false => whole[..length].to_vec(),
+        };
+    }
+    for _ in 0..r.pick(&[0, 0, 0, 0, 0, 0, 1, 2]) {
+        let any = r.between(0, actions + closings);
+        let step = r.pick(&[any, actions, actions + 1]).min(actions + closings) as u8;
+        let at = r.between(0, list.len());
+        match r.chance(50) && at < list.len() {
+            true => list[at] = step,
+            false => list.insert(at, step),
+        }
+    }
+    if r.chance(3) {
+        let at = r.between(0, list.len());
+        let any = r.between(0, 255);
+        list.insert(
+            at,
+            r.pick(&[actions + closings + 1, any, 255]).min(255) as u8,
+        );
+    }
+    list
 }
 
 /// A small source of random numbers (splitmix64).
