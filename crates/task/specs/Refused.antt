@@ -60,3 +60,15 @@ SHORT-AREA = 14
 -- a cost or a met preference that no plan can have
 abbrev pub ARGUMENT : ℕ
 ARGUMENT = 15
+
+-- a limit of 0, over 1,024 or over the lent list
+abbrev pub LIMIT : ℕ
+LIMIT = 16
+
+-- an effect of more than 64 choices
+abbrev pub CHOICES : ℕ
+CHOICES = 17
+
+-- a file that is no plans
+abbrev pub PLANS : ℕ
+PLANS = 18

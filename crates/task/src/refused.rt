@@ -44,3 +44,12 @@ pub const SHORT_AREA: u8 = 14;
 
 // A cost or a met preference that no plan can have.
 pub const ARGUMENT: u8 = 15;
+
+// A limit of 0, over 1,024 or over the lent list.
+pub const LIMIT: u8 = 16;
+
+// An effect of more than 64 choices.
+pub const CHOICES: u8 = 17;
+
+// A file that is no plans.
+pub const PLANS: u8 = 18;
