@@ -1,0 +1,1 @@
+// What search answers on a task file: a definition and its laws, no code.
