@@ -7,14 +7,14 @@ use Rattle.lists.specs.Lists.{singleton}
 use Rattle.meaning.specs.Task.{Task, Action, Condition}
 use Rattle.searching.specs.Search.{Node, Outcome, found, no-plan, full, explore, planTo, Answer}
 
-abbrev has : ℕ → Condition
+abbrev pub has : ℕ → Condition
 has n = singleton (singleton (record { holds = true; fact = n }))
 
 -- where fact m holds, it's left for fact n
-abbrev move : ℕ → ℕ → ℕ → Action
+abbrev pub move : ℕ → ℕ → ℕ → Action
 move c m n = record { cost = c; precondition = has m; effects = singleton (record { condition = []; adds = singleton n; deletes = singleton m }) }
 
-abbrev roads : List Action → Task
+abbrev pub roads : List Action → Task
 roads ways = record { facts = 4; start = singleton 0; goal = has 3; actions = ways; preferences = [] }
 
 -- costs, origins and actions of the nodes, with the outcome
@@ -31,7 +31,7 @@ seen a =
     }
 
 -- from 0 to 3 directly for 9, by 1 for 8, by 2 and 1 for 7: the entries of 1 and 3 are lowered and keep their places
-abbrev detour : Task
+abbrev pub detour : Task
 detour = roads (move 9 0 3 ∷ move 4 0 1 ∷ move 1 0 2 ∷ move 2 2 1 ∷ move 4 1 3 ∷ [])
 
 detour-found : seen (explore detour 4) ≡ record {

@@ -1,5 +1,6 @@
 -- Small tasks, searched
 pub mod Examples
+pub mod Refuted
 -- What one step does
 pub mod States
 pub mod Choice
