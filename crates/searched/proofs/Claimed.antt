@@ -4,10 +4,10 @@ use mathlib.Core.Bool.{Bool, true, false, cond, true≢false}
 use mathlib.Core.List.{List, [], _∷_}
 use Prim.Native.Nat.{ℕ, _≤_}
 use native.Mathlib.Omega.{arith}
-use lib.Dec.{T, eqb, leb, leb→le, eqb→eq}
+use lib.Dec.{T, eqb, leb→le, eqb→eq}
 use lib.ListN.{length}
 use Rattle.lists.proofs.Tests.{tests, as-T}
-use Rattle.meaning.specs.Task.{Task, Preference}
+use Rattle.meaning.specs.Task.{Preference}
 use Rattle.meaning.specs.Meaning.{cost}
 use Rattle.task.specs.File.{Sizes, taskOf}
 use Rattle.task.specs.Check
@@ -15,11 +15,11 @@ use Rattle.task.specs.Check.{check}
 use Rattle.task.specs.Refused.{PREFERENCES, LIMIT}
 use Rattle.task.proofs.Spelled.{accepted-spelling}
 use Rattle.searching.specs.Search
-use Rattle.searching.specs.Search.{Node, nodeAt, explore, planTo}
+use Rattle.searching.specs.Search.{Node, explore, planTo}
 use Rattle.searching.specs.Claim
 use Rattle.searching.specs.Claim.{Cheapest}
 use Rattle.searching.proofs.Claim.{claimed}
-use Rattle.searched.specs.Searched.{MAX-NODES, Answer, found, no-plan, full, refused, Searched, answerBy, searched, refusal, limitAllowed, searchBy, searchFile}
+use Rattle.searched.specs.Searched.{MAX-NODES, Answer, found, no-plan, full, refused, answerBy, searched, refusal, limitAllowed, searchBy, searchFile}
 use Rattle.searched.specs.Claim.{Claim}
 
 pub no-preferences : (ps : List Preference) → length ps ≡ 0 → ps ≡ []

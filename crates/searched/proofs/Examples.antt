@@ -1,22 +1,14 @@
 -- Search on small files, computed.
 use mathlib.Core.Path.{_≡_, refl}
-use mathlib.Core.Bool.{true}
 use mathlib.Core.List.{List, [], _∷_, map}
 use Prim.Native.Nat.{ℕ}
 use Rattle.lists.specs.Lists.{singleton}
-use Rattle.meaning.specs.Task.{Task, Action, Condition}
 use Rattle.task.specs.File.{fileOf}
 use Rattle.task.specs.Check.{check, checkRows}
 use Rattle.task.proofs.Belt.{belt}
 use Rattle.searching.specs.Search.{Node, explore}
+use Rattle.searching.proofs.Examples.{has, move}
 use Rattle.searched.specs.Searched.{found, no-plan, full, refused, searchFile}
-
-abbrev has : ℕ → Condition
-has n = singleton (singleton (record { holds = true; fact = n }))
-
--- where fact m holds, it's left for fact n
-abbrev move : ℕ → ℕ → ℕ → Action
-move c m n = record { cost = c; precondition = has m; effects = singleton (record { condition = []; adds = singleton n; deletes = singleton m }) }
 
 -- from fact 0 to a goal, directly for 5, or by fact 1 for 4
 abbrev file : ℕ → List ℕ
