@@ -1,20 +1,19 @@
 -- What translate delivers, searched: by faithfulness and the search's claim.
 use mathlib.Core.Path.{_≡_, refl, sym, _∙_, ap}
-use mathlib.Core.List.{List, [], _∷_}
+use mathlib.Core.List.{List}
 use Prim.Native.Nat.{ℕ, _≤_}
 use native.Mathlib.Omega.{arith}
 use lib.Dec.{T}
-use lib.ListN.{length, take}
-use Rattle.meaning.specs.Task.{Task, Preference}
+use lib.ListN.{take}
+use Rattle.meaning.specs.Task.{Task}
 use Rattle.meaning.specs.Meaning.{solves, metric}
-use Rattle.task.specs.File.{Sizes, sizes, taskOf}
-use Rattle.task.proofs.Spelled.{accepted-spelling}
-use Rattle.classical.specs.Translation.{further, translatedSizes, compiledRows}
+use Rattle.task.specs.File.{taskOf}
 use Rattle.classical.specs.Claim.{sourcePart, Faithful}
 use Rattle.translation.specs.Translated.{Delivered}
-use Rattle.searching.specs.Search.{explore, planTo}
-use Rattle.searching.specs.Claim.{Cheapest, Claim}
-use Rattle.searching.proofs.Claim.{claimed}
+use Rattle.searching.specs.Claim.{Cheapest}
+use Rattle.searched.specs.Searched.{searchFile}
+use Rattle.searched.specs.Claim.{Claim}
+use Rattle.searched.proofs.Claimed.{search-claim}
 use Rattle.optimal.specs.Optimal.{LeastMetric, Optimal}
 
 -- a cheapest plan of a faithful task has a source part of least metric
@@ -28,30 +27,12 @@ least-source s c f x w =
     go : (q : List ℕ) → (y : List ℕ) × T (solves c y) × (sourcePart s y ≡ q) → metric s (sourcePart s x) ≤ metric s q
     go q (y, h, e) = omega (arith, f .costPreserved x (w .solution), f .costPreserved y h, ap (metric s) e, w .least y h)
 
-no-preferences : (ps : List Preference) → length ps ≡ 0 → ps ≡ []
-no-preferences [] e = refl
-no-preferences (p ∷ ps) e = absurd (omega arith)
-
-module _ (b area : List ℕ) (n : ℕ) (d : Delivered b area n) (limit : ℕ) (h : 1 ≤ limit) where
-  abbrev c : List ℕ
-  c = take n area
-
-  abbrev found-plan : ℕ → List ℕ
-  found-plan i = planTo (explore (taskOf c) limit .nodes) i
-
-  claim : Claim (taskOf c) limit
-  claim =
-      let s = accepted-spelling c (translatedSizes (sizes b) (further (taskOf b .preferences)) (compiledRows b)) (d .accepting) in
-      claimed (taskOf c) (s .formed) (no-preferences (taskOf c .preferences) (ap (λ (z : Sizes). z .preferences) (s .sized))) limit h
-
-  -- a search of the bytes that translate wrote finds the best plan of the source
-  pub optimal : Optimal b c limit
-  optimal =
-      record {
-        plan = λ i e. least-source (taskOf b) (taskOf c) (d .faithfully) (found-plan i) (claim .plan i e);
-        priced = λ i e. sym (d .faithfully .costPreserved (found-plan i) (claim .plan i e .solution)) ∙ claim .priced i e;
-        none = λ room. (
-          λ e. d .faithfully .none .0 (claim .none room .0 e),
-          λ u. claim .none room .1 (d .faithfully .none .1 u),
-        );
-      }
+-- a search of the bytes that translate wrote finds the best plan of the source
+pub optimal : (b area : List ℕ) (n : ℕ) → Delivered b area n → (limit room : ℕ) → Optimal b (searchFile (take n area) limit room .answer)
+optimal b area n d limit room =
+    let C : Claim (take n area) limit (searchFile (take n area) limit room .answer) = search-claim (take n area) limit room in
+    record {
+      plan = λ p c e. least-source (taskOf b) (taskOf (take n area)) (d .faithfully) p (C .plan p c e);
+      priced = λ p c e. sym (d .faithfully .costPreserved p (C .plan p c e .solution)) ∙ C .priced p c e;
+      none = λ t f. (λ e. d .faithfully .none .0 (C .none t f .0 e), λ u. C .none t f .1 (d .faithfully .none .1 u));
+    }
