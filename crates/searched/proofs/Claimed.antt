@@ -1,30 +1,21 @@
--- The claim holds for every file, limit and list.
+-- The claim holds for every file, limit and room.
 use mathlib.Core.Path.{_≡_, refl, sym, _∙_, ap, subst}
-use mathlib.Core.Bool.{Bool, true, false, cond, true≢false}
-use mathlib.Core.List.{List, [], _∷_}
+use mathlib.Core.Bool.{true≢false}
+use mathlib.Core.List.{List}
 use Prim.Native.Nat.{ℕ, _≤_}
 use native.Mathlib.Omega.{arith}
-use lib.Dec.{T, eqb, leb→le, eqb→eq}
 use lib.ListN.{length}
-use Rattle.lists.proofs.Tests.{tests, as-T}
-use Rattle.meaning.specs.Task.{Preference}
 use Rattle.meaning.specs.Meaning.{cost}
-use Rattle.task.specs.File.{Sizes, taskOf}
+use Rattle.task.specs.File.{taskOf}
 use Rattle.task.specs.Check
-use Rattle.task.specs.Check.{check}
-use Rattle.task.specs.Refused.{PREFERENCES, LIMIT}
-use Rattle.task.proofs.Spelled.{accepted-spelling}
 use Rattle.searching.specs.Search
 use Rattle.searching.specs.Search.{Node, explore, planTo}
 use Rattle.searching.specs.Claim
 use Rattle.searching.specs.Claim.{Cheapest}
 use Rattle.searching.proofs.Claim.{claimed}
-use Rattle.searched.specs.Searched.{MAX-NODES, Answer, found, no-plan, full, refused, answerBy, searched, refusal, limitAllowed, searchBy, searchFile}
+use Rattle.searched.specs.Searched.{MAX-NODES, found, no-plan, full, refused, Searched, answerBy, searchFile}
 use Rattle.searched.specs.Claim.{Claim}
-
-pub no-preferences : (ps : List Preference) → length ps ≡ 0 → ps ≡ []
-no-preferences [] e = refl
-no-preferences (p ∷ ps) e = absurd (omega arith)
+use Rattle.searched.proofs.Made.{by-made}
 
 module _ (b : List ℕ) (limit : ℕ) where
   of-refusal : (n i : ℕ) → Claim b limit (refused n i)
@@ -68,27 +59,7 @@ module _ (b : List ℕ) (limit : ℕ) where
           crowded = λ t. (λ e. C .crowded .0 at, λ h. refl);
         }
 
-  -- the task in an accepted file that has no preferences
-  made : (z : Sizes) → check b ≡ Check.accepted z → T (eqb (z .preferences) 0) → (room : ℕ) → T (limitAllowed limit room)
-      → Claim b limit (searched (explore (taskOf b) limit) .answer)
-  made z e none room allowed =
-      let s = accepted-spelling b z e in
-      let few : limit ≤ MAX-NODES = leb→le limit MAX-NODES (search tests) in
-      let some : 1 ≤ limit = leb→le 1 limit (search tests) in
-      let nothing : length (taskOf b .preferences) ≡ 0 = ap (λ (y : Sizes). y .preferences) (s .sized) ∙ eqb→eq (z .preferences) 0 none in
-      of-outcome few (claimed (taskOf b) (s .formed) (no-preferences (taskOf b .preferences) nothing) limit some)
-      (explore (taskOf b) limit .outcome) refl
-
-  by-tests : (z : Sizes) → check b ≡ Check.accepted z → (room : ℕ) (p l : Bool) → eqb (z .preferences) 0 ≡ p → limitAllowed limit room ≡ l
-      → Claim b limit (cond p (cond l (searched (explore (taskOf b) limit)) (refusal LIMIT 0)) (refusal PREFERENCES 0) .answer)
-  by-tests z e room true true p l = made z e (as-T p) room (as-T l)
-  by-tests z e room true false p l = of-refusal LIMIT 0
-  by-tests z e room false l′ p l = of-refusal PREFERENCES 0
-
-  by-check : (room : ℕ) (a : Check.Answer) → check b ≡ a → Claim b limit (searchBy b limit room a .answer)
-  by-check room (Check.refused n i) e = of-refusal n i
-  by-check room (Check.accepted z) e = by-tests z e room (eqb (z .preferences) 0) (limitAllowed limit room) refl refl
-
 pub search-claim : (b : List ℕ) (limit room : ℕ) → Claim b limit (searchFile b limit room .answer)
-unfolding searchFile
-search-claim b limit room = by-check b limit room (check b) refl
+search-claim b limit room =
+    by-made b limit room (λ (x : Searched). Claim b limit (x .answer)) (of-refusal b limit)
+    (λ m. of-outcome b limit (m .few) (claimed (taskOf b) (m .formed) (m .plain) limit (m .some)) (explore (taskOf b) limit .outcome) refl)

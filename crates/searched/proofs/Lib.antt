@@ -1,2 +1,4 @@
+pub mod Made
 pub mod Claimed
+pub mod Small
 pub mod Examples
