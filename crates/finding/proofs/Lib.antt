@@ -1,0 +1,3 @@
+pub mod Begun
+pub mod Ended
+pub mod Answered

@@ -1,0 +1,153 @@
+-- The answer is that of `searchFile`: a refusal or the search on the two parts of the file, by `Answered`.
+use borrow.Author.Needs.{needs}
+use mathlib.Core.Path.{_≡_, refl, sym, ap, _∙_}
+use mathlib.Core.Bool.{true}
+use mathlib.Core.List.{List}
+use Prim.Native.Nat.{ℕ, _+_, _*_, _≤_}
+use denote.Ref.{now}
+use lib.Dec.{leb→le}
+use lib.ListN.{length}
+use borrow.Author.Tests.{not-true, not-false}
+use Rattle.lists.proofs.Tests.{tests, as-T}
+use Rattle.task.specs.File.{taskOf}
+use Rattle.task.specs.Check
+use Rattle.task.specs.Check.{check}
+use Rattle.task.specs.declared.Sizes.{Sizes}
+use Rattle.task.specs.Answers.{answer as checked, asSizes}
+use Rattle.task.proofs.Answered.{lengths}
+use Rattle.layout.specs.Rows.{Spells}
+use Rattle.layout.proofs.Parts.{marksOf, valuesOf, parts-rows, parts-spelled}
+use Rattle.searching.specs.Search.{explore}
+use Rattle.searched.specs.Searched.{limitAllowed, searchFile}
+use Rattle.finding.specs.declared.Sought.the-variants.{Refused}
+use Rattle.finding.specs.Finding.{Ending}
+use Rattle.finding.proofs.Answered.{refused-answers, made-answers, turned-down, accepted, preferred, limited, made, plain, few-actions}
+use Rattle.finding.proofs.find.Statement.{statement}
+use Rattle.finding.proofs.find.Tie as tie
+
+-- the file's length by its rows, of which there are few
+parts : (c : tie.After-known-told) → let f = now (c .before .before .before .before .before .before .before .args .file) in
+    (length f ≡ 8 + 5 * c .before .c .given .0 .0 .rows) × (c .before .c .given .0 .0 .rows ≤ 12000)
+parts c =
+    let k = c .before .before .before in
+    lengths (now (k .before .before .before .before .args .file)) (asSizes (c .before .c .given .0 .0)) (sym (k .check .ensures) ∙ ap checked (c .before .c .given .1))
+
+returns : tie.Need-returns
+returns c =
+    let k = c .before .before .before in
+    let a = k .before .before .before .before .args in
+    refused-answers (searchFile (now (a .file)) (a .limit) (a .room)) (c .refusal-of .result) (Refused (c .refusal-of .result)) refl
+    (turned-down (now (a .file)) (a .limit) (a .room) (k .check .result) (k .check .ensures) (c .before .enum-told .given .0 .0) (c .before .enum-told .given .1)
+    (c .refusal-of .result) (c .refusal-of .ensures)) (now (a .plan)) (now (a .words))
+
+returns-2 : tie.Need-returns-2
+returns-2 c =
+    let n = c .before .before .before in
+    let k = n .before .before .before in
+    let a = k .before .before .before .before .args in
+    refused-answers (searchFile (now (a .file)) (a .limit) (a .room)) (record { number = 13; place = 0 }) (c .refuse .result) (c .refuse .ensures)
+    (preferred (now (a .file)) (a .limit) (a .room) (k .check .result) (k .check .ensures) (n .before .c .given .0 .0) (n .before .c .given .1) (c .before .if1 .taken))
+    (now (a .plan)) (now (a .words))
+
+returns-3 : tie.Need-returns-3
+returns-3 c =
+    let n = c .before .before .before .before in
+    let k = n .before .before .before in
+    let a = k .before .before .before .before .args in
+    refused-answers (searchFile (now (a .file)) (a .limit) (a .room)) (record { number = 16; place = 0 }) (c .refuse2 .result) (c .refuse2 .ensures)
+    (limited (now (a .file)) (a .limit) (a .room) (k .check .result) (k .check .ensures) (n .before .c .given .0 .0) (n .before .c .given .1)
+    (c .before .before .if1 .left) (not-true (limitAllowed (a .limit) (a .room)) (c .before .if2 .taken)))
+    (now (a .plan)) (now (a .words))
+
+add-middle : tie.Need-add-middle
+add-middle c = let h = parts (c .before .before .before .before) in search needs
+
+part-on-rows-end : tie.Need-part-on-rows-end
+part-on-rows-end c = let h = parts (c .before .before .before .before) in search needs
+
+sub-on-rows-2 : tie.Need-sub-on-rows-2
+sub-on-rows-2 c = let h = parts (c .before .before .before .before .before) in search needs
+
+part-on-rows-start-2 : tie.Need-part-on-rows-start-2
+part-on-rows-start-2 c = let h = parts (c .before .before .before .before .before) in search needs
+
+-- the task in the file is searched
+module _ (d : tie.Else2) where
+  abbrev n : tie.After-known-told
+  n = d .before .before .before
+
+  abbrev z : Sizes
+  z = n .before .c .given .0 .0
+
+  abbrev k : tie.After-check
+  k = n .before .before .before
+
+  abbrev b : tie.Start
+  b = k .before .before .before .before
+
+  abbrev file : List ℕ
+  file = now (b .args .file)
+
+  is-accepted : check file ≡ Check.accepted (asSizes z)
+  is-accepted = accepted file (b .args .limit) (b .args .room) (k .check .result) (k .check .ensures) z (n .before .c .given .1)
+
+  is-allowed : limitAllowed (b .args .limit) (b .args .room) ≡ true
+  is-allowed = not-false (limitAllowed (b .args .limit) (b .args .room)) (d .if2 .left)
+
+  some : 1 ≤ b .args .limit
+  some = let t = as-T is-allowed in leb→le 1 (b .args .limit) (search tests)
+
+  few : b .args .limit ≤ 1024
+  few = let t = as-T is-allowed in leb→le (b .args .limit) 1024 (search tests)
+
+  spells : Spells (marksOf file (asSizes z)) (valuesOf file (asSizes z)) (taskOf file)
+  spells = parts-spelled file (asSizes z) is-accepted
+
+on-rows-requires : tie.Need-on-rows-requires
+on-rows-requires c κs =
+    let d = c .before .before .before .before in (
+      (
+        parts-rows (file d) (asSizes (z d)) (is-accepted d),
+        (taskOf (file d), spells d),
+        few-actions (file d) (b d .args .limit) (b d .args .room) (k d .check .result) (k d .check .ensures) (z d) (n d .before .c .given .1),
+      ),
+      (some d, few d, b d .pre .0),
+    )
+
+ending : (o : tie.After-on-rows) → let d = o .before .before .before .before .before in
+    Ending (o .on-rows .last .1 .1 .1 .0) (o .on-rows .result) (taskOf (file d)) (b d .args .limit)
+ending o =
+    let d = o .before .before .before .before .before in
+    record {
+      long = o .on-rows .kept .1 .1 .1 .0 ∙ b d .pre .0;
+      some = some d;
+      limited = few d;
+      formed = spells d .formed;
+      plain = plain (file d) (b d .args .limit) (b d .args .room) (k d .check .result) (k d .check .ensures) (z d) (n d .before .c .given .1) (d .before .if1 .left);
+      answers = o .on-rows .ensures (taskOf (file d)) (spells d);
+    }
+
+deliver-requires : tie.Need-deliver-requires
+deliver-requires c κs =
+    let o = c .before .before .before .before in
+    let d = o .before .before .before .before .before in
+    (b d .pre .1, (taskOf (file d), b d .args .limit, ending o))
+
+returns-4 : tie.Need-returns-4
+returns-4 c =
+    let e = c .before .before in
+    let o = e .before .before .before .before .before in
+    let d = o .before .before .before .before .before in
+    made-answers (searchFile (file d) (b d .args .limit) (b d .args .room)) (explore (taskOf (file d)) (b d .args .limit)) (e .deliver .result)
+    (now (b d .args .plan)) (e .deliver .last .1 .1 .0) (now (b d .args .words)) (o .on-rows .last .1 .1 .1 .0)
+    (made (file d) (b d .args .limit) (b d .args .room) (k d .check .result) (k d .check .ensures) (z d) (n d .before .c .given .1) (d .before .if1 .left) (is-allowed d))
+    (e .deliver .ensures .0) (e .deliver .ensures .1 (taskOf (file d)) (b d .args .limit) (ending o))
+
+pub find-spec : {M : Type 1} → statement M
+find-spec =
+    tie.close
+    (tie.spec
+    (λ c κs. search needs) (λ c. search needs) (λ c. search needs) (λ c κs. search needs) returns
+    (λ c κs. search needs) returns-2 (λ c κs. search needs) returns-3
+    add-middle (λ c. search needs) (λ c. search needs) part-on-rows-end sub-on-rows-2 part-on-rows-start-2 (λ c. search needs)
+    on-rows-requires deliver-requires (λ c. search needs) (λ c. search needs) returns-4)

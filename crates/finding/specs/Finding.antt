@@ -1,0 +1,52 @@
+-- What the answers of `find` stand for, and what the areas then hold.
+use mathlib.Core.Path.{_≡_}
+use mathlib.Core.List.{List, [], _++_}
+use Prim.Native.Nat.{ℕ, _≤_}
+use lib.Dec.{T}
+use lib.ListN.{length, take, drop}
+use Rattle.meaning.specs.Task.{Task, wellFormed}
+use Rattle.searching.specs.Search.{explore}
+use Rattle.searched.specs.Searched
+use Rattle.searched.specs.Searched.{Answer, Searched, found, no-plan, full, refused, refusal}
+use Rattle.node_words.specs.Words.{nodesOf}
+use Rattle.exploring.specs.Exploring.{asAnswer}
+use Rattle.exploring.specs.declared.Ended.{Ended}
+use Rattle.finding.specs.declared.Sought.{Sought}
+use Rattle.finding.specs.declared.Sought.the-variants.{Found, NoPlan, Full, Refused}
+
+-- the plan stands in an area, and the nodes in words
+abbrev pub asSearched : List ℕ → List ℕ → Sought → Searched
+asSearched plan words (Found r n) = record { answer = found (take (r .steps) plan) (r .cost); kept = nodesOf words n }
+asSearched plan words (NoPlan n) = record { answer = no-plan; kept = nodesOf words n }
+asSearched plan words (Full n) = record { answer = full; kept = nodesOf words n }
+asSearched plan words (Refused r) = refusal (r .number) (r .place)
+
+-- an area for the plan, after the search: its rest is as it was
+abbrev pub planAfter : Answer → List ℕ → List ℕ
+planAfter (found p c) area = p ++ drop (length p) area
+planAfter no-plan area = area
+planAfter full area = area
+planAfter (refused n i) area = area
+
+-- steps and nodes that have room
+abbrev pub Bounded : Sought → Type 0
+Bounded (Found r n) = (r .steps ≤ 1023) × (n ≤ 1024)
+Bounded (NoPlan n) = n ≤ 1024
+Bounded (Full n) = n ≤ 1024
+Bounded (Refused r) = Unit {0}
+
+-- a refusal leaves the words as they were
+abbrev pub Kept : Sought → List ℕ → List ℕ → Type 0
+Kept (Found r n) before after = Unit {0}
+Kept (NoPlan n) before after = Unit {0}
+Kept (Full n) before after = Unit {0}
+Kept (Refused r) before after = after ≡ before
+
+-- e is how the search of t ended, which has no preferences
+pub record Ending (words : List ℕ) (e : Ended) (t : Task) (limit : ℕ) : Type 0 where
+  pub long : length words ≡ 4096
+  pub some : 1 ≤ limit
+  pub limited : limit ≤ 1024
+  pub formed : T (wellFormed t)
+  pub plain : t .preferences ≡ []
+  pub answers : asAnswer words e ≡ explore t limit
