@@ -49,8 +49,8 @@ pub fn explore(
     tree: &mut [u16],
 ) -> Ended
     requires { ⌜ ((t : Task) × Opened (now marks) (now values) (now starts) goal limit (now words) (now table) (now tree) t) ⌝ }
-    ensures { λ r. ⌜ ((t : Task) → Opened (now (marks .entry)) (now (values .entry)) (now (starts .entry)) goal limit (now (words .entry)) (now (table .entry)) (now (tree .entry)) t
-        → asAnswer (now (words .exit)) r ≡ Search.explore t limit) ⌝ }
+    ensures { λ r. ⌜ ((t : Task) → Opened (now (marks .entry)) (now (values .entry)) (now (starts .entry)) goal limit
+        (now (words .entry)) (now (table .entry)) (now (tree .entry)) t → asAnswer (now (words .exit)) r ≡ Search.explore t limit) ⌝ }
 {
     let mut n = 1;
     let mut m = 0;

@@ -1,7 +1,7 @@
 -- A search of the task in a file, from what check answers.
 use mathlib.Core.Path.{_≡_, refl, sym, ap, _∙_, subst}
 use mathlib.Core.Bool.{true, false, true≢false}
-use mathlib.Core.List.{List, []}
+use mathlib.Core.List.{List}
 use Prim.Native.Nat.{ℕ, _≤_}
 use native.Mathlib.Omega.{arith}
 use lib.ListN.{length}
@@ -26,7 +26,6 @@ use Rattle.searching.specs.Search
 use Rattle.searching.specs.Search.{Node, explore}
 use Rattle.searched.specs.Searched
 use Rattle.searched.specs.Searched.{Searched, answerBy, searched, refusal, limitAllowed, searchBy, searchFile}
-use Rattle.searched.proofs.Claimed.{no-preferences}
 use Rattle.finding.specs.Finding.{asSearched, planAfter, Bounded, Kept}
 use Rattle.finding.specs.declared.Sought.{Sought}
 use Rattle.finding.specs.declared.Sought.the-variants.{Found, NoPlan, Full, Refused}
@@ -82,13 +81,8 @@ module _ (b : List ℕ) (limit room : ℕ) (x : Checked) (e : checked x ≡ chec
       pub limited : limitAllowed limit room ≡ false → refusal 16 0 ≡ searchFile b limit room
       limited l = (rw (eq-eqb (z .preferences) 0 none, l) at on-task)
 
-      pub made : limitAllowed limit room ≡ true → searched (explore (taskOf b) limit) ≡ searchFile b limit room
-      made l = (rw (eq-eqb (z .preferences) 0 none, l) at on-task)
-
-      pub plain : taskOf b .preferences ≡ []
-      plain =
-          no-preferences (taskOf b .preferences)
-          (ap (λ (y : File.Sizes). y .preferences) (accepted-spelling b (asSizes z) accepted .sized) ∙ none)
+      pub searches : limitAllowed limit room ≡ true → searched (explore (taskOf b) limit) ≡ searchFile b limit room
+      searches l = (rw (eq-eqb (z .preferences) 0 none, l) at on-task)
 
     pub few-actions : length (actionsFrom 0 (marksOf b (asSizes z))) ≤ 128
     few-actions =

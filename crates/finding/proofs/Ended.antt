@@ -2,18 +2,18 @@
 use mathlib.Core.Path.{_≡_, sym, _∙_, ap, subst}
 use mathlib.Core.List.{List, _++_}
 use Prim.Native.Nat.{ℕ, _+_, _-_, _≤_, _<_}
-use native.Mathlib.Decide.{ℕ-discrete}
 use native.Mathlib.Omega.{arith}
 use lib.ListN.{length, take, drop}
 use lib.Seq.{take-at}
 use Rattle.meaning.specs.Task.{Task}
 use Rattle.searching.specs.Search
-use Rattle.searching.specs.Search.{Node, nodeAt, found, no-plan, full, explore, planTo}
+use Rattle.searching.specs.Search.{Node, found, no-plan, full, explore, planTo}
 use Rattle.searching.proofs.Turns.{Found, Right}
 use Rattle.searching.proofs.Explored.{explored, when-found}
 use Rattle.node_words.specs.Words.{packedAt, nodesOf}
 use Rattle.node_words.proofs.Lists.{nodes-length, node-is}
 use Rattle.origins.specs.Origins.{Inside}
+use Rattle.searched.proofs.Small.{origins-inside}
 use Rattle.searched.specs.Searched
 use Rattle.searched.specs.Searched.{Searched, searched}
 use Rattle.exploring.specs.Exploring.{asAnswer}
@@ -53,14 +53,7 @@ module _ (words : List ℕ) (e : Ended.Ended) (t : Task) (limit : ℕ) (E : Endi
     placed = omega (arith, nodes-length words n, ap length nodes, plan-is .inside)
 
     pub inside : Inside (nodesOf words n)
-    inside = subst Inside (sym nodes) go
-      where
-        go : Inside ns
-        go p h = by (ℕ-discrete p 0)
-          where
-            by : Dec (p ≡ 0) → nodeAt ns p .origin < length ns
-            by (yes z) = subst (λ (y : Node). y .origin < length ns) (sym (ap (nodeAt ns) z ∙ right .listed .first)) (right .listed .some)
-            by (no z) = right .listed .linked p h z .0
+    inside = subst Inside (sym nodes) (origins-inside t (E .formed) (E .plain) limit (E .some))
 
     pub short : length (planTo (nodesOf words n) i) ≤ 1023
     short = omega (arith, ap (λ (l : List Node). length (planTo l i)) nodes, plan-is .short, E .limited)

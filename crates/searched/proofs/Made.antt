@@ -29,7 +29,7 @@ pub record Made (b : List ℕ) (limit room : ℕ) : Type 0 where
   pub roomy : limit ≤ room
 
 module _ (b : List ℕ) (limit room : ℕ) where
-  made : (z : Sizes) → check b ≡ Check.accepted z → T (eqb (z .preferences) 0) → T (limitAllowed limit room) → Made b limit room
+  pub made : (z : Sizes) → check b ≡ Check.accepted z → T (eqb (z .preferences) 0) → T (limitAllowed limit room) → Made b limit room
   made z e none allowed =
       let s = accepted-spelling b z e in
       let nothing : length (taskOf b .preferences) ≡ 0 = ap (λ (y : Sizes). y .preferences) (s .sized) ∙ eqb→eq (z .preferences) 0 none in

@@ -5,10 +5,9 @@ use mathlib.Core.Bool.{true}
 use mathlib.Core.List.{List}
 use Prim.Native.Nat.{ℕ, _+_, _*_, _≤_}
 use denote.Ref.{now}
-use lib.Dec.{leb→le}
 use lib.ListN.{length}
-use borrow.Author.Tests.{not-true, not-false}
-use Rattle.lists.proofs.Tests.{tests, as-T}
+use borrow.Author.Tests.{eq-eqb, not-true, not-false}
+use Rattle.lists.proofs.Tests.{as-T}
 use Rattle.task.specs.File.{taskOf}
 use Rattle.task.specs.Check
 use Rattle.task.specs.Check.{check}
@@ -19,9 +18,10 @@ use Rattle.layout.specs.Rows.{Spells}
 use Rattle.layout.proofs.Parts.{marksOf, valuesOf, parts-rows, parts-spelled}
 use Rattle.searching.specs.Search.{explore}
 use Rattle.searched.specs.Searched.{limitAllowed, searchFile}
+use Rattle.searched.proofs.Made.{Made, made}
 use Rattle.finding.specs.declared.Sought.the-variants.{Refused}
 use Rattle.finding.specs.Finding.{Ending}
-use Rattle.finding.proofs.Answered.{refused-answers, made-answers, turned-down, accepted, preferred, limited, made, plain, few-actions}
+use Rattle.finding.proofs.Answered.{refused-answers, made-answers, turned-down, accepted, preferred, limited, searches, few-actions}
 use Rattle.finding.proofs.find.Statement.{statement}
 use Rattle.finding.proofs.find.Tie as tie
 
@@ -94,11 +94,8 @@ module _ (d : tie.Else2) where
   is-allowed : limitAllowed (b .args .limit) (b .args .room) ≡ true
   is-allowed = not-false (limitAllowed (b .args .limit) (b .args .room)) (d .if2 .left)
 
-  some : 1 ≤ b .args .limit
-  some = let t = as-T is-allowed in leb→le 1 (b .args .limit) (search tests)
-
-  few : b .args .limit ≤ 1024
-  few = let t = as-T is-allowed in leb→le (b .args .limit) 1024 (search tests)
+  known : Made file (b .args .limit) (b .args .room)
+  known = made file (b .args .limit) (b .args .room) (asSizes z) is-accepted (as-T (eq-eqb (z .preferences) 0 (d .before .if1 .left))) (as-T is-allowed)
 
   spells : Spells (marksOf file (asSizes z)) (valuesOf file (asSizes z)) (taskOf file)
   spells = parts-spelled file (asSizes z) is-accepted
@@ -111,7 +108,7 @@ on-rows-requires c κs =
         (taskOf (file d), spells d),
         few-actions (file d) (b d .args .limit) (b d .args .room) (k d .check .result) (k d .check .ensures) (z d) (n d .before .c .given .1),
       ),
-      (some d, few d, b d .pre .0),
+      (known d .some, known d .few, b d .pre .0),
     )
 
 ending : (o : tie.After-on-rows) → let d = o .before .before .before .before .before in
@@ -120,10 +117,10 @@ ending o =
     let d = o .before .before .before .before .before in
     record {
       long = o .on-rows .kept .1 .1 .1 .0 ∙ b d .pre .0;
-      some = some d;
-      limited = few d;
-      formed = spells d .formed;
-      plain = plain (file d) (b d .args .limit) (b d .args .room) (k d .check .result) (k d .check .ensures) (z d) (n d .before .c .given .1) (d .before .if1 .left);
+      some = known d .some;
+      limited = known d .few;
+      formed = known d .formed;
+      plain = known d .plain;
       answers = o .on-rows .ensures (taskOf (file d)) (spells d);
     }
 
@@ -140,7 +137,7 @@ returns-4 c =
     let d = o .before .before .before .before .before in
     made-answers (searchFile (file d) (b d .args .limit) (b d .args .room)) (explore (taskOf (file d)) (b d .args .limit)) (e .deliver .result)
     (now (b d .args .plan)) (e .deliver .last .1 .1 .0) (now (b d .args .words)) (o .on-rows .last .1 .1 .1 .0)
-    (made (file d) (b d .args .limit) (b d .args .room) (k d .check .result) (k d .check .ensures) (z d) (n d .before .c .given .1) (d .before .if1 .left) (is-allowed d))
+    (searches (file d) (b d .args .limit) (b d .args .room) (k d .check .result) (k d .check .ensures) (z d) (n d .before .c .given .1) (d .before .if1 .left) (is-allowed d))
     (e .deliver .ensures .0) (e .deliver .ensures .1 (taskOf (file d)) (b d .args .limit) (ending o))
 
 pub find-spec : {M : Type 1} → statement M
