@@ -26,6 +26,6 @@ abbrev pub nodeOf : List ℕ → ℕ → Node
 nodeOf ws i = unpacked (packedAt ws i)
 
 -- f 0, f 1 and so on, n of them
-abbrev pub upTo : (ℕ → Node) → ℕ → List Node
+abbrev pub upTo : {A : Type 0} → (ℕ → A) → ℕ → List A
 upTo f zero = []
 upTo f (suc n) = upTo f n ++ f n ∷ []
