@@ -1,0 +1,4 @@
+pub mod Array
+pub mod Constants
+pub mod Handed
+pub mod Copied

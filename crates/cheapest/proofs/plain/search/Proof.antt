@@ -1,0 +1,95 @@
+use mathlib.Core.Path.{_≡_, _∙_, ap}
+use mathlib.Core.List.{List}
+use Prim.Native.Nat.{ℕ, _*_, _/_, _≤_}
+use native.Mathlib.Omega.{arith}
+use denote.Ref.{now}
+use lib.ListN.{length, getD}
+use Rattle.node_words.specs.Words.{nodesOf}
+use Rattle.searched.specs.Searched.{Searched, searchFile}
+use Rattle.searched.proofs.Claimed.{search-claim}
+use Rattle.finding.specs.Finding.{asSearched}
+use Rattle.nodes.proofs.Filling.{filled}
+use Rattle.cheapest.specs.LentWords.{nodesIn}
+use Rattle.cheapest.proofs.Handed.{kept-is, fits, few}
+use Rattle.cheapest.proofs.Copied.{answer-copied, lent-words}
+use borrow.Author.Needs.{needs}
+use Rattle.cheapest.proofs.plain.search.Statement.{statement}
+use Rattle.cheapest.proofs.plain.search.Tie as tie
+
+slice-aggregate-find : tie.Need-slice-aggregate-find
+slice-aggregate-find c = search needs
+
+find-requires : tie.Need-find-requires
+find-requires c κs = search needs
+
+nodes-in-requires : tie.Need-nodes-in-requires
+nodes-in-requires c κs = search needs
+
+slice-aggregate-copy-words : tie.Need-slice-aggregate-copy-words
+slice-aggregate-copy-words c = search needs
+
+-- what stands in the words
+module _ (c : tie.After-nodes-in) where
+  abbrev file : List ℕ
+  file = now (c .before .before .before .before .before .before .before .args .file)
+
+  abbrev limit : ℕ
+  limit = c .before .before .before .before .before .before .before .args .limit
+
+  abbrev list : List ℕ
+  list = now (c .before .before .before .before .before .before .before .args .nodes)
+
+  abbrev words : List ℕ
+  words = c .before .before .find .last .1 .1 .1 .0
+
+  abbrev plan : List ℕ
+  plan = c .before .before .find .last .1 .1 .1 .1 .0
+
+  abbrev n : ℕ
+  n = c .nodes-in .result
+
+  answers : asSearched plan words (c .before .before .find .result) ≡ searchFile file limit (length list / 4)
+  answers = c .before .before .find .ensures .0
+
+  holds : nodesOf words n ≡ searchFile file limit (length list / 4) .kept
+  holds = ap (nodesOf words) (c .nodes-in .ensures) ∙ kept-is plan words (c .before .before .find .result) ∙ ap (λ (x : Searched). x .kept) answers
+
+  small : n ≤ 1024
+  small = few file limit (length list / 4) words n holds
+
+  roomy : 4 * n ≤ length list
+  roomy = omega (arith, fits file limit (length list / 4) words n holds)
+
+mul-copy-words : tie.Need-mul-copy-words
+mul-copy-words c = record { fits = omega (arith, small (c .before)) }
+
+copy-words-requires : tie.Need-copy-words-requires
+copy-words-requires c κs =
+    let k = c .before .before in
+    (omega (arith, small k, k .before .before .find .kept .1 .1 .1 .0), roomy k)
+
+same-length : tie.Need-same-length
+same-length c = search needs
+
+returns : tie.Need-returns
+returns c =
+    let k = c .before .before .before .before .before in
+    let s = k .before .before .find .result in
+    let after = c .before .before .copy-words .last .1 .1 .0 in
+    let e : after ≡ filled (λ (i : ℕ). getD (words k) i 0) (list k) (4 * n k) = c .before .before .copy-words .ensures in
+    let e′ : after ≡ filled (λ (i : ℕ). getD (words k) i 0) (list k) (4 * nodesIn s) = e ∙ ap (λ (m : ℕ). filled (λ (i : ℕ). getD (words k) i 0) (list k) (4 * m)) (k .nodes-in .ensures) in (
+      answer-copied (plan k) (words k) (list k) after s e′ ∙ answers k,
+      (
+        lent-words (file k) (limit k) (length (list k) / 4) (words k) (list k) after (n k) (holds k) e,
+        (
+          k .before .before .find .ensures .1 .0,
+          (k .before .before .find .ensures .1 .1 .0, search-claim (file k) (limit k) (length (list k) / 4)),
+        ),
+      ),
+    )
+
+pub search-spec : {M : Type 1} → statement M
+search-spec =
+    tie.close
+    (tie.spec
+    slice-aggregate-find find-requires nodes-in-requires slice-aggregate-copy-words mul-copy-words copy-words-requires same-length returns)

@@ -1,0 +1,21 @@
+-- What a search answers, and what it keeps before it is handed over.
+use mathlib.Core.Path.{_≡_}
+use mathlib.Core.List.{List, []}
+use Prim.Native.Nat.{ℕ, _≤_}
+use lib.ListN.{length}
+use Rattle.searched.specs.Searched.{Answer, searchFile}
+use Rattle.node_words.specs.Words.{nodesOf}
+use Rattle.finding.specs.Finding.{asSearched}
+use Rattle.cheapest.specs.declared.Searched.{Searched}
+use Rattle.cheapest.specs.declared.Kept.{Kept}
+
+abbrev pub answer : Searched → Answer
+answer x = asSearched (x .steps) [] (x .sought) .answer
+
+-- the words of the nodes kept, for a list with so much room
+pub record KeptAs (b : List ℕ) (limit room : ℕ) (k : Kept) : Type 0 where
+  pub long : length (k .words) ≡ 4096
+  pub fits : k .nodes ≤ room
+  pub few : k .nodes ≤ 1024
+  pub answers : answer (k .searched) ≡ searchFile b limit room .answer
+  pub holds : nodesOf (k .words) (k .nodes) ≡ searchFile b limit room .kept

@@ -1,0 +1,2 @@
+pub mod LentWords
+pub mod Kept
