@@ -1,5 +1,5 @@
-/* check, walk, settle, week, translate, lost, spell and single in C, written from documents 01 and 02 for speed, to measure the library beside. The
- * answers are those of include/route_rules.h.
+/* check, walk, settle, week, translate, lost, spell, single and search in C, written from documents 01 and 02 for speed, to measure the
+ * library beside. The answers are those of include/route_rules.h.
  *
  * plain_ reads the rows where they lie: parts of a file are found once, a condition is left as soon as it is decided, parts of
  * the source are copied by memcpy, the members of a list are put in order as bits of words. tuned_ also makes tables before it
@@ -1088,4 +1088,137 @@ uint32_t plain_single(const uint8_t *file, size_t length, uint8_t *out, size_t r
     put_singled(&w);
     answer[1] = 8 + 5 * rows;
     return 0;
+}
+
+/* ---- search */
+
+enum { MAX_NODES = ROUTE_RULES_MAX_NODES, TABLE = 2 * MAX_NODES };
+
+/* The nodes kept so far are those of the lent list. A slot of the table has a place and 1, or 0; `heap` has the open places, the next
+ * one first, and `in_heap` where each stands. */
+typedef struct {
+    const Task *task;
+    route_rules_node *nodes;
+    uint32_t count, limit, waiting;
+    uint16_t table[TABLE], heap[MAX_NODES], in_heap[MAX_NODES];
+} Search;
+
+/* FNV-1a of the state's bytes, word 0 first, each little-endian. */
+static uint32_t hash(State s)
+{
+    uint32_t h = 2166136261u;
+    for (int w = 0; w < 2; w++)
+        for (int i = 0; i < 8; i++) h = (h ^ (s.word[w] >> 8 * i & 255)) * 16777619u;
+    return h;
+}
+
+/* Whether place a is taken before place b: the cheaper one, on ties the one found earlier. */
+static inline int sooner(const Search *q, uint16_t a, uint16_t b)
+{
+    return q->nodes[a].cost != q->nodes[b].cost ? q->nodes[a].cost < q->nodes[b].cost : a < b;
+}
+
+static inline void put_in_heap(Search *q, uint32_t at, uint16_t place)
+{
+    q->heap[at] = place;
+    q->in_heap[place] = at;
+}
+
+/* A place that stands at `at` and may have to come earlier. */
+static void rise(Search *q, uint32_t at, uint16_t place)
+{
+    for (; at > 0 && sooner(q, place, q->heap[(at - 1) / 2]); at = (at - 1) / 2) put_in_heap(q, at, q->heap[(at - 1) / 2]);
+    put_in_heap(q, at, place);
+}
+
+static uint16_t take_next(Search *q)
+{
+    uint16_t next = q->heap[0], last = q->heap[--q->waiting];
+    uint32_t at = 0;
+    for (uint32_t child; (child = 2 * at + 1) < q->waiting; at = child) {
+        if (child + 1 < q->waiting && sooner(q, q->heap[child + 1], q->heap[child])) child++;
+        if (!sooner(q, q->heap[child], last)) break;
+        put_in_heap(q, at, q->heap[child]);
+    }
+    if (q->waiting > 0) put_in_heap(q, at, last);
+    return next;
+}
+
+/* A state that is met at this cost on this way; 0 where it is new and there is no room. */
+static int meet(Search *q, State s, uint64_t cost, uint64_t way)
+{
+    uint32_t slot = hash(s) % TABLE;
+    for (; q->table[slot] != 0; slot = (slot + 1) % TABLE) {
+        route_rules_node *n = &q->nodes[q->table[slot] - 1];
+        if (n->state[0] != s.word[0] || n->state[1] != s.word[1]) continue;
+        if (cost < n->cost) {
+            n->cost = cost;
+            n->way = way;
+            rise(q, q->in_heap[q->table[slot] - 1], q->table[slot] - 1);
+        }
+        return 1;
+    }
+    if (q->count == q->limit) return 0;
+    q->nodes[q->count] = (route_rules_node){{s.word[0], s.word[1]}, cost, way};
+    q->table[slot] = q->count + 1;
+    rise(q, q->waiting++, q->count++);
+    return 1;
+}
+
+static int expand(Search *q, uint16_t place)
+{
+    const Task *t = q->task;
+    State s = {{q->nodes[place].state[0], q->nodes[place].state[1]}};
+    uint64_t cost = q->nodes[place].cost, looked = 0;
+    for (uint32_t k = 0; k < t->actions; k++) {
+        uint32_t at = t->action[k], from = at + 1;
+        if (!condition_true(t, &from, s, &looked)) continue;
+        State next = after(t, from, t->action[k + 1], s, &looked);
+        if (!meet(q, next, cost + value_at(t, at), (uint64_t)place * 256 + k)) return 0;
+    }
+    return 1;
+}
+
+/* The actions on the way to a place, read from the origins. */
+static uint64_t put_steps(const Search *q, uint16_t place, uint8_t *plan)
+{
+    uint64_t steps = 0, left;
+    for (uint64_t at = place; at != 0; at = q->nodes[at].way / 256) steps++;
+    left = steps;
+    for (uint64_t at = place; at != 0; at = q->nodes[at].way / 256) plan[--left] = q->nodes[at].way % 256;
+    return steps;
+}
+
+static uint32_t searched(const Search *q, uint64_t outcome, uint64_t answer[8])
+{
+    answer[1] = outcome;
+    answer[4] = q->count;
+    return 0;
+}
+
+uint32_t plain_search(const uint8_t *file, size_t length, uint64_t limit, uint64_t *nodes, size_t node_words, uint8_t *plan,
+                      uint64_t answer[8])
+{
+    Task t;
+    Search q = {.task = &t, .nodes = (route_rules_node *)nodes, .limit = limit};
+    memset(answer, 0, 64);
+    if (!check(&t, file, length)) {
+        answer[0] = t.place;
+        return t.number;
+    }
+    if (t.preferences != 0) return ROUTE_RULES_REFUSED_PREFERENCES;
+    if (limit == 0 || limit > MAX_NODES || limit > node_words / 4) return ROUTE_RULES_REFUSED_LIMIT;
+    meet(&q, opening(&t), 0, 0);
+    while (q.waiting > 0) {
+        uint16_t place = take_next(&q);
+        State s = {{q.nodes[place].state[0], q.nodes[place].state[1]}};
+        uint64_t looked = 0;
+        if (true_at(&t, t.goal + 1, s, &looked)) {
+            answer[2] = q.nodes[place].cost;
+            answer[3] = put_steps(&q, place, plan);
+            return searched(&q, ROUTE_RULES_FOUND, answer);
+        }
+        if (!expand(&q, place)) return searched(&q, ROUTE_RULES_FULL, answer);
+    }
+    return searched(&q, ROUTE_RULES_NONE, answer);
 }

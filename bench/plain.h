@@ -17,6 +17,9 @@ uint32_t tuned_translate(const uint8_t *file, size_t length, uint8_t *out, size_
 uint32_t plain_spell(const uint8_t *file, size_t length, uint8_t *out, size_t room, uint64_t answer[8]);
 uint32_t plain_single(const uint8_t *file, size_t length, uint8_t *out, size_t room, uint64_t answer[8]);
 
+uint32_t plain_search(const uint8_t *file, size_t length, uint64_t limit, uint64_t *nodes, size_t node_words, uint8_t *plan,
+                      uint64_t answer[8]);
+
 uint32_t plain_read_plan(const uint8_t *text, size_t length, uint8_t *out, size_t room, uint64_t answer[8]);
 uint32_t plain_write_plan(const uint8_t *plan, size_t steps, uint8_t *out, size_t room, uint64_t answer[8]);
 uint32_t plain_walk_text(const uint8_t *file, size_t length, const uint8_t *text, size_t text_length, uint64_t answer[8]);

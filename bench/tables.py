@@ -119,7 +119,7 @@ def coverage():
     total = logged('fuzz/coverage').split('TOTAL')[1].split()
     functions, lines, branches = (f'{int(total[n]) - int(total[n + 1])} of {total[n]}' for n in (3, 6, 9))
     return (f'The first inputs alone reach {functions} functions, {lines} lines and {branches} branches of the C '
-            '(clang\'s source coverage, `fuzz/coverage`), every refusal of every operation, and every verdict.')
+            '(clang\'s source coverage, `fuzz/coverage`), every refusal of every operation, every verdict, and every outcome of a search.')
 
 
 def mistakes():

@@ -305,6 +305,31 @@ static uint64_t make_met(const uint8_t three[3], int cut, const uint8_t *file, s
     return three[2] < 128 ? met | (uint64_t)1 << three[2] % 64 : met;
 }
 
+/* A limit from two bytes: few nodes, up to as many as are allowed, on both sides of that, or with a bit in any place. */
+static uint64_t make_limit(Data *d)
+{
+    uint8_t how = next(d), byte = next(d);
+    switch (how % 4) {
+    case 0: return byte % 20;
+    case 1: return 4 * (uint64_t)byte;
+    case 2: return ROUTE_RULES_MAX_NODES - 4 + byte % 8;
+    default: return 1 + ((uint64_t)byte << how / 4);
+    }
+}
+
+/* Room for all nodes of a limit, for one less or one more, with words that make no node, or any room. */
+static size_t make_node_words(Data *d, uint64_t limit)
+{
+    uint8_t byte = next(d);
+    uint64_t needed = 4 * (limit > ROUTE_RULES_MAX_NODES + 4 ? ROUTE_RULES_MAX_NODES + 4 : limit);
+    switch (byte % 4) {
+    case 0: return needed;
+    case 1: return needed > 0 ? needed - 1 : byte / 4;
+    case 2: return needed + byte / 16;
+    default: return (size_t)byte * 16;
+    }
+}
+
 size_t room_for(uint8_t byte, size_t length)
 {
     switch (byte % 4) {
@@ -320,6 +345,8 @@ void make_input(Input *in, const uint8_t *bytes, size_t size)
     uint8_t choice = next(&d), three[3], more[MORE_STEPS];
     in->at_end = choice & AT_END_OF_PAGE;
     for (int i = 0; i < ROOMS; i++) in->rooms[i] = next(&d);
+    in->limit = make_limit(&d);
+    in->node_words = make_node_words(&d, in->limit);
     in->cost = make_cost(&d);
     for (int i = 0; i < 3; i++) three[i] = next(&d);
     in->steps = make_plan(&d, in->plan, choice & ANY_STEPS);

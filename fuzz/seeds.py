@@ -21,11 +21,13 @@ FILLED, CUT, BOTH = 15, 14, 13      # a text is filled up, loses its last byte, 
 WHOLE = (3, 0, 0, 32, 0, 32, 0, 0)  # the whole plan twice, and one without steps
 
 
-def seed(data, plan=b'\0', text=b'(a0)\n', choice=0, room=EXACT, cost=(0, 3), met=(2, 0, 255), how=0, steps=None, week=WHOLE, more=()):
+def seed(data, plan=b'\0', text=b'(a0)\n', choice=0, room=EXACT, limit=(2, 4, 0), cost=(0, 3), met=(2, 0, 255), how=0, steps=None,
+         week=WHOLE, more=()):
     """An input: a file, a plan (`steps` is the byte of its length), a text, a week's plans, what follows the plan in a list of translated
     actions, and what else fuzz/inputs.c reads."""
     rooms = [room] * 8 if isinstance(room, int) else room
-    return bytes([choice, *rooms, *cost, *met, len(plan) if steps is None else steps, *plan, how, len(text), *text, *week, len(more), *more]) + data
+    return bytes([choice, *rooms, *limit, *cost, *met, len(plan) if steps is None else steps, *plan, how, len(text), *text, *week,
+                  len(more), *more]) + data
 
 
 def made(rows, facts, repeat=0):
@@ -159,6 +161,35 @@ def choices():
         yield seed(made('GOAL ACTION 1' + ' EFFECT CLAUSE HOLDS 0' * 62 + ' EFFECT' * effects, 1, repeat=63), choice=MADE_FILE)
 
 
+def searches():
+    """Ties, lowered costs, costs of 0, plans and none, limits on both sides of the nodes that it takes, and lists of every room."""
+    def edge(cost, start, end):
+        return f' ACTION {cost} CLAUSE HOLDS {start} EFFECT ADD {end} DELETE {start}'
+
+    def turn(fact, cost):
+        return f' ACTION {cost} EFFECT CLAUSE HOLDS {fact} DELETE {fact} EFFECT CLAUSE LACKS {fact} ADD {fact}'
+
+    opening = 'START 0 GOAL CLAUSE HOLDS 3'
+    ways = [[(5, 0, 3), (1, 0, 1), (1, 1, 3)], [(2, 0, 3), (1, 0, 1), (1, 1, 3)], [(0, 0, 1), (0, 1, 0), (0, 1, 3)], [(3, 0, 0)], [(3, 0, 1)],
+            [(7, 0, 3), (6, 0, 3)], [(4, 0, 1), (1, 0, 2), (1, 2, 1), (1, 1, 3), (1, 2, 3)], [(2 ** 32 - 1, 0, 1), (2 ** 32 - 1, 1, 3)],
+            [(3, 0, 1), (3, 0, 2), (1, 0, 1)]]
+    for edges in ways:
+        for limit in range(6):
+            yield seed(file(opening + ''.join(edge(*way) for way in edges)), limit=(0, limit, 0))
+    tied = 'START 0 GOAL CLAUSE HOLDS 4 HOLDS 5' + ''.join(edge(*way) for way in (
+        (9, 0, 1), (3, 0, 2), (1, 0, 3), (2, 3, 1), (1, 1, 4), (1, 2, 5)))
+    yield seed(file(tied, F=8))
+    for facts in (3, 10, 11):                                                    # 8 nodes, 1,024 nodes, and more
+        every = ''.join(f' CLAUSE HOLDS {fact}' for fact in range(facts))
+        turns = ''.join(turn(fact, fact % 3) for fact in range(facts))
+        yield seed(made('GOAL' + every + turns, facts), choice=MADE_FILE)
+        yield seed(made('GOAL CLAUSE HOLDS 0 CLAUSE LACKS 0' + turns, facts), choice=MADE_FILE)
+    words = file('GOAL CLAUSE HOLDS 127 ACTION 2 EFFECT ADD 63 ACTION 2 EFFECT ADD 64 ACTION 1 CLAUSE HOLDS 63 EFFECT ADD 127 DELETE 63', F=128)
+    for limit in ((0, 0), (0, 1), (0, 19), (1, 255), (2, 3), (2, 4), (2, 5), (2, 7), (3, 0), (3, 255), (255, 1), (251, 255)):
+        for room in (0, 1, 2, 66, 255, 3, 83):
+            yield seed(words, limit=(*limit, room))
+
+
 def weeks():
     """Counts, starts and lengths at their edges over short plans and long ones, cut files, and weeks in which some plans solve."""
     belt = file(BELT, F=2)
@@ -212,7 +243,7 @@ def chance_tasks():
 
 def main(folder):
     os.makedirs(folder, exist_ok=True)
-    for group in (examples, refusals, texts, kinds, values, spellings, choices, weeks, lists, chance_tasks):
+    for group in (examples, refusals, texts, kinds, values, spellings, choices, searches, weeks, lists, chance_tasks):
         for number, data in enumerate(group()):
             with open(os.path.join(folder, f'{group.__name__}_{number}'), 'wb') as out:
                 out.write(data)

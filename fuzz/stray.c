@@ -84,6 +84,16 @@ uint32_t route_rules_pddl(const uint8_t *file, size_t file_length, uint8_t *doma
     return number;
 }
 
+uint32_t route_rules_search(const uint8_t *file, size_t file_length, uint64_t limit, uint64_t *nodes, size_t node_words,
+                            uint8_t plan[ROUTE_RULES_MAX_FOUND], route_rules_searched *answer)
+{
+    uint32_t number = plain_search(file, file_length, limit, nodes, node_words, plan, WORDS(answer));
+    if (STRAY == 15 && number == 16 && node_words > 0) nodes[0] = 0; /* writes on a refusal */
+    if (STRAY == 16 && number == 0 && 4 * answer->nodes < node_words) nodes[4 * answer->nodes] = 0; /* writes after the nodes */
+    if (STRAY == 17 && number == 0 && answer->steps < ROUTE_RULES_MAX_FOUND) plan[answer->steps] = 0; /* writes after the plan */
+    return number;
+}
+
 uint32_t route_rules_report(const uint8_t *file, size_t file_length, const uint8_t *plan, size_t plan_length, uint8_t *out,
                             size_t out_length, route_rules_reported *answer)
 {

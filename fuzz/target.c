@@ -8,11 +8,12 @@
 #include <string.h>
 
 enum {
-    CHECK, TRANSLATE, SPELL, SINGLE, WALK, SETTLE, READ_PLAN, WRITE_PLAN, WALK_TEXT, PDDL, REPORT, WEEK, LOST, OPERATIONS, REFUSALS = 19
+    CHECK, TRANSLATE, SPELL, SINGLE, WALK, SETTLE, READ_PLAN, WRITE_PLAN, WALK_TEXT, PDDL, REPORT, WEEK, LOST, SEARCH, OPERATIONS,
+    REFUSALS = 19
 };
 
 static const char *const NAMES[OPERATIONS] = {"check", "translate", "spell", "single", "walk", "settle", "read_plan",
-                                              "write_plan", "walk_text", "pddl", "report", "week", "lost"};
+                                              "write_plan", "walk_text", "pddl", "report", "week", "lost", "search"};
 
 /* The refusals of each operation, bit n for number n. */
 #define OF_FILE 0x7eu
@@ -30,16 +31,20 @@ static const uint32_t ALLOWED[OPERATIONS] = {
     OF_FILE | 1 << 10 | 1 << 11 | 1 << 9,
     OF_FILE | 1 << 18 | 1 << 10 | 1 << 11,
     OF_FILE | 1 << 7 | 1 << 8 | 1 << 10 | 1 << 11,
+    OF_FILE | 1 << 13 | 1 << 16,
 };
 
-static Pages file_pages, plan_pages, plans_pages, list_pages, text_pages, made_pages, out_pages, other_pages, answer_pages;
+static Pages file_pages, plan_pages, plans_pages, list_pages, text_pages, made_pages, out_pages, other_pages, node_pages, found_pages,
+    answer_pages;
 
 /* Bytes that C wrote. */
 static uint8_t expected[ROUTE_RULES_MAX_PDDL], expected_problem[ROUTE_RULES_MAX_PDDL];
 
-/* How often each operation gave each number, walk each verdict, a week figures or none, and how often a list stopped or ran, with
- * nothing lost or something. */
-static uint64_t numbers[OPERATIONS][REFUSALS], verdicts[5], weeks[2], losses[3];
+static uint64_t expected_nodes[NODE_WORDS];
+
+/* How often each operation gave each number, walk each verdict, search each outcome, a week figures or none, and how often a list
+ * stopped or ran, with nothing lost or something. */
+static uint64_t numbers[OPERATIONS][REFUSALS], verdicts[5], outcomes[4], weeks[2], losses[3];
 
 static void same_answer(int operation, uint32_t number, Area answer, uint32_t expected_number, const uint64_t *words)
 {
@@ -141,6 +146,44 @@ static void try_pddl(Area file, const Input *in)
     holds_output(problem, expected_problem, words[2]);
 }
 
+/* What a search that is not full found stays as it is with just as many nodes, and is full with one less. A plan found solves at the
+ * cost that it has. */
+static void try_found(Area file, Area nodes, Area plan, const uint64_t words[8])
+{
+    static uint64_t less_nodes[NODE_WORDS];
+    static uint8_t less_plan[ROUTE_RULES_MAX_FOUND];
+    route_rules_searched less;
+    route_rules_walked walked;
+    if (words[1] != ROUTE_RULES_FULL && words[4] > 1 &&
+        (route_rules_search(file.at, file.length, words[4] - 1, less_nodes, NODE_WORDS, less_plan, &less) != 0 ||
+         less.outcome != ROUTE_RULES_FULL || less.nodes != words[4] - 1))
+        fail("a search that is not full with a node less than it needs");
+    if (words[1] != ROUTE_RULES_FULL &&
+        (route_rules_search(file.at, file.length, words[4], less_nodes, NODE_WORDS, less_plan, &less) != 0 ||
+         memcmp(&less, words, sizeof less) != 0 || memcmp(less_nodes, nodes.at, 32 * words[4]) != 0))
+        fail("another search with just as many nodes");
+    if (words[1] == ROUTE_RULES_FOUND &&
+        (route_rules_walk(file.at, file.length, plan.at, words[3], &walked) != 0 || walked.verdict != ROUTE_RULES_SOLVED ||
+         walked.cost != words[2]))
+        fail("a plan found that does not solve at its cost");
+}
+
+static void try_search(Area file, const Input *in)
+{
+    uint64_t words[8];
+    Area nodes = lend(node_pages, 8 * in->node_words, in->at_end);
+    Area plan = lend(found_pages, ROUTE_RULES_MAX_FOUND, in->at_end), answer = lend(answer_pages, 64, in->at_end);
+    uint32_t number = route_rules_search(file.at, file.length, in->limit, (uint64_t *)nodes.at, in->node_words, plan.at,
+                                         (route_rules_searched *)answer.at);
+    same_answer(SEARCH, number, answer,
+                plain_search(file.at, file.length, in->limit, expected_nodes, in->node_words, expected, words), words);
+    holds_output(nodes, (const uint8_t *)expected_nodes, 32 * words[4]);
+    holds_output(plan, expected, words[3]);
+    if (number != 0) return;
+    outcomes[words[1]]++;
+    try_found(file, nodes, plan, words);
+}
+
 /* How many facts the deadlines of an accepted file have in its translation: as many as their steps, and one more for within. */
 static uint64_t deadline_facts(const uint8_t *file, uint64_t rows)
 {
@@ -162,6 +205,7 @@ static void try_translation(Area file, Area translation, const Input *in)
         to.actions != from.actions + 2 * from.preferences + 1 || to.preferences != 0 || translation.length != 8 + 5 * to.rows)
         fail("a translation of other sizes");
     try_pddl(translation, in);
+    try_search(translation, in);
 }
 
 static void try_translate(Area file, const Input *in)
@@ -325,6 +369,8 @@ static void tell(void)
     }
     fprintf(stderr, "reached verdicts");
     for (int n = 1; n < 5; n++) fprintf(stderr, " %d:%llu", n, (unsigned long long)verdicts[n]);
+    fprintf(stderr, "\nreached outcomes");
+    for (int n = 1; n < 4; n++) fprintf(stderr, " %d:%llu", n, (unsigned long long)outcomes[n]);
     fprintf(stderr, "\nreached weeks none:%llu figures:%llu\n", (unsigned long long)weeks[0], (unsigned long long)weeks[1]);
     fprintf(stderr, "reached lists stopped:%llu nothing:%llu lost:%llu\n", (unsigned long long)losses[0],
             (unsigned long long)losses[1], (unsigned long long)losses[2]);
@@ -342,6 +388,8 @@ int LLVMFuzzerInitialize(int *count, char ***words)
     made_pages = pages(ROUTE_RULES_MAX_FILE);
     out_pages = pages(ROUTE_RULES_MAX_PDDL);
     other_pages = pages(ROUTE_RULES_MAX_PDDL);
+    node_pages = pages(8 * NODE_WORDS);
+    found_pages = pages(ROUTE_RULES_MAX_FOUND);
     answer_pages = pages(192);
     atexit(tell);
     return 0;
@@ -366,6 +414,7 @@ int LLVMFuzzerTestOneInput(const uint8_t *bytes, size_t size)
     try_spell(file, plan, &in);
     try_single(file, plan, &in);
     try_report(file, plan, &in);
+    try_search(file, &in);
     try_read_plan(text, in.rooms[TO_READ], in.at_end);
     try_write_plan(plan, &in);
     try_walk_text(file, text, in.at_end);

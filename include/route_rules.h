@@ -1,12 +1,13 @@
 /* Route rules: check a task file, write the one spelling of its task, translate a task with soft and hard rules into a classical
- * task, write it with single literals in its effects, write it as PDDL, walk a plan on a task, given as bytes or as planners print
- * it, settle what it is worth, put up to 64 plans into figures, and say what a half-made plan has already lost.
+ * task, write it with single literals in its effects, write it as PDDL, search it for a cheapest plan, walk a plan on a task, given
+ * as bytes or as planners print it, settle what it is worth, put up to 64 plans into figures, and say what a half-made plan has
+ * already lost.
  *
  * Link target/staticlib/libroute_rules.a, which `rt staticlib route_rules` writes. Every function is proved: it answers every
  * input as the definitions say (crates/words/specs/Numbers.antt has the words of the answers), always returns, and
  * touches no memory but the areas lent to it. Nothing is kept between calls, so several threads may call at once.
  *
- * An area is a pointer and its length in bytes. The pointer is never NULL, also where the length is 0. The areas of one
+ * An area is a pointer and its length in bytes, or of a list of nodes in words. The pointer is never NULL, also where the length is 0. The areas of one
  * call do not overlap, unless both are only read.
  *
  * Every function returns 0, or the number of a refusal, and that is never 0 (crates/words/proofs/Done.antt). It writes
@@ -33,6 +34,8 @@ extern "C" {
 #define ROUTE_RULES_MAX_DEADLINE 15 /* the steps of within and always-within */
 #define ROUTE_RULES_MAX_COST 8796093020160 /* the cost of a plan: so many steps of the largest amount */
 #define ROUTE_RULES_MAX_CHOICES 64 /* the choices of one effect, of a literal from each clause */
+#define ROUTE_RULES_MAX_NODES 1024 /* the nodes that a search may keep */
+#define ROUTE_RULES_MAX_FOUND 1023 /* the steps of a plan that a search finds */
 #define ROUTE_RULES_MAX_PLANS 64 /* plans of a week */
 #define ROUTE_RULES_MAX_TEXT 65536 /* bytes of a plan's text; an area of this length is never too short for one */
 
@@ -54,9 +57,9 @@ extern "C" {
  * 5 on one row; 6 comes after all rows. 7 to 9 are translate's, 10 and 11 walk's, in that order, after 1 to 6.
  * Of a plan's text 12 comes after 6, and before 10 and 11; reading alone is refused by 12, then 10, then 9. 13 and 14 are
  * pddl's, in that order, after 1 to 6; 15 is settle's, after 1 to 6. A spelling is refused by 1 to 6, and then by 9; a report as
- * walk is, and then by 9; a task with single literals by 1 to 6, then 17, then 8, then 9. A week is refused by 1 to 6, then by 18,
- * then by 10 and 11 of its plans: the first such plan decides, 10 before 11 on one plan, and the place is its number.
- * What is lost is refused by 1 to 8 as a translation is, then by 10, then by 11 over the translated actions. */
+ * walk is, and then by 9; a task with single literals by 1 to 6, then 17, then 8, then 9; a search by 1 to 6, then 13, then 16. A
+ * week is refused by 1 to 6, then by 18, then by 10 and 11 of its plans: the first such plan decides, 10 before 11 on one plan, and
+ * the place is its number. What is lost is refused by 1 to 8 as a translation is, then by 10, then by 11 over the translated actions. */
 enum {
     ROUTE_RULES_REFUSED_SHORT_FILE = 1,       /* under 8 bytes; 0 */
     ROUTE_RULES_REFUSED_SIZE = 2,             /* a size out of range; 0 */
@@ -74,6 +77,7 @@ enum {
     ROUTE_RULES_REFUSED_PREFERENCES = 13,     /* the task has preferences; 0 */
     ROUTE_RULES_REFUSED_SHORT_AREA = 14,      /* a domain or a problem longer than its area; 0 */
     ROUTE_RULES_REFUSED_ARGUMENT = 15,        /* cost over 8,796,093,020,160, or a met preference not below P; 0 */
+    ROUTE_RULES_REFUSED_LIMIT = 16,           /* a limit of 0, over 1,024, or over the nodes that the lent list has room for; 0 */
     ROUTE_RULES_REFUSED_CHOICES = 17,         /* an effect with over 64 choices; the row of the first such EFFECT */
     ROUTE_RULES_REFUSED_PLANS = 18            /* a count of 0 or over 64, or a file of plans too short for its count, its arrays or a
                                                * plan it names; 0 */
@@ -218,6 +222,45 @@ typedef struct route_rules_texts {
 uint32_t route_rules_pddl(const uint8_t *file, size_t file_length, uint8_t *domain, size_t domain_length, uint8_t *problem,
                           size_t problem_length, route_rules_texts *answer);
 
+/* A node that a search keeps. */
+typedef struct route_rules_node {
+    uint64_t state[2]; /* fact n is held where bit n % 64 of word n / 64 is 1 */
+    uint64_t cost;
+    uint64_t way; /* origin * 256 + action: the action leads to the state from the node at the place origin */
+} route_rules_node;
+
+/* What a search comes to; 0 where the call was refused. */
+enum {
+    ROUTE_RULES_FOUND = 1, /* a cheapest plan */
+    ROUTE_RULES_NONE = 2,  /* no plan solves, of any length */
+    ROUTE_RULES_FULL = 3   /* there was no room for a further node */
+};
+
+/* Cost and steps are 0 unless a plan was found. */
+typedef struct route_rules_searched {
+    uint64_t place;
+    uint64_t outcome;
+    uint64_t cost;
+    uint64_t steps; /* the plan's length */
+    uint64_t nodes; /* how many nodes the list begins with */
+    uint64_t spare[3];
+} route_rules_searched;
+
+/* Searches a task without preferences, such as a translation, for a cheapest plan. `nodes` has room for node_words / 4 nodes, four words
+ * each as in route_rules_node; at most `limit` of them are kept. Or it is refused by 1 to 6, 13 or 16, and list and plan are as they
+ * were.
+ *
+ * The open state of least cost is taken, the earliest found first on ties. If it meets the goal a plan is found; otherwise its actions
+ * are tried by number. A state has one node, which keeps its place: a strictly cheaper way to it replaces cost, origin and action. A
+ * new state that would be node limit + 1 ends the search at once: full. The opening state is the node at place 0, with cost, origin and
+ * action 0; where no state is open none is answered.
+ *
+ * A plan found solves, and no list of any length that solves costs less; it is written into the first `steps` bytes of the plan, one
+ * for each step. Where the answer is not full, none is answered exactly if no list solves. The list then begins with the nodes kept, in
+ * the order found: its first 4 * `nodes` words are written. No other bytes are written. */
+uint32_t route_rules_search(const uint8_t *file, size_t file_length, uint64_t limit, uint64_t *nodes, size_t node_words,
+                            uint8_t plan[ROUTE_RULES_MAX_FOUND], route_rules_searched *answer);
+
 /* The length of the text in bytes. */
 typedef struct route_rules_reported {
     uint64_t place;
@@ -282,8 +325,8 @@ typedef char route_rules_answers_have_their_words[sizeof(route_rules_checked) ==
                                                           sizeof(route_rules_spelled) == 64 && sizeof(route_rules_singled) == 64 &&
                                                           sizeof(route_rules_walked) == 64 && sizeof(route_rules_settled) == 64 &&
                                                           sizeof(route_rules_length) == 64 && sizeof(route_rules_texts) == 64 &&
-                                                          sizeof(route_rules_reported) == 64 &&
-                                                          sizeof(route_rules_losses) == 64 &&
+                                                          sizeof(route_rules_reported) == 64 && sizeof(route_rules_searched) == 64 &&
+                                                          sizeof(route_rules_node) == 32 && sizeof(route_rules_losses) == 64 &&
                                                           sizeof(route_rules_figures) == 192
                                                       ? 1
                                                       : -1];

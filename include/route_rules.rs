@@ -27,6 +27,7 @@ pub mod refused {
     pub const PREFERENCES: u32 = 13;
     pub const SHORT_AREA: u32 = 14;
     pub const ARGUMENT: u32 = 15;
+    pub const LIMIT: u32 = 16;
     pub const CHOICES: u32 = 17;
     pub const PLANS: u32 = 18;
 }
@@ -39,6 +40,12 @@ pub const MAX_COST: u64 = 8_796_093_020_160;
 
 /// The most choices of one effect, of a literal from each clause, that single takes.
 pub const MAX_CHOICES: usize = 64;
+
+/// The most nodes that a search may keep.
+pub const MAX_NODES: usize = 1_024;
+
+/// The most steps of a plan that a search finds.
+pub const MAX_FOUND: usize = 1_023;
 
 /// The length of the longest plan's text that is read: an area of this length is never too short for a plan's text.
 pub const MAX_TEXT: usize = 65_536;
@@ -86,6 +93,47 @@ pub struct Walked {
 pub struct Worth {
     pub metric: u64,
     pub utility: i64,
+}
+
+/// A node that a search keeps.
+#[repr(C)]
+#[derive(Clone, Copy, PartialEq, Eq, Debug, Default)]
+pub struct Node {
+    /// Fact n is held where bit n % 64 of word n / 64 is 1.
+    pub state: [u64; 2],
+    pub cost: u64,
+    /// origin × 256 + action.
+    pub way: u64,
+}
+
+impl Node {
+    /// The place of the node from which the action leads to the state.
+    pub fn origin(&self) -> usize {
+        (self.way >> 8) as usize
+    }
+
+    pub fn action(&self) -> u8 {
+        self.way as u8
+    }
+}
+
+/// What a search comes to.
+#[derive(Clone, Copy, PartialEq, Eq, Debug)]
+pub enum Found {
+    /// A cheapest plan, whose steps fill the start of the plan's area.
+    Plan { cost: u64, steps: usize },
+    /// No plan solves, of any length.
+    NoPlan,
+    /// There was no room for a further node.
+    Full,
+}
+
+/// A search.
+#[derive(Clone, Copy, PartialEq, Eq, Debug)]
+pub struct Searched {
+    pub found: Found,
+    /// How many nodes the list begins with, in the order found.
+    pub nodes: usize,
 }
 
 /// The figures of a week of plans, one of which solves at least.
@@ -183,6 +231,15 @@ extern "C" {
         domain_length: usize,
         problem: *mut u8,
         problem_length: usize,
+        answer: *mut Answer,
+    ) -> u32;
+    fn route_rules_search(
+        file: *const u8,
+        file_length: usize,
+        limit: u64,
+        nodes: *mut u64,
+        node_words: usize,
+        plan: *mut [u8; MAX_FOUND],
         answer: *mut Answer,
     ) -> u32;
     fn route_rules_report(
@@ -345,6 +402,41 @@ pub fn pddl(file: &[u8], domain: &mut [u8], problem: &mut [u8]) -> Result<(usize
         )
     })?;
     Ok((words[1] as usize, words[2] as usize))
+}
+
+/// Searches a task without preferences for a cheapest plan, keeping at most `limit` nodes in the lent list; or it is refused by 1 to 6,
+/// 13 or 16, and list and plan are as they were. The list then begins with the nodes kept, in the order found, and its rest is as it was.
+pub fn search(
+    file: &[u8],
+    limit: u64,
+    nodes: &mut [Node],
+    plan: &mut [u8; MAX_FOUND],
+) -> Result<Searched, Refusal> {
+    // A node is four words, so the list is an area of words.
+    let words = answered(|answer| unsafe {
+        route_rules_search(
+            file.as_ptr(),
+            file.len(),
+            limit,
+            nodes.as_mut_ptr().cast(),
+            4 * nodes.len(),
+            plan,
+            answer,
+        )
+    })?;
+    let found = match words[1] {
+        1 => Found::Plan {
+            cost: words[2],
+            steps: words[3] as usize,
+        },
+        2 => Found::NoPlan,
+        3 => Found::Full,
+        outcome => unreachable!("outcome {outcome}"),
+    };
+    Ok(Searched {
+        found,
+        nodes: words[4] as usize,
+    })
 }
 
 /// Writes the lines of program judge about a plan on the task in a file into the start of the output, and answers their length;

@@ -1,18 +1,19 @@
 #!/usr/bin/env python3
 """The examples as text, the tool that turns texts into files and back, and the programs' answers on the batch house.
 
-tests/examples.py            needs target/bin/translate, target/bin/pddl and target/bin/judge
+tests/examples.py            needs target/bin/translate, target/bin/pddl, target/bin/search and target/bin/judge
 tests/examples.py --write    writes examples/batch_house/answers anew
 """
 import os
 import runpy
+import subprocess
 import sys
 
 from shared import stored
 from shared.expected import expect
 
 ROOT = os.path.dirname(os.path.dirname(os.path.abspath(__file__)))
-HOUSE = os.path.join(ROOT, 'examples/batch_house')
+HOUSE, SITE = os.path.join(ROOT, 'examples/batch_house'), os.path.join(ROOT, 'examples/small_site')
 RUN = runpy.run_path(os.path.join(HOUSE, 'run'))  # the example, which is a program and no module
 TOOL = RUN['task']
 Text, Wrong, show, read, text_of = TOOL.Text, TOOL.Wrong, TOOL.show, TOOL.read, TOOL.text_of
@@ -56,7 +57,7 @@ def round_trips():
     accepted = stored.accepted()
     for data in accepted:
         expect('a vector of check', Text(show(data)).file(), data)
-    for example in ('belt', 'batch_house'):
+    for example in ('belt', 'batch_house', 'small_site'):
         text = text_of(os.path.join(ROOT, 'examples', example, 'task.txt'))
         again = Text(show(text.file(), text))
         expect(example, (again.file(), again.facts, again.actions), (text.file(), text.facts, text.actions))
@@ -96,11 +97,15 @@ def main(option=None):
             out.write(got)
     expect('the batch house', got, read(stored).decode())
 
+    # The small site goes its way with program search alone.
+    way = subprocess.run([os.path.join(SITE, 'run')], capture_output=True, text=True)
+    expect('the small site', way.stdout + way.stderr, read(os.path.join(SITE, 'answers')).decode())
+
     # The planner pays the least metric of the stored plans, and judge says the same of what it found.
     cost, plan = RUN['planned'](text)
     expect("the planner's cost", cost, min(metrics(got)))
     expect("the planner's plan", metrics(RUN['judged'](text.file(), plan)), [cost])
-    print(f'{count} files turned into text and back, {len(metrics(got))} solved plans and a planned one of the batch house: as they should be')
+    print(f'{count} files turned into text and back, {len(metrics(got))} solved plans and a planned one of the batch house, the small site: as they should be')
 
 
 if __name__ == '__main__':

@@ -1,7 +1,8 @@
 //! The implementations beside each other, all with the answers of include/route_rules.h.
 
 use crate::inputs::Input;
-use peer::{text, Figures, Lost, Refusal, Sizes, Verdict, Walked, Worth};
+use peer::search::MAX_NODES;
+use peer::{text, Figures, Found, Lost, Refusal, Searched, Sizes, Verdict, Walked, Worth};
 
 /// What a call returns, and the words of its answer.
 pub type Answer = (u32, [u64; 8]);
@@ -12,6 +13,7 @@ pub const NAMES: [&str; 4] = ["library", "Rust", "plain C", "tuned C"];
 pub struct Areas {
     pub out: Vec<u8>,
     pub other: Vec<u8>,
+    pub nodes: Vec<u64>,
 }
 
 type Words = *mut [u64; 8];
@@ -20,6 +22,7 @@ type Walk = unsafe extern "C" fn(*const u8, usize, *const u8, usize, Words) -> u
 type Settle = unsafe extern "C" fn(*const u8, usize, u64, u64, Words) -> u32;
 type Week = unsafe extern "C" fn(*const u8, usize, *const u8, usize, *mut [u64; 24]) -> u32;
 type Write = unsafe extern "C" fn(*const u8, usize, *mut u8, usize, Words) -> u32;
+type Search = unsafe extern "C" fn(*const u8, usize, u64, *mut u64, usize, *mut u8, Words) -> u32;
 type Report =
     unsafe extern "C" fn(*const u8, usize, *const u8, usize, *mut u8, usize, Words) -> u32;
 type Pddl = unsafe extern "C" fn(*const u8, usize, *mut u8, usize, *mut u8, usize, Words) -> u32;
@@ -44,6 +47,7 @@ functions! {
     route_rules_walk_text(*const u8, usize, *const u8, usize);
     route_rules_pddl(*const u8, usize, *mut u8, usize, *mut u8, usize);
     route_rules_report(*const u8, usize, *const u8, usize, *mut u8, usize);
+    route_rules_search(*const u8, usize, u64, *mut u64, usize, *mut u8);
     plain_check(*const u8, usize);
     plain_walk(*const u8, usize, *const u8, usize);
     plain_settle(*const u8, usize, u64, u64);
@@ -56,6 +60,7 @@ functions! {
     plain_walk_text(*const u8, usize, *const u8, usize);
     plain_pddl(*const u8, usize, *mut u8, usize, *mut u8, usize);
     plain_report(*const u8, usize, *const u8, usize, *mut u8, usize);
+    plain_search(*const u8, usize, u64, *mut u64, usize, *mut u8);
     tuned_walk(*const u8, usize, *const u8, usize);
     tuned_translate(*const u8, usize, *mut u8, usize);
 }
@@ -120,6 +125,23 @@ fn figures(figures: Option<Figures>) -> [Answer; 3] {
 fn written(out: &mut [u8], bytes: &[u8]) -> Answer {
     out[..bytes.len()].copy_from_slice(bytes);
     (0, [0, bytes.len() as u64, 0, 0, 0, 0, 0, 0])
+}
+
+/// The Rust makes a list of its own, and its nodes and its plan are copied.
+fn searched(areas: &mut Areas, searched: Searched) -> Answer {
+    for (words, node) in areas.nodes.chunks_mut(4).zip(&searched.nodes) {
+        words[0] = node.state as u64;
+        words[1] = (node.state >> 64) as u64;
+        words[2] = node.cost;
+        words[3] = node.origin as u64 * 256 + u64::from(node.action);
+    }
+    let (outcome, cost, steps) = match searched.found {
+        Found::Plan { steps, cost } => (1, cost, written(&mut areas.out, &steps).1[1]),
+        Found::NoPlan => (2, 0, 0),
+        Found::Full => (3, 0, 0),
+    };
+    let nodes = searched.nodes.len() as u64;
+    (0, [0, outcome, cost, steps, nodes, 0, 0, 0])
 }
 
 // ---- calls; each pointer comes with the length of its area
@@ -301,6 +323,25 @@ pub fn pddl(who: usize, input: &Input, areas: &mut Areas) -> Answer {
             )
         }),
         _ => call(plain_pddl),
+    }
+}
+
+/// A search with all the nodes that there may be.
+pub fn search(who: usize, input: &Input, areas: &mut Areas) -> Answer {
+    let limit = MAX_NODES as u64;
+    let call = |search: Search, areas: &mut Areas| {
+        let mut words = [0; 8];
+        let (nodes, plan) = (areas.nodes.as_mut_ptr(), areas.out.as_mut_ptr());
+        let (file, length) = (input.file.as_ptr(), input.file.len());
+        let room = areas.nodes.len();
+        let number = unsafe { search(file, length, limit, nodes, room, plan, &mut words) };
+        (number, words)
+    };
+    match who {
+        0 => call(route_rules_search, areas),
+        1 => peer::search(&input.file, limit, areas.nodes.len() / 4)
+            .map_or_else(refused, |found| searched(areas, found)),
+        _ => call(plain_search, areas),
     }
 }
 

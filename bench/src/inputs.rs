@@ -518,3 +518,36 @@ pub fn longest_problem(rows: usize) -> Input {
     let task = pddl::longest_problem(rows);
     input(&format!("{rows} rows, the longest problem"), &task, vec![])
 }
+
+/// A task of so many actions that turn so many facts over, each costing more than those before it, whose goal is the state that is
+/// taken last: all of its states are found, most of them on many ways.
+pub fn lattice(facts: usize, actions: usize) -> Input {
+    let literal = |holds, fact| vec![vec![Literal { holds, fact }]];
+    let turning = |n: usize| {
+        let fact = n % facts;
+        let change = |holds: bool| Effect {
+            condition: literal(holds, fact),
+            adds: Vec::from_iter((!holds).then_some(fact)),
+            deletes: Vec::from_iter(holds.then_some(fact)),
+        };
+        Action {
+            cost: 1 + (n / facts) as u32,
+            precondition: vec![],
+            effects: vec![change(true), change(false)],
+        }
+    };
+    let goal = (0..facts).flat_map(|fact| literal(true, fact)).collect();
+    let full = Task {
+        start: vec![],
+        goal,
+        ..task((0..actions).map(turning).collect(), vec![])
+    };
+    let name = format!("{} nodes, {actions} actions", 1 << facts);
+    input(&name, &full, vec![])
+}
+
+/// 1,024 states whose hashes meet in one slot of a table of 2,048.
+pub fn one_slot() -> Input {
+    let name = "1024 nodes in one slot, 64 actions";
+    input(name, &peer::colliding::one_slot(), vec![])
+}

@@ -1,5 +1,6 @@
 //! Measures every operation of the library beside the independent Rust and beside C, on the same inputs, and writes the medians:
-//! `bench`. It fails where two of them differ. `bench once N WHO` makes the one call of line N, for counting its instructions.
+//! `bench`. It fails where two of them differ. `bench once N WHO` makes the one call of line N, for counting its instructions;
+//! `bench only OPERATION` prints the lines of one operation, and writes nothing.
 
 mod contenders;
 mod inputs;
@@ -10,6 +11,7 @@ use contenders::{Answer, Areas, NAMES};
 use inputs::Input;
 use operations::Operation::{self, *};
 use peer::pddl::{MAX_DOMAIN, MAX_PROBLEM};
+use peer::search::MAX_NODES;
 use std::fs;
 use std::hint::black_box;
 use std::path::PathBuf;
@@ -23,6 +25,7 @@ fn areas(filled: u8) -> Areas {
     Areas {
         out: vec![filled; MAX_DOMAIN],
         other: vec![filled; MAX_PROBLEM],
+        nodes: vec![u64::from(filled); 4 * MAX_NODES],
     }
 }
 
@@ -31,7 +34,7 @@ fn agree(operation: Operation, input: &Input) {
     let result = |who| {
         let mut areas = areas(0xA5);
         let answers: [Answer; 3] = operation.call(who, input, &mut areas);
-        (answers, areas.out, areas.other)
+        (answers, areas.out, areas.other, areas.nodes)
     };
     let first = result(0);
     let refused = first.0[0].0 != 0;
@@ -144,19 +147,37 @@ fn lines() -> Vec<(Operation, Vec<Input>)> {
         (WritePlan, vec![belt(), middle(), each_in_turn()]),
         (WalkText, walked()),
         (Report, walked()),
+        (
+            Search,
+            vec![
+                inputs::compiled(belt()),
+                inputs::lattice(4, 4),
+                inputs::lattice(8, 8),
+                inputs::lattice(10, 10),
+                inputs::lattice(4, 128),
+                inputs::lattice(8, 128),
+                inputs::lattice(10, 128),
+                inputs::one_slot(),
+            ],
+        ),
     ]
 }
 
-fn comparison() -> String {
+/// The times of each line, of one operation alone where it is named.
+fn comparison(only: Option<&str>) -> String {
     let mut table = format!("operation,input,work,of,{}\n", NAMES.join(","));
+    let wanted = |operation: Operation| only.is_none_or(|name| operation.name() == name);
     for (number, (operation, input)) in lines()
         .iter()
+        .filter(|(operation, _)| wanted(*operation))
         .flat_map(|(operation, inputs)| inputs.iter().map(move |input| (*operation, input)))
         .enumerate()
     {
         let times = times(operation, &[input], operation.contenders()).remove(0);
         let (work, of) = operation.work(input, &mut areas(0));
-        input.save(&folder().join(format!("inputs/{number}")), operation.name());
+        if only.is_none() {
+            input.save(&folder().join(format!("inputs/{number}")), operation.name());
+        }
         let mut line = format!("{},\"{}\",{work},{of}", operation.name(), input.name);
         for who in 0..NAMES.len() {
             line += &times
@@ -225,6 +246,13 @@ fn series() -> Vec<Series> {
             "rows, the longest domain",
             grown(inputs::longest_domain, &rows),
         ),
+        (
+            Search,
+            "nodes, 10 actions",
+            [4, 6, 8, 10]
+                .map(|facts| (1 << facts, inputs::lattice(facts, 10)))
+                .into(),
+        ),
         (ReadPlan, "steps", grown(by_steps, &steps)),
         (WritePlan, "steps", grown(by_steps, &steps)),
     ]
@@ -260,6 +288,11 @@ fn main() {
         black_box(operation.call(who, &input, &mut areas(0)));
         return;
     }
-    fs::write(folder().join("times.csv"), comparison()).expect("times");
+    if let [_, only, name] = words.as_slice() {
+        assert_eq!(only, "only");
+        comparison(Some(name));
+        return;
+    }
+    fs::write(folder().join("times.csv"), comparison(None)).expect("times");
     fs::write(folder().join("growth.csv"), growth()).expect("growth");
 }

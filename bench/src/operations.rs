@@ -19,6 +19,7 @@ pub enum Operation {
     WritePlan,
     WalkText,
     Report,
+    Search,
 }
 
 use Operation::*;
@@ -38,6 +39,7 @@ pub const ALL: [Operation; 13] = [
     WritePlan,
     WalkText,
     Report,
+    Search,
 ];
 
 impl Operation {
@@ -57,6 +59,7 @@ impl Operation {
             WritePlan => "write_plan",
             WalkText => "walk_text",
             Report => "report",
+            Search => "search",
         }
     }
 
@@ -90,6 +93,7 @@ impl Operation {
             WritePlan => one(contenders::write_plan(who, input, areas)),
             WalkText => one(contenders::walk_text(who, input)),
             Report => one(contenders::report(who, input, areas)),
+            Search => one(contenders::search(who, input, areas)),
         }
     }
 
@@ -102,6 +106,7 @@ impl Operation {
                 (0, words) => ((words[1] - 8) / 5, "rows written"),
                 _ => (rows, "rows"),
             },
+            Search => (self.call(0, input, areas)[0].1[4], "nodes"),
             ReadPlan | WritePlan => (input.plan.len() as u64, "steps"),
             Week => (input.planned_steps(), "steps"),
             Lost => (input.list.len() as u64, "steps"),

@@ -1,6 +1,6 @@
-/* Checks the belt's task, translates it, writes the translation as PDDL and with single literals in its effects, spells the task,
- * walks a plan on it, as bytes and as text, settles what it is worth, puts a week of plans into figures, says what beginnings of
- * translated runs have lost, and prints the answers: belt TASK PLAN. */
+/* Checks the belt's task, translates it, writes the translation as PDDL and with single literals in its effects, searches it for a
+ * cheapest plan, spells the task, walks a plan on it, as bytes and as text, settles what it is worth, puts a week of plans into
+ * figures, says what beginnings of translated runs have lost, and prints the answers: belt TASK PLAN. */
 #include "route_rules.h"
 
 #include <inttypes.h>
@@ -62,6 +62,25 @@ static void single(const uint8_t *file, size_t length, size_t room)
         printf("single: %" PRIu64 " bytes\n", answer.length);
 }
 
+/* Prints a cheapest plan, and how the last node came about. */
+static void search(const uint8_t *file, size_t length, uint64_t limit)
+{
+    static route_rules_node nodes[ROUTE_RULES_MAX_NODES];
+    static uint8_t plan[ROUTE_RULES_MAX_FOUND];
+    static const char *const outcomes[] = {"", "found", "none", "full"};
+    route_rules_searched answer;
+    uint32_t number = route_rules_search(file, length, limit, (uint64_t *)nodes, 4 * ROUTE_RULES_MAX_NODES, plan, &answer);
+    if (number != 0) {
+        refused("search", number, answer.place);
+        return;
+    }
+    printf("search: %s", outcomes[answer.outcome]);
+    if (answer.outcome == ROUTE_RULES_FOUND) printf(" cost %" PRIu64 " steps", answer.cost);
+    for (uint64_t i = 0; i < answer.steps; i++) printf(" %d", plan[i]);
+    const route_rules_node *last = &nodes[answer.nodes - 1];
+    printf(", nodes %" PRIu64 ", the last from %" PRIu64 " by %" PRIu64 "\n", answer.nodes, last->way / 256, last->way % 256);
+}
+
 static void translate(const uint8_t *file, size_t length)
 {
     static uint8_t out[ROUTE_RULES_MAX_FILE];
@@ -76,6 +95,9 @@ static void translate(const uint8_t *file, size_t length)
     single(out, answer.length, ROUTE_RULES_MAX_FILE); /* every clause of an effect has one literal already */
     single(out, answer.length, answer.length - 1);    /* an area that is a byte short */
     pddl(out, answer.length);
+    search(out, answer.length, ROUTE_RULES_MAX_NODES);
+    search(out, answer.length, 2);                         /* full */
+    search(out, answer.length, ROUTE_RULES_MAX_NODES + 1); /* no such limit */
 }
 
 /* Says whether the file is its own spelling. */
@@ -204,7 +226,8 @@ int main(int count, char **words)
 
     check(file, length);
     translate(file, length);
-    pddl(file, length); /* a task with preferences */
+    pddl(file, length);                            /* a task with preferences */
+    search(file, length, ROUTE_RULES_MAX_NODES); /* likewise */
     spell(file, length, ROUTE_RULES_MAX_FILE);
     spell(file, length, length - 1); /* an area that is a byte short */
     walk(file, length, plan, steps);

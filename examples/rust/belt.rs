@@ -1,12 +1,13 @@
-//! Checks the belt's task, translates it, writes the translation as PDDL and with single literals in its effects, spells the task,
-//! walks a plan on it, as bytes and as text, settles what it is worth, puts a week of plans into figures, says what beginnings of
-//! translated runs have lost, and prints the answers: `belt TASK PLAN`.
+//! Checks the belt's task, translates it, writes the translation as PDDL and with single literals in its effects, searches it for a
+//! cheapest plan, spells the task, walks a plan on it, as bytes and as text, settles what it is worth, puts a week of plans into
+//! figures, says what beginnings of translated runs have lost, and prints the answers: `belt TASK PLAN`.
 
 #[path = "../../include/route_rules.rs"]
 mod route_rules;
 
 use route_rules::{
-    Lost, Refusal, Verdict, Walked, MAX_COST, MAX_FILE, MAX_PDDL, MAX_REPORT, MAX_TEXT,
+    Found, Lost, Node, Refusal, Verdict, Walked, MAX_COST, MAX_FILE, MAX_FOUND, MAX_NODES, MAX_PDDL,
+    MAX_REPORT, MAX_TEXT,
 };
 use std::fs;
 
@@ -44,6 +45,26 @@ fn single(file: &[u8], room: usize) {
     println!("single: {line}");
 }
 
+/// Prints a cheapest plan, and how the last node came about.
+fn search(file: &[u8], limit: u64) {
+    let (mut nodes, mut plan) = (vec![Node::default(); MAX_NODES], [0; MAX_FOUND]);
+    let line =
+        route_rules::search(file, limit, &mut nodes, &mut plan).map_or_else(refused, |searched| {
+            let found = match searched.found {
+                Found::Plan { cost, steps } => {
+                    let steps: String = plan[..steps].iter().map(|n| format!(" {n}")).collect();
+                    format!("found cost {cost} steps{steps}")
+                }
+                Found::NoPlan => "none".to_string(),
+                Found::Full => "full".to_string(),
+            };
+            let last = nodes[searched.nodes - 1];
+            let (count, origin, action) = (searched.nodes, last.origin(), last.action());
+            format!("{found}, nodes {count}, the last from {origin} by {action}")
+        });
+    println!("search: {line}");
+}
+
 fn translate(file: &[u8]) {
     let mut out = vec![0; MAX_FILE];
     match route_rules::translate(file, &mut out) {
@@ -53,6 +74,9 @@ fn translate(file: &[u8]) {
             single(&out[..length], MAX_FILE); // every clause of an effect has one literal already
             single(&out[..length], length - 1); // an area that is a byte short
             pddl(&out[..length]);
+            search(&out[..length], MAX_NODES as u64);
+            search(&out[..length], 2); // full
+            search(&out[..length], MAX_NODES as u64 + 1); // no such limit
         }
         Err(refusal) => println!("translate: {}", refused(refusal)),
     }
@@ -155,6 +179,7 @@ fn main() {
     check(&file);
     translate(&file);
     pddl(&file); // a task with preferences
+    search(&file, MAX_NODES as u64); // likewise
     spell(&file, MAX_FILE);
     spell(&file, file.len() - 1); // an area that is a byte short
     walk(&file, &plan);

@@ -6,6 +6,7 @@ account    which files and plans are refused, and by what
 tasks      tasks and plans that several scripts try
 spelling   the one spelling of a task, by sorting
 singling   a task with single literals in its effects, by the products of its clauses
+searching  the search for a cheapest plan, by looking through lists
 chance     random choices that are the same in every version of Python
 stored     vectors as they stand in a crate: written, read, held to what they should be
 weeks      a week of plans: its file, what is refused of it, its figures over what judge has to write

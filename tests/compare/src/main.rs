@@ -1,5 +1,6 @@
 //! Compares the proved library with the independent implementation on random
 //! tasks, plans, amounts and areas, valid and damaged: `compare [COUNT [FIRST SEED]]`.
+//! `compare search [COUNT [FIRST SEED]]` searches that many tasks, and does nothing else.
 //!
 //! It prints how often each answer came up, and fails where a result differs, a
 //! byte outside it was written, or an answer never came up.
@@ -7,6 +8,7 @@
 mod library;
 mod losing;
 mod pddl;
+mod searching;
 mod settling;
 mod singling;
 mod spelling;
@@ -20,13 +22,29 @@ mod weekly;
 use std::process::exit;
 
 fn main() {
-    let mut numbers = std::env::args()
-        .skip(1)
+    let words: Vec<String> = std::env::args().skip(1).collect();
+    let only_search = words.first().is_some_and(|word| word == "search");
+    let mut numbers = words
+        .iter()
+        .skip(usize::from(only_search))
         .map(|word| word.parse::<u64>().expect("a number"));
     let count = numbers.next().unwrap_or(200_000);
     let first = numbers.next().unwrap_or(1);
     println!("{count} cases, first seed {first}");
-    let done = walking::compare(first, count)
+    let done = match only_search {
+        true => searching::vectors()
+            .and_then(|()| searching::edges())
+            .and_then(|()| searching::compare(first, count)),
+        false => everything(first, count),
+    };
+    if let Err(why) = done {
+        println!("{why}");
+        exit(1);
+    }
+}
+
+fn everything(first: u64, count: u64) -> Result<(), String> {
+    walking::compare(first, count)
         .and_then(|()| settling::edges())
         .and_then(|()| settling::compare(first, count))
         .and_then(|()| translating::edges())
@@ -46,9 +64,8 @@ fn main() {
         .and_then(|()| losing::continuations(first, count / 10))
         .and_then(|()| texts::compare(first, count))
         .and_then(|()| pddl::edges())
-        .and_then(|()| pddl::compare(first, count / 10));
-    if let Err(why) = done {
-        println!("{why}");
-        exit(1);
-    }
+        .and_then(|()| pddl::compare(first, count / 10))
+        .and_then(|()| searching::vectors())
+        .and_then(|()| searching::edges())
+        .and_then(|()| searching::compare(first, count / 10))
 }

@@ -1,9 +1,10 @@
 //! Task files with soft and hard rules: check a file, give it its one spelling, walk a
 //! plan on it, settle what that is worth, put a week of plans into figures, translate it
 //! into a classical task, give its effects single literals, say what a beginning of that
-//! task's runs has lost, write it as PDDL. Written plainly from the specification, to
-//! compare another implementation with.
+//! task's runs has lost, write it as PDDL, search it for a cheapest plan. Written plainly
+//! from the specification, to compare another implementation with.
 
+pub mod colliding;
 pub mod decode;
 pub mod encode;
 pub mod lost;
@@ -11,6 +12,7 @@ pub mod meaning;
 pub mod pddl;
 pub mod random;
 pub mod report;
+pub mod search;
 pub mod settle;
 pub mod single;
 pub mod spelling;
@@ -25,6 +27,7 @@ pub use encode::encode;
 pub use lost::{lost, lost_text, Lost};
 pub use meaning::run;
 pub use report::{refused_text, report};
+pub use search::{search, Found, Searched};
 pub use settle::{settle, worth, Worth};
 pub use single::{single, singled};
 pub use spelling::{alike, spell};

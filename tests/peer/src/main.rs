@@ -1,10 +1,11 @@
 //! Program peer: the operations on files, and random cases.
 
 use peer::random::{arguments, case, MAX_FILE};
+use peer::search::MAX_NODES;
 use peer::settle::is_met;
 use peer::{
-    check, decode, lost_text, pddl, refused_text, report, settle, single, spell, translate, walk,
-    week_text, Refusal, Verdict,
+    check, decode, lost_text, pddl, refused_text, report, search, settle, single, spell, translate,
+    walk, week_text, Found, Refusal, Verdict,
 };
 use std::collections::BTreeMap;
 use std::fs;
@@ -18,6 +19,7 @@ const USAGE: &str = "usage:
   peer spell TASK OUT
   peer single TASK OUT
   peer pddl TASK DOMAIN PROBLEM
+  peer search TASK LIMIT  print what a search finds, and how many nodes it keeps
   peer case SEED DIR      write the files task and plan of a random case
   peer tally FIRST COUNT  count the answers on the cases of seeds from FIRST";
 
@@ -46,6 +48,7 @@ fn answer(words: &[&str]) -> Option<String> {
         ["spell", task, out] => Some(write_file(spell, task, out)),
         ["single", task, out] => Some(write_file(single, task, out)),
         ["pddl", task, domain, problem] => Some(write_pddl(task, domain, problem)),
+        ["search", task, limit] => Some(search_file(task, limit.parse().ok()?)),
         ["case", seed, folder] => Some(write_case(seed.parse().ok()?, folder)),
         ["tally", first, count] => Some(tally(first.parse().ok()?, count.parse().ok()?)),
         _ => None,
@@ -103,6 +106,23 @@ fn write_pddl(task: &str, domain: &str, problem: &str) -> String {
                 Ok(()) => String::new(),
                 Err(_) => NO_FILE.to_string(),
             }
+        }
+        Err(refusal) => refused_text(refusal),
+    }
+}
+
+fn search_file(task: &str, limit: u64) -> String {
+    let Ok(task) = fs::read(task) else {
+        return NO_FILE.to_string();
+    };
+    match search(&task, limit, MAX_NODES) {
+        Ok(searched) => {
+            let found = match searched.found {
+                Found::Plan { steps, cost } => format!("found cost {cost} {steps:?}"),
+                Found::NoPlan => "none".to_string(),
+                Found::Full => "full".to_string(),
+            };
+            format!("{found}, {} nodes\n", searched.nodes.len())
         }
         Err(refusal) => refused_text(refusal),
     }

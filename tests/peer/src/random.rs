@@ -503,24 +503,6 @@ impl Parts<'_> {
         effect
     }
 
-    /// Two effects that turn a fact over.
-    fn turn(&mut self) -> [Effect; 2] {
-        let fact = self.fact();
-        let when = |holds| vec![vec![Literal { holds, fact }]];
-        [
-            Effect {
-                condition: when(true),
-                adds: vec![],
-                deletes: vec![fact],
-            },
-            Effect {
-                condition: when(false),
-                adds: vec![fact],
-                deletes: vec![],
-            },
-        ]
-    }
-
     /// An action, most often one that applies in the opening state.
     fn action(&mut self, opening: &State) -> Action {
         let cost = self.amount();
@@ -532,7 +514,7 @@ impl Parts<'_> {
         let effects = self.r.between(0, self.shape.effects);
         let mut effects: Vec<Effect> = (0..effects).map(|_| self.effect()).collect();
         if self.r.chance(40) {
-            effects.extend(self.turn());
+            effects.extend(turned(self.fact()));
         }
         Action {
             cost,
@@ -640,6 +622,94 @@ fn lengthen(r: &mut Random, task: &mut Task, mut missing: usize) {
         task.goal.push((0..rows - 1).map(literal).collect());
         missing -= rows;
     }
+}
+
+/// A task without preferences whose search meets the same states on several ways, with
+/// ties, costs of 0 and costs that are lowered: actions that turn a few of so many
+/// facts over, or set them, and a goal that asks for some of them.
+pub fn searchable(r: &mut Random, facts: usize) -> Task {
+    let costs: &[u32] = r.pick(&[
+        &[0][..],
+        &[1],
+        &[0, 1],
+        &[1, 1, 2, 3],
+        &[0, 1, 2, 5, 9, 20],
+        &[1, MAX_AMOUNT - 1, MAX_AMOUNT],
+    ]);
+    // The facts that are used stand anywhere among all.
+    let all = r.pick(&[facts, 64.max(facts), MAX_FACTS]);
+    let first = r.below(all - facts + 1);
+    let literal = |r: &mut Random, holds| Literal {
+        holds,
+        fact: first + r.below(facts),
+    };
+    let turns = r.pick(&[0, facts / 2, facts]);
+    let others = r.between(usize::from(turns == 0), 4);
+    let actions = (0..turns + others).map(|n| {
+        let cost = r.pick(costs);
+        let mut effects = vec![];
+        let several = if n < turns { 1 } else { r.between(1, 3) };
+        for _ in 0..several {
+            let fact = if n < turns {
+                first + n
+            } else {
+                first + r.below(facts)
+            };
+            effects.extend(turned(fact));
+        }
+        if n >= turns && r.chance(50) {
+            effects = vec![Effect {
+                condition: vec![],
+                adds: (0..r.below(3)).map(|_| first + r.below(facts)).collect(),
+                deletes: (0..r.below(3)).map(|_| first + r.below(facts)).collect(),
+            }];
+        }
+        let precondition = match r.chance(30) {
+            true => {
+                let holds = r.chance(50);
+                vec![vec![literal(r, holds)]]
+            }
+            false => vec![],
+        };
+        Action {
+            cost,
+            precondition,
+            effects,
+        }
+    });
+    let actions = actions.collect();
+    let asked = r.pick(&[1, 2, facts, facts]);
+    let goal = (0..asked)
+        .map(|_| {
+            let holds = r.chance(70);
+            vec![literal(r, holds)]
+        })
+        .collect();
+    let start = (first..first + facts).filter(|_| r.chance(20)).collect();
+    Task {
+        facts: all,
+        start,
+        goal,
+        actions,
+        preferences: vec![],
+    }
+}
+
+/// Two effects that turn a fact over.
+fn turned(fact: usize) -> [Effect; 2] {
+    let when = |holds| vec![vec![Literal { holds, fact }]];
+    [
+        Effect {
+            condition: when(true),
+            adds: vec![],
+            deletes: vec![fact],
+        },
+        Effect {
+            condition: when(false),
+            adds: vec![fact],
+            deletes: vec![],
+        },
+    ]
 }
 
 /// Clauses by their lengths, with about as many choices as an effect may have.
