@@ -25,7 +25,7 @@ from shared import stored
 from shared.account import check
 from shared.expected import Different, expect
 from shared.files import HARD, MOST, PREFERENCES, SOFT, file, preferences, rows, spelled, words
-from shared.pddl import Action, Effect, Task, Wrong, read
+from shared.pddl import Wrong, read, task_of
 from shared.planning import HORIZON, SIGNS, plan, planned, random_task
 from shared.programs import run
 from shared.tasks import LONGEST_DOMAIN, LONGEST_PROBLEM
@@ -35,34 +35,6 @@ Programs = collections.namedtuple('Programs', 'pddl translate judge text_vectors
 
 
 # ---- a file, its texts, and the task in them
-
-def task_of(data):
-    """The task in the rows of a file without preferences, in the parser's words."""
-    def condition(clauses):
-        return 'and', tuple(clause[0] if len(clause) == 1 else ('or', tuple(clause)) for clause in clauses)
-
-    init, goal, actions = [], [], []
-    clauses, effects, adds, deletes = [], [], [], []  # those that the next row goes to
-    for name, value in rows(data):
-        fact = 'fact', f'f{value}'
-        if name == 'GOAL':
-            clauses = goal
-        elif name == 'ACTION':
-            clauses, effects = [], []
-            actions.append((value, clauses, effects))
-        elif name == 'EFFECT':
-            clauses, adds, deletes = [], [], []
-            effects.append((clauses, adds, deletes))
-        elif name == 'CLAUSE':
-            clauses.append([])
-        elif name in ('HOLDS', 'LACKS'):
-            clauses[-1].append(fact if name == 'HOLDS' else ('not', fact))
-        else:
-            {'START': init, 'ADD': adds, 'DELETE': deletes}[name].append(f'f{value}')
-    return Task([f'f{n}' for n in range(data[0])], init, condition(goal), [
-        Action(f'a{n}', cost, condition(needs), [Effect(condition(when), *changes) for when, *changes in effects])
-        for n, (cost, needs, effects) in enumerate(actions)])
-
 
 def read_back(program, files):
     """The task read from the two texts of the file `compiled`, which is the one in its rows."""

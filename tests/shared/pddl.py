@@ -11,6 +11,8 @@ is refused.
 import collections
 import re
 
+from shared.files import PREFERENCES, rows
+
 TOKEN = re.compile(r'\s+|;[^\n]*|([()]|[^\s();]+)')
 NAME = re.compile(r'[a-z][a-z0-9_-]*')
 NUMBER = re.compile(r'[0-9]+')
@@ -243,3 +245,37 @@ def read(domain_text, problem_text):
     if len(parts[':goal']) != 1:
         raise Wrong(f'a goal that is not one condition: {shown(parts[":goal"])}')
     return Task(domain.facts, opening(domain, parts[':init']), domain.condition(parts[':goal'][0]), domain.actions)
+
+
+# ---- the task in the rows of a file
+
+def conjunction(clauses):
+    """A condition of clauses, each a list of literals."""
+    return 'and', tuple(clause[0] if len(clause) == 1 else ('or', tuple(clause)) for clause in clauses)
+
+
+def task_of(data):
+    """The task in the rows of a file, up to its first preference, in the parser's words."""
+    init, goal, actions = [], [], []
+    clauses, effects, adds, deletes = [], [], [], []  # those that the next row goes to
+    for name, value in rows(data):
+        fact = 'fact', f'f{value}'
+        if name in PREFERENCES:
+            break
+        if name == 'GOAL':
+            clauses = goal
+        elif name == 'ACTION':
+            clauses, effects = [], []
+            actions.append((value, clauses, effects))
+        elif name == 'EFFECT':
+            clauses, adds, deletes = [], [], []
+            effects.append((clauses, adds, deletes))
+        elif name == 'CLAUSE':
+            clauses.append([])
+        elif name in ('HOLDS', 'LACKS'):
+            clauses[-1].append(fact if name == 'HOLDS' else ('not', fact))
+        else:
+            {'START': init, 'ADD': adds, 'DELETE': deletes}[name].append(f'f{value}')
+    return Task([f'f{n}' for n in range(data[0])], init, conjunction(goal), [
+        Action(f'a{n}', cost, conjunction(needs), [Effect(conjunction(when), *changes) for when, *changes in effects])
+        for n, (cost, needs, effects) in enumerate(actions)])
