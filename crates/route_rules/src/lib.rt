@@ -10,7 +10,7 @@ ghost use Rattle.settling.specs.Settled.{settled};
 ghost use Rattle.classical.specs.Translation.{compiled};
 ghost use Rattle.outcome.specs.Outcome.{written, areaAfter};
 ghost use Rattle.translation.specs.Translated.{outcome, Delivered};
-ghost use Rattle.route_rules.specs.Corollary.{CostIsMetric, StillPaid};
+ghost use Rattle.paid.specs.CostIsMetric.{CostIsMetric, StillPaid};
 ghost use Rattle.losses.specs.Losses.{Lost};
 ghost use Rattle.lost.specs.Answered.{given, answered, Claimed};
 ghost use Rattle.canonical.specs.Canonical.{respelled};

@@ -1,8 +1,8 @@
--- Words, area and meaning are single's; what a planner pays for a translation stays: still-paid of Corollary.
+-- Words, area and meaning are single's; what a planner pays for a translation stays: still-paid of paid.
 use mathlib.Core.Path.{ap, _∙_}
 use denote.Ref.{now}
 use Rattle.words.specs.Numbers.{ofOutcome}
-use Rattle.route_rules.proofs.Corollary.{still-paid}
+use Rattle.paid.proofs.CostIsMetric.{still-paid}
 use borrow.Author.Needs.{needs}
 use Rattle.route_rules.proofs.route_rules_single.Statement.{statement}
 use Rattle.route_rules.proofs.route_rules_single.Tie as tie

@@ -1,9 +1,9 @@
--- Words, area and faithfulness are translate's; what the planner pays is what walk and settle say: written-paid of Corollary.
+-- Words, area and faithfulness are translate's; what the planner pays is what walk and settle say: written-paid of paid.
 use mathlib.Core.Path.{ap, _∙_}
 use denote.Ref.{now}
 use lib.ListN.{length}
 use Rattle.words.specs.Numbers.{ofOutcome}
-use Rattle.route_rules.proofs.Corollary.{written-paid}
+use Rattle.paid.proofs.CostIsMetric.{written-paid}
 use borrow.Author.Needs.{needs}
 use Rattle.route_rules.proofs.route_rules_translate.Statement.{statement}
 use Rattle.route_rules.proofs.route_rules_translate.Tie as tie

@@ -28,7 +28,7 @@ use Rattle.outcome.specs.Outcome.{written}
 use Rattle.outcome.proofs.Outcomes.{not-written}
 use Rattle.translation.specs.Translated.{outcomeBy, outcome, Delivered}
 use Rattle.single_effects.specs.Claim as Single
-use Rattle.route_rules.specs.Corollary.{SettledAt, CostIsMetric, StillPaid}
+use Rattle.paid.specs.CostIsMetric.{SettledAt, CostIsMetric, StillPaid}
 
 -- What judge gave on an accepted file
 

@@ -1,0 +1,1 @@
+// What the planner pays is what walk and settle say. A definition and its law, no code.

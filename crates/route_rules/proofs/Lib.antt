@@ -1,2 +1,0 @@
--- What the planner pays and what the judge says
-pub mod Corollary
