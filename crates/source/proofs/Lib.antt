@@ -1,0 +1,5 @@
+-- The steps, one after the other
+pub mod SourceSteps
+-- What is answered, and the whole way of a text
+pub mod Sourced
+pub mod Returning
