@@ -18,6 +18,7 @@ ghost use Rattle.spelling.specs.Outcome.{outcome as spelled};
 ghost use Rattle.singling.specs.Singled.{singledFile};
 ghost use Rattle.singling.specs.Outcome.{outcome as singleOutcome};
 ghost use Rattle.single_effects.specs.Claim.{Delivered as Singled};
+ghost use Rattle.source.specs.Source.{outcome as sourced, partIn, Returned};
 ghost use Rattle.plan_lines.specs.PlanText.{textOf};
 ghost use Rattle.plan_text.specs.Outcomes.{readOutcome, stepsIn, writeOutcome, textWalked};
 ghost use Rattle.pddl_text.specs.Outcomes.{outcomeOver as texts, domainOver, problemOver};
@@ -104,6 +105,20 @@ pub extern "C" fn route_rules_write_plan(plan: &[u8], out: &mut [u8], answer: &m
         ⌜ now (out .exit) ≡ areaAfter (textOf (now (plan .entry))) (now (out .entry)) outcome ⌝ }
 {
     words::put_outcome(plan_text::write(plan, out), answer)
+}
+
+// Writes the source part of what a planner prints for the translation of the task in a file into the area `out`. A refusal leaves that area
+// as it was.
+#[no_mangle]
+pub extern "C" fn route_rules_source(file: &[u8], text: &[u8], out: &mut [u8], answer: &mut [u64; 8]) -> u32
+    ensures { λ r. ⌜ call r (now (answer .exit)) ≡ ofOutcome (sourced (now (file .entry)) (now (text .entry)) (length (now (out .entry)))) ⌝ }
+    ensures { λ r.
+        let answered = sourced (now (file .entry)) (now (text .entry)) (length (now (out .entry))) in
+        ⌜ now (out .exit) ≡ areaAfter (partIn (now (file .entry)) (now (text .entry))) (now (out .entry)) answered ⌝ }
+    ensures { λ r. ⌜ ((m : ℕ) → sourced (now (file .entry)) (now (text .entry)) (length (now (out .entry))) ≡ written m
+        → Returned (now (file .entry)) (now (text .entry)) (now (out .exit)) m) ⌝ }
+{
+    words::put_outcome(source::source(file, text, out), answer)
 }
 
 // Walks the plan in a text on the task in a file.
