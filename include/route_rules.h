@@ -55,7 +55,8 @@ extern "C" {
 
 /* Refusals, with their place. 1 to 3 are tried in order. Rows then go from the first; the first faulty row decides, 4 before
  * 5 on one row; 6 comes after all rows. 7 to 9 are translate's, 10 and 11 walk's, in that order, after 1 to 6.
- * Of a plan's text 12 comes after 6, and before 10 and 11; reading alone is refused by 12, then 10, then 9. 13 and 14 are
+ * Of a plan's text 12 comes after 6, and before 10 and 11; reading alone is refused by 12, then 10, then 9. The source part of a
+ * text is refused by 1 to 8, then 12, 10, 11 and 9. 13 and 14 are
  * pddl's, in that order, after 1 to 6; 15 is settle's, after 1 to 6. A spelling is refused by 1 to 6, and then by 9; a report as
  * walk is, and then by 9; a task with single literals by 1 to 6, then 17, then 8, then 9; a search by 1 to 6, then 13, then 16. A
  * week is refused by 1 to 6, then by 18, then by 10 and 11 of its plans: the first such plan decides, 10 before 11 on one plan, and
@@ -206,6 +207,15 @@ uint32_t route_rules_write_plan(const uint8_t *plan, size_t plan_length, uint8_t
 /* Walks the plan in a text on the task in a file: a verdict, or refused by 1 to 6, 12, 10 or 11. */
 uint32_t route_rules_walk_text(const uint8_t *file, size_t file_length, const uint8_t *text, size_t text_length,
                                route_rules_walked *answer);
+
+/* Reads what a planner prints for the translation of the task in a file, as route_rules_read_plan does, and writes its source part: the
+ * steps below A, in their order, one byte each, into the first `length` bytes of the output and no others. Or it is refused by 1 to 8 as
+ * translating is, by 12 or 10, by 11 where a step is not below A + 2 * P + 1, or by 9, and the output is as it was.
+ *
+ * Where the printed list solves the task that route_rules_translate writes, the plan written solves the source task, and walking and
+ * settling it gives a metric that is what the list costs. */
+uint32_t route_rules_source(const uint8_t *file, size_t file_length, const uint8_t *text, size_t text_length, uint8_t *out,
+                            size_t out_length, route_rules_length *answer);
 
 /* The lengths in bytes of the two texts. */
 typedef struct route_rules_texts {

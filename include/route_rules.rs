@@ -224,6 +224,15 @@ extern "C" {
         text_length: usize,
         answer: *mut Answer,
     ) -> u32;
+    fn route_rules_source(
+        file: *const u8,
+        file_length: usize,
+        text: *const u8,
+        text_length: usize,
+        out: *mut u8,
+        out_length: usize,
+        answer: *mut Answer,
+    ) -> u32;
     fn route_rules_pddl(
         file: *const u8,
         file_length: usize,
@@ -361,6 +370,16 @@ pub fn walk(file: &[u8], plan: &[u8]) -> Result<Walked, Refusal> {
 /// Walks the plan in a text on the task in a file: a verdict, or refused by 1 to 6, 12, 10 or 11.
 pub fn walk_text(file: &[u8], text: &[u8]) -> Result<Walked, Refusal> {
     walked(route_rules_walk_text, file, text)
+}
+
+/// Reads what a planner prints for the translation of the task in a file, writes its source part, one byte a step, into the start of the
+/// output, and answers its length; or it is refused by 1 to 8, 12, 10, 11 (a step not below A + 2 * P + 1) or 9, and the output is as it
+/// was. Where the printed list solves the translation, the plan solves the source task, and its metric is what the list costs.
+pub fn source(file: &[u8], text: &[u8], out: &mut [u8]) -> Result<usize, Refusal> {
+    let words = answered(|answer| unsafe {
+        route_rules_source(file.as_ptr(), file.len(), text.as_ptr(), text.len(), out.as_mut_ptr(), out.len(), answer)
+    })?;
+    Ok(words[1] as usize)
 }
 
 /// Settles a cost and met preferences on the task in a file: those that `walk` gave, or any others. Preference k is met where bit
