@@ -46,6 +46,10 @@ pub fn write_plan(plan: &[u8], room: usize) -> Left {
     left(room, |out| route_rules::write_plan(plan, out))
 }
 
+pub fn source(file: &[u8], text: &[u8], room: usize) -> Left {
+    left(room, |out| route_rules::source(file, text, out))
+}
+
 pub fn report(file: &[u8], plan: &[u8], room: usize) -> Left {
     left(room, |out| route_rules::report(file, plan, out))
 }

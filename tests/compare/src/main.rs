@@ -11,6 +11,7 @@ mod pddl;
 mod searching;
 mod settling;
 mod singling;
+mod sources;
 mod spelling;
 mod stored;
 mod tally;
@@ -63,6 +64,8 @@ fn everything(first: u64, count: u64) -> Result<(), String> {
         .and_then(|()| losing::compare(first, count / 10))
         .and_then(|()| losing::continuations(first, count / 10))
         .and_then(|()| texts::compare(first, count))
+        .and_then(|()| sources::edges())
+        .and_then(|()| sources::compare(first, count))
         .and_then(|()| pddl::edges())
         .and_then(|()| pddl::compare(first, count / 10))
         .and_then(|()| searching::vectors())
