@@ -1,5 +1,5 @@
 -- The whole answer: its figures keep to what they should, and fit 64 bits.
-use mathlib.Core.Path.{_≡_, refl, subst, _∙_}
+use mathlib.Core.Path.{_≡_, refl, ap, subst, _∙_}
 use mathlib.Core.Bool.{Bool, true, false, not, cond, _&&_, _||_, true≢false}
 use mathlib.Core.List.{List, [], _∷_, map}
 use Prim.Native.Nat.{ℕ, _*_, _≤_, _<_}
@@ -67,6 +67,16 @@ count-plans f = length-map (entries f) (planOf (stepBytes f)) ∙ length-entries
 few-plans : (f : List ℕ) → T (readable f) → length (plans f) ≤ 64
 unfolding readable
 few-plans f t = omega (arith, count-plans f, leb→le (count f) 64 (search tests))
+
+-- the numbers of plans and of preferences
+pub week-few : (b f : List ℕ) → IfGiven (λ (x : Figures). (count f ≤ 64) × (sizes b .preferences ≤ 16)) (weekOf b f)
+week-few b f = if-given b f (λ (x : Figures). (count f ≤ 64) × (sizes b .preferences ≤ 16)) on
+  where
+    on : (z : Sizes) → check b ≡ Check.accepted z → T (readable f) → T (noneOf (isFaulty (z .actions)) (plans f))
+        → (count f ≤ 64) × (sizes b .preferences ≤ 16)
+    on z h r n =
+        let s = accepted-spelling b z h in
+        (omega (arith, few-plans f r, count-plans f), omega (arith, Sized.within z (s .allowed) .4, ap (λ (x : Sizes). x .preferences) (s .same)))
 
 fits-in : (M P : ℕ) (xs : List Solution) → length xs ≤ 64 → sum (metrics xs) ≤ M → FitsIn M (figuresOver P xs)
 fits-in M P [] n s = tt
