@@ -18,10 +18,10 @@ use Rattle.plan_lines.proofs.Splitting.{isNewline, oneLine, line-ended,
 
 -- The line of step n
 
-digit-inside : (b : ℕ) → T (isDigit b) → T (without isNewline b)
+pub digit-inside : (b : ℕ) → T (isDigit b) → T (without isNewline b)
 digit-inside b d = rw (ne-eqb b NEWLINE (λ e. never d (ap isDigit e))) tt
 
-one-line : (n : ℕ) → T (oneLine (stepLine n))
+pub one-line : (n : ℕ) → T (oneLine (stepLine n))
 unfolding stepLine
 one-line n =
     let ds : T (noneOf isNewline (decimal n)) = all-implies isDigit (without isNewline) digit-inside (decimal n) (as-T (decimal-digits n)) in
