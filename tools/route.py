@@ -233,8 +233,8 @@ def draw_rule(picture, of, k, y, height, facts):
         x, lost = right + COLUMN * i, of.is_lost[k][i]
         picture.box(x, y, COLUMN, height, 'url(#lost)' if lost else 'white', stroke=GRID)
         if lost and not (i and of.is_lost[k][i - 1]):
-            picture.text(x + COLUMN / 2, y + LINE - 3, 'broken' if hard else f'lost {rule.weight}', text_anchor='middle', font_weight='bold', font_size=10.5,
-                         paint_order='stroke', stroke='white', stroke_width=3)
+            picture.text(x + COLUMN / 2, y + LINE - 3, 'broken' if hard else f'lost {rule.weight}', text_anchor='middle', font_weight='bold',
+                         font_size=10.5, paint_order='stroke', stroke='white', stroke_width=3)
         for line, (_, _, truth) in enumerate(conditions, 2):
             picture.dot(x + COLUMN / 2, y + line * LINE - 4, truth[i])
     if of.met is not None:

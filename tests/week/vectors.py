@@ -58,7 +58,8 @@ def files():
             ('start and length over 16 bits', plans_file([(65535, 1)], [0] * 65536), 'plans 1'),
             ('one step less', plans_file([(65535, 1)], [0] * 65535), 'refused 18 0'),
             ('length over 16 bits together', plans_file([(1, 65535)], [0] * 65535), 'refused 18 0'),
-            ('a start of 256', plans_file([(256, 1)], [1] * 256 + [0]), 'plans 1'), ('a start of 1 among them', plans_file([(1, 1)], [1] * 256 + [0]), 'plans 1')]:
+            ('a start of 256', plans_file([(256, 1)], [1] * 256 + [0]), 'plans 1'),
+            ('a start of 1 among them', plans_file([(1, 1)], [1] * 256 + [0]), 'plans 1')]:
         yield what, belt, plans, answer
 
 
