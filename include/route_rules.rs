@@ -377,7 +377,15 @@ pub fn walk_text(file: &[u8], text: &[u8]) -> Result<Walked, Refusal> {
 /// was. Where the printed list solves the translation, the plan solves the source task, and its metric is what the list costs.
 pub fn source(file: &[u8], text: &[u8], out: &mut [u8]) -> Result<usize, Refusal> {
     let words = answered(|answer| unsafe {
-        route_rules_source(file.as_ptr(), file.len(), text.as_ptr(), text.len(), out.as_mut_ptr(), out.len(), answer)
+        route_rules_source(
+            file.as_ptr(),
+            file.len(),
+            text.as_ptr(),
+            text.len(),
+            out.as_mut_ptr(),
+            out.len(),
+            answer,
+        )
     })?;
     Ok(words[1] as usize)
 }

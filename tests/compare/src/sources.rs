@@ -45,12 +45,17 @@ fn whole_way(file: &[u8], text: &[u8], part: &[u8]) -> Result<bool, String> {
     };
     let walked = library::walk(file, part).map_err(|why| format!("the source part: {why:?}"))?;
     let Verdict::Solved { cost, met } = walked.verdict else {
-        return Err("the list solves the translation, and its source part does not solve".to_string());
+        return Err(
+            "the list solves the translation, and its source part does not solve".to_string(),
+        );
     };
     let worth = library::settle(file, cost, met).map_err(|why| format!("settle: {why:?}"))?;
     match worth.metric == paid {
         true => Ok(true),
-        false => Err(format!("the list costs {paid}, and its source part comes to {}", worth.metric)),
+        false => Err(format!(
+            "the list costs {paid}, and its source part comes to {}",
+            worth.metric
+        )),
     }
 }
 
@@ -60,7 +65,11 @@ pub fn compare(first: u64, count: u64) -> Result<(), String> {
         let case = case(seed);
         let text = printed(seed, &case.file, &case.plan);
         let at = |why| format!("source part of seed {seed}: {why}");
-        let room = if seed % 5 == 0 { (seed / 5 % 4) as usize } else { 2_048 };
+        let room = if seed % 5 == 0 {
+            (seed / 5 % 4) as usize
+        } else {
+            2_048
+        };
         match same(&case.file, &text, room).map_err(at)? {
             Some(part) => {
                 tally.count("source part");
@@ -79,12 +88,19 @@ pub fn compare(first: u64, count: u64) -> Result<(), String> {
 
 /// Texts and areas at their limits, on the belt.
 pub fn edges() -> Result<(), String> {
-    let belt = std::fs::read(concat!(env!("CARGO_MANIFEST_DIR"), "/../../examples/belt/task")).expect("the belt");
+    let belt = std::fs::read(concat!(
+        env!("CARGO_MANIFEST_DIR"),
+        "/../../examples/belt/task"
+    ))
+    .expect("the belt");
     for (text, rooms) in [
         (b"(a0)\n".repeat(2_048), vec![2_048, 2_047, 0]),
         (b"(a0)\n".repeat(2_049), vec![4_096]),
         (b";".repeat(MAX_TEXT - 1), vec![0]),
-        ([b";".repeat(MAX_TEXT - 1), b"\n".to_vec()].concat(), vec![0]),
+        (
+            [b";".repeat(MAX_TEXT - 1), b"\n".to_vec()].concat(),
+            vec![0],
+        ),
         ([b";".repeat(MAX_TEXT), b"\n".to_vec()].concat(), vec![0]),
         (b"(a6)\n(a7)\n(a255)\n".to_vec(), vec![0, 8]),
         (b"(a256)\n".to_vec(), vec![8]),

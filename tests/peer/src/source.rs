@@ -1,10 +1,10 @@
 //! The way back from a planner: the source part of what it prints for a translation.
 
 use crate::decode::check;
+use crate::meaning::states;
 use crate::random::Random;
 use crate::text;
 use crate::translate::translate;
-use crate::meaning::states;
 use crate::{complete, decode, refuse, Refusal};
 
 /// The source steps of the list in a text over the translation of the task in a file, for an area of `room` bytes, or the refusal
@@ -35,12 +35,16 @@ pub fn printed(seed: u64, file: &[u8], plan: &[u8]) -> Vec<u8> {
         return text::text(seed);
     };
     let all = task.actions.len() + 2 * task.preferences.len() + 1;
-    let known = plan.iter().all(|&step| usize::from(step) < task.actions.len());
+    let known = plan
+        .iter()
+        .all(|&step| usize::from(step) < task.actions.len());
     let list: Vec<usize> = match r.below(10) {
         0..=5 if known && states(&task, plan).is_ok() => complete(&task, plan),
         0..=5 => plan.iter().map(|&step| usize::from(step)).collect(),
         6..=7 => (0..r.below(12)).map(|_| r.below(all)).collect(),
-        8 => (0..r.between(1, 8)).map(|_| r.between(all.max(2) - 2, all + 1)).collect(),
+        8 => (0..r.between(1, 8))
+            .map(|_| r.between(all.max(2) - 2, all + 1))
+            .collect(),
         _ => return text::text(seed),
     };
     let lines = list.iter().map(|step| format!("(a{step})\n"));

@@ -13,8 +13,14 @@ fn refused(number: u8, place: u16) -> Result<Vec<u8>, Refusal> {
 
 #[test]
 fn source_steps_in_their_order() {
-    assert_eq!(source(&belt(), b"(a0)\n(a2)\n(a4)\n(a5)\n; cost = 8\n", 1), Ok(vec![0]));
-    assert_eq!(source(&belt(), b"(a6)\n(a1)\n(a2)\n(a0)\n(a1)\n", 3), Ok(vec![1, 0, 1]));
+    assert_eq!(
+        source(&belt(), b"(a0)\n(a2)\n(a4)\n(a5)\n; cost = 8\n", 1),
+        Ok(vec![0])
+    );
+    assert_eq!(
+        source(&belt(), b"(a6)\n(a1)\n(a2)\n(a0)\n(a1)\n", 3),
+        Ok(vec![1, 0, 1])
+    );
     assert_eq!(source(&belt(), b"", 0), Ok(vec![]));
 }
 
