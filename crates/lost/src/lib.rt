@@ -39,12 +39,7 @@ fn lost_within(file: &[u8], z: Sizes, steps: &[u8]) -> Losses
         return refuse(refused::STEP, known as u16);
     }
     let middle = 8 + z.rows;
-    Losses::Given(lost_run::run_list(
-        &file[8..middle],
-        &file[middle..],
-        z.preferences,
-        steps,
-    ))
+    Losses::Given(lost_run::run_list(&file[8..middle], &file[middle..], z.preferences, steps))
 }
 
 // The cost so far and the lost weights after a list of translated actions of the task in a file, one byte an action.

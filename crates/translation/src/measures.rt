@@ -38,13 +38,7 @@ pub fn measure(file: &[u8]) -> Measured
     }
     let facts = z.facts as u32;
     let preferences = z.preferences as u32;
-    let n = whole::count_rows(
-        &file[8..middle],
-        &file[middle..],
-        p,
-        facts,
-        preferences,
-    );
+    let n = whole::count_rows(&file[8..middle], &file[middle..], p, facts, preferences);
     if limits::MAX_ROWS < n {
         return refuse(refused::TRANSLATION_ROWS);
     }

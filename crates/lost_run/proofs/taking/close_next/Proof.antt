@@ -41,8 +41,7 @@ returns-2 c =
     let r = c .before in
     let e = r .before .before in
     let a = e .before .before .before .before .before .args in
-    let k = a .p .closed in
-    (
+    let k = a .p .closed in (
       c .close .ensures .1,
       λ t q R E.
           let h : k < length (t .preferences) = omega (arith, R .many, e .if1 .left) in

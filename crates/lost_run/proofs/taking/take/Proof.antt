@@ -25,8 +25,7 @@ action ms vs at starts rules t G j h =
 
 returns : tie.Need-returns
 returns c =
-    let i = c .before .before in
-    (
+    let i = c .before .before in (
       c .close-next .ensures .0,
       λ t q G S. c .close-next .ensures .1 t q (G .all-rules)
           (record { stands = S; over = sym (S .running) ∙ not-true _ (i .if1 .taken); actions = G .all-actions }),
@@ -35,8 +34,7 @@ returns c =
 returns-2 : tie.Need-returns-2
 returns-2 c =
     let i = c .before in
-    let a = i .before .before .before .before .before .before .before .args in
-    (
+    let a = i .before .before .before .before .before .before .before .args in (
       tt,
       λ t q G S. beyond t (now (a .ms)) (now (a .ms)) (a .p) q S (sym (S .running) ∙ not-false _ (i .if1 .left)) (a .j)
           (omega (arith, G .all-actions, c .if2 .taken)),
@@ -59,8 +57,7 @@ returns-3 c =
     let w = c .before .before .before in
     let i = w .before .before .before .before in
     let b = i .before .before .before .before .before .before .before in
-    let a = b .args in
-    (
+    let a = b .args in (
       omega arith,
       λ t q G S.
           let l′ = w .watch .last .1 .1 .1 .1 .1 .0 in
@@ -81,8 +78,7 @@ step-requires c κs =
     let t = b .pre .1 .0 in
     let G = b .pre .1 .1 in
     let j = a .j in
-    let h : j < length (now (a .starts)) = omega (arith, f .if2 .left, e .if3 .left) in
-    (
+    let h : j < length (now (a .starts)) = omega (arith, f .if2 .left, e .if3 .left) in (
       (search needs, known (length (now (a .marks))) (now (a .starts)) (b .pre .0 .3) j h _ refl, search needs),
       (t, j, action (now (a .marks)) (now (a .values)) (a .at) (now (a .starts)) (now (a .rules)) t G j h),
     )
@@ -99,8 +95,7 @@ returns-4 c =
     let b = i .before .before .before .before .before .before .before in
     let a = b .args in
     let j = a .j in
-    let h : j < length (now (a .starts)) = omega (arith, f .if2 .left, e .if3 .left) in
-    (
+    let h : j < length (now (a .starts)) = omega (arith, f .if2 .left, e .if3 .left) in (
       c .step .ensures .0,
       λ t q G S.
           let l′ = w .watch .last .1 .1 .1 .1 .1 .0 in
