@@ -10,7 +10,7 @@ use borrow.Author.Tests.{le-leb, lt-leb, leb-true}
 use Rattle.meaning.specs.Task.{Task}
 use Rattle.task.specs.TaskRows.{taskRows}
 use Rattle.task.specs.File
-use Rattle.task.specs.File.{taskOf}
+use Rattle.task.specs.File.{sizes, taskOf}
 use Rattle.task.specs.Check
 use Rattle.task.specs.Check.{Answer, check}
 use Rattle.task.specs.Answers.{answer as checked, asSizes, refusalIn}
@@ -23,6 +23,7 @@ use Rattle.task.proofs.Answered.{passed-on}
 use Rattle.classical.specs.Translation.{further, translated, compiledRows}
 use Rattle.writer.specs.Writer.{rowAfter}
 use Rattle.outcome.specs.Outcome
+use Rattle.outcome.specs.Outcome.{Outcome, fitted}
 use Rattle.translation.specs.Whole.{translatedRows}
 use Rattle.translation.specs.declared.places.Places.{Places}
 use Rattle.translation.specs.Translated.{smallEnough, rowsFitted, outcomeBy, outcome}
@@ -109,3 +110,31 @@ translatable b z e = by-answer (check b) refl e
               few-actions = leb-true (y .actions + 2 * y .preferences + 1) 128 q;
               few-rows = leb-true (compiledRows b) 12000 r;
             })
+
+-- 1 to 8 are refused alike with every area
+
+asOutcome : Measured → Outcome
+asOutcome (within z) = Outcome.written 0
+asOutcome (refused n i) = Outcome.refused n i
+
+pub refused-alike : (b : List ℕ) (n i : ℕ) → measured b ≡ refused n i → (room : ℕ) → outcome b room ≡ Outcome.refused n i
+unfolding outcome measured isWithin asOutcome
+refused-alike b n i e room = by-answer (check b) e
+  where
+    by-rows : (x : Bool) → leb (compiledRows b) 12000 ≡ x
+        → measuredBy b (cond x (fitted (8 + 5 * compiledRows b) 60008) (Outcome.refused 8 0)) ≡ refused n i
+        → cond x (fitted (8 + 5 * compiledRows b) room) (Outcome.refused 8 0) ≡ Outcome.refused n i
+    by-rows true q e =
+        let fits : 8 + 5 * compiledRows b ≤ 60008 = omega (arith, leb-true (compiledRows b) 12000 q) in
+        let f : within (sizes b) ≡ refused n i = (rw (le-leb (8 + 5 * compiledRows b) 60008 fits) at e) in
+        absurd (true≢false (ap isWithin f))
+    by-rows false q e = ap asOutcome e
+
+    by-sizes : (x : Bool) → measuredBy b (cond x (rowsFitted (compiledRows b) 60008) (Outcome.refused 7 0)) ≡ refused n i
+        → cond x (rowsFitted (compiledRows b) room) (Outcome.refused 7 0) ≡ Outcome.refused n i
+    by-sizes true e = by-rows (leb (compiledRows b) 12000) refl e
+    by-sizes false e = ap asOutcome e
+
+    by-answer : (a : Answer) → by b a ≡ refused n i → outcomeBy b room a ≡ Outcome.refused n i
+    by-answer (Check.refused m j) e = ap asOutcome e
+    by-answer (Check.accepted z) e = by-sizes (smallEnough z (further (taskOf b .preferences))) e
