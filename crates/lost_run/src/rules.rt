@@ -3,14 +3,15 @@ ghost use mathlib.Core.Path.{_≡_};
 ghost use Prim.Native.Nat.{ℕ, _<_};
 ghost use lib.ListN.{length};
 ghost use Rattle.meaning.specs.Task.{Task, Preference};
-ghost use Rattle.task.specs.File.{kindOf};
+ghost use Rattle.task.specs.Answers.{asKind};
 ghost use Rattle.task.specs.Rows.{Rows};
 ghost use Rattle.monitor.specs.Packed.{monitorAt};
 ghost use Rattle.losses.specs.Losses.{shows};
 ghost use Rattle.losses.specs.Following.{Position, lostHere};
 ghost use Rattle.lost_run.specs.Run.{RuleAt, SeenBy, lostOf, SomeRules, Rules, Kept};
 use monitor::Monitor;
-use task::marks;
+use task::kinds;
+use task::kinds::Kind;
 use task::rows;
 
 // A rule with its monitor: whether it is met, and whether it is shown broken.
@@ -21,15 +22,19 @@ pub struct Rule {
     pub broken: bool,
 }
 
-// Whether a monitor shows its rule broken, by the mark of a soft one.
-fn is_broken(mark: u8, m: Monitor) -> bool
-    ensures { λ r. ⌜ ((t : ℕ) → r ≡ shows (kindOf mark t) (m .s) (m .b)) ⌝ }
+// Whether a monitor shows its rule broken.
+fn is_broken(kind: Kind, m: Monitor) -> bool
+    ensures { λ r. ⌜ r ≡ shows (asKind kind) (m .s) (m .b) ⌝ }
 {
-    match mark {
-        marks::ALWAYS => m.b,
-        marks::AT_MOST_ONCE => m.b & !m.s,
-        marks::SOMETIME_BEFORE => m.b,
-        _ => false,
+    match kind {
+        Kind::Always => m.b,
+        Kind::Sometime => false,
+        Kind::AtEnd => false,
+        Kind::AtMostOnce => m.b & !m.s,
+        Kind::SometimeBefore => m.b,
+        Kind::SometimeAfter => false,
+        Kind::Within(_) => false,
+        Kind::AlwaysWithin(_) => false,
     }
 }
 
@@ -38,14 +43,13 @@ pub fn rule_at(marks: &[u8], values: &[u8], from: usize, k: usize, ms: &[u8]) ->
     requires { ⌜ Rows (now marks) (now values) × (from < length (now marks)) × (k < 16) ⌝ }
     ensures { λ r. ⌜ ((q : Preference) → RuleAt (now (marks .entry)) (now (values .entry)) from q → SeenBy q (monitorAt (now (ms .entry)) k) r) ⌝ }
 {
-    let mark = marks[from];
-    let soft = task::soft_mark(mark);
+    let kind = kinds::kind_at(marks, values, from);
     let m = monitor::monitor_at(ms, k as u32);
     Rule {
-        hard: task::opens_hard(mark),
+        hard: task::opens_hard(marks[from]),
         weight: rows::value_at(values, from),
-        met: monitor::is_accepting(soft, m),
-        broken: is_broken(soft, m),
+        met: monitor::is_accepting(kind, m),
+        broken: is_broken(kind, m),
     }
 }
 
