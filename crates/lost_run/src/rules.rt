@@ -1,6 +1,6 @@
 // The rules of a task with their monitors: which are met, and which are lost.
 ghost use mathlib.Core.Path.{_≡_};
-ghost use Prim.Native.Nat.{ℕ, _<_};
+ghost use Prim.Native.Nat.{_<_};
 ghost use lib.ListN.{length};
 ghost use Rattle.meaning.specs.Task.{Task, Preference};
 ghost use Rattle.task.specs.Answers.{asKind};
