@@ -115,10 +115,9 @@ pub record Setting (ms vs : List ℕ) (at : ℕ) (starts rules : List ℕ) (t : 
   pub actions : Noted t starts
   pub all-rules : Rules ms vs rules t
 
--- and its opening state
-pub record Begun (ms vs : List ℕ) (at : ℕ) (starts rules : List ℕ) (s : State) (t : Task) : Type 0 where
-  pub setting : Setting ms vs at starts rules t
-  pub opens : member s ≡ opening t
+-- s is the opening state of t
+abbrev pub Opens : State → Task → Type 0
+Opens s t = member s ≡ opening t
 
 -- the rows spell t, which has n rules
 pub record Source (ms vs : List ℕ) (n : ℕ) (t : Task) : Type 0 where

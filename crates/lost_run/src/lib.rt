@@ -8,7 +8,7 @@ ghost use Rattle.meaning.specs.Task.{Task};
 ghost use Rattle.task.specs.Rows.{Rows};
 ghost use Rattle.layout.specs.Actions.{actionsFrom, AllBelow};
 ghost use Rattle.plan.specs.Steps.{AllFresh};
-ghost use Rattle.lost_run.specs.Run.{Source, Begun, RunAs};
+ghost use Rattle.lost_run.specs.Run.{Setting, Opens, Source, RunAs};
 use layout::actions;
 use layout::sides;
 use plan::steps;
@@ -42,8 +42,9 @@ fn follow(
     ms: &mut [u8],
 ) -> Run
     requires { ⌜ Rows (now marks) (now values) × (length (now list) ≤ 2048) × AllFresh (now ms) ⌝ }
-    requires { ⌜ AllBelow (length (now marks)) (now starts) × ((t : Task) × Begun (now marks) (now values) at (now starts) (now rules) s t) ⌝ }
-    ensures { λ r. ⌜ ((t : Task) → Begun (now (marks .entry)) (now (values .entry)) at (now (starts .entry)) (now (rules .entry)) s t → RunAs t (now (list .entry)) r) ⌝ }
+    requires { ⌜ AllBelow (length (now marks)) (now starts) × ((t : Task) × Setting (now marks) (now values) at (now starts) (now rules) t × Opens s t) ⌝ }
+    ensures { λ r. ⌜ ((t : Task) → Setting (now (marks .entry)) (now (values .entry)) at (now (starts .entry)) (now (rules .entry)) t
+        → Opens s t → RunAs t (now (list .entry)) r) ⌝ }
 {
     let mut p = Place {
         state: s,

@@ -15,7 +15,7 @@ use Rattle.layout.specs.Sides.{startsFrom}
 use Rattle.layout.proofs.ActionRows.{within-rows, as-many, noted}
 use Rattle.monitor.proofs.Packing.{fresh-at}
 use Rattle.plan.proofs.TaskRead.{opening-read, preferences-read}
-use Rattle.lost_run.specs.Run.{Source, Rules, Begun}
+use Rattle.lost_run.specs.Run.{Rules, Setting, Opens, Source}
 use Rattle.lost_run.proofs.Noting.{noted-rules}
 use Rattle.lost_run.proofs.run_list.Statement.{statement}
 use Rattle.lost_run.proofs.run_list.Tie as tie
@@ -39,8 +39,8 @@ begun : (c : tie.After-note-starts) → let n = c .before .before .before in
     let o = p .before in
     let b = o .before .before .before .before in
     (t : Task) → Source (now (b .args .marks)) (now (b .args .values)) (b .args .many) t
-    → Begun (now (b .args .marks)) (now (b .args .values)) (p .first-preference .result) (take (n .note-actions .result - 0) (n .note-actions .last .1 .0))
-    (take (b .args .many - 0) (c .note-starts .last .1 .1 .1 .0)) (o .opening .result .state) t
+    → Setting (now (b .args .marks)) (now (b .args .values)) (p .first-preference .result) (take (n .note-actions .result - 0) (n .note-actions .last .1 .0))
+    (take (b .args .many - 0) (c .note-starts .last .1 .1 .1 .0)) t × Opens (o .opening .result .state) t
 begun c t S =
     let n = c .before .before .before in
     let p = n .before .before in
@@ -49,19 +49,17 @@ begun c t S =
     let ms = now (b .args .marks) in
     let vs = now (b .args .values) in
     let there = subst⁻¹ (PreferencesAt t ms vs) (p .first-preference .ensures .0) (preferences-read t ms vs (S .spells)) in
-    let all = ap length (acting n) ∙ as-many t ms vs (S .spells) in
-    record {
-      setting =
-          record {
-            spells = S .spells;
-            preferences = there;
-            all-actions = all;
-            few-actions = omega (arith, ap length (acting n), b .pre .0 .2);
-            actions = λ k h. ap (λ (l : List ℕ). getD l k 0) (acting n) ∙ noted t ms vs (S .spells) k h;
-            all-rules = subst⁻¹ (λ (l : List ℕ). Rules ms vs l t) (ruling c) (noted-rules t ms vs (S .spells) (p .first-preference .result) there (b .args .many) (S .many));
-          };
-      opens = ap (λ (r : Result). r .state) (o .opening .ensures ∙ opening-read t ms vs (S .spells));
-    }
+    let all = ap length (acting n) ∙ as-many t ms vs (S .spells) in (
+      record {
+        spells = S .spells;
+        preferences = there;
+        all-actions = all;
+        few-actions = omega (arith, ap length (acting n), b .pre .0 .2);
+        actions = λ k h. ap (λ (l : List ℕ). getD l k 0) (acting n) ∙ noted t ms vs (S .spells) k h;
+        all-rules = subst⁻¹ (λ (l : List ℕ). Rules ms vs l t) (ruling c) (noted-rules t ms vs (S .spells) (p .first-preference .result) there (b .args .many) (S .many));
+      },
+      ap (λ (r : Result). r .state) (o .opening .ensures ∙ opening-read t ms vs (S .spells)),
+    )
 
 note-starts-requires : tie.Need-note-starts-requires
 note-starts-requires c κs =
@@ -82,13 +80,16 @@ follow-requires c κs =
     let s = c .before .before .before .before .before .before in
     let n = s .before .before .before in
     let b = n .before .before .before .before .before .before .before in
-    let ms = now (b .args .marks) in (
+    let ms = now (b .args .marks) in
+    let g = begun s (b .pre .1 .0) (b .pre .1 .1) in (
       (b .pre .0 .0, b .pre .0 .1, record { sixteen = refl; seen-none = fresh-at 16 }),
-      (subst⁻¹ (AllBelow (length ms)) (acting n) (within-rows ms), (b .pre .1 .0, begun s (b .pre .1 .0) (b .pre .1 .1))),
+      (subst⁻¹ (AllBelow (length ms)) (acting n) (within-rows ms), (b .pre .1 .0, g .0, g .1)),
     )
 
 returns : tie.Need-returns
-returns c = λ t S. c .before .follow .ensures t (begun (c .before .before .before .before .before .before .before .before) t S)
+returns c = λ t S.
+    let g = begun (c .before .before .before .before .before .before .before .before) t S in
+    c .before .follow .ensures t (g .0) (g .1)
 
 pub run-list-spec : {M : Type 1} → statement M
 run-list-spec =
