@@ -1,22 +1,22 @@
 -- Turn by turn, what the code holds is what the search has left to do.
 use mathlib.Core.Path.{_≡_, refl, sym, _∙_, ap, subst, fun-ext}
 use mathlib.Core.Bool.{Bool, true, false, not, cond, _&&_, _||_, and-false}
-use mathlib.Core.List.{List}
+use mathlib.Core.List.{List, [], _∷_}
 use mathlib.Core.Option.{some}
 use Prim.Native.Nat.{ℕ, suc, _+_, _-_, _<_, _≤_}
-use native.Mathlib.Decide.{decLt}
 use native.Mathlib.Omega.{arith}
-use lib.Dec.{T, eqb, ltb, leb→le}
-use lib.ListN.{length, List·getD-eq-default}
+use lib.Dec.{T, eqb, ltb}
+use lib.ListN.{length}
 use borrow.Author.Tests.{le-leb, lt-leb}
-use Rattle.lists.proofs.Tests.{tests, not-both, all-at}
-use Rattle.meaning.specs.Task.{Task, Action}
-use Rattle.meaning.specs.Meaning.{isTrue, noAction, actionAt}
+use Rattle.lists.proofs.Tests.{not-both}
+use Rattle.meaning.specs.Task.{Task}
+use Rattle.meaning.specs.Meaning.{isTrue, actionAt}
 use Rattle.task.specs.Limits.{MAX-AMOUNT}
-use Rattle.task.specs.Spelling.{actionSpellable, spellable}
+use Rattle.task.specs.Spelling.{spellable}
 use Rattle.reading.specs.Conditions.{begin, evaluateAt}
 use Rattle.reading.specs.declared.conditions.Evaluated.{Evaluated}
 use Rattle.plan.proofs.TaskRead.{goal-read}
+use Rattle.plan.proofs.ThenSettled.{cost-bound}
 use Rattle.state.specs.Member.{member}
 use Rattle.searching.specs.Search.{Node, nodeAt, cheapest, tried, Kept, found, no-plan, full, Answer, answer, with-place, goOn, turn, turns, explore}
 use Rattle.searching.specs.Places.{Below}
@@ -44,16 +44,7 @@ pub record Turning (t : Task) (limit m : ℕ) (words table tree : List ℕ) (n :
 
 -- no action costs more than a row can say
 costs-most : (t : Task) → T (spellable t) → (k : ℕ) → actionAt t k .cost ≤ MAX-AMOUNT
-costs-most t s k = go (decLt k (length (t .actions)))
-  where
-    go : Dec (k < length (t .actions)) → actionAt t k .cost ≤ MAX-AMOUNT
-    go (yes h) =
-        let a : T (actionSpellable (actionAt t k)) = all-at actionSpellable (t .actions) k noAction (search tests) h in
-        leb→le (actionAt t k .cost) MAX-AMOUNT (search tests)
-    go (no h) =
-        let l : length (t .actions) ≤ k = omega arith in
-        let e : actionAt t k ≡ noAction = List·getD-eq-default (t .actions) noAction l in
-        subst (λ (a : Action). a .cost ≤ MAX-AMOUNT) (sym e) (omega arith)
+costs-most t s k = omega (arith, cost-bound t s (k ∷ []))
 
 module _ (ms vs starts : List ℕ) (goal limit : ℕ) (start table0 tree0 : List ℕ) (t : Task)
     (O : Opened ms vs starts goal limit start table0 tree0 t) where

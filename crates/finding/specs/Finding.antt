@@ -6,7 +6,6 @@ use lib.Dec.{T}
 use lib.ListN.{length, take, drop}
 use Rattle.meaning.specs.Task.{Task, wellFormed}
 use Rattle.searching.specs.Search.{explore}
-use Rattle.searched.specs.Searched
 use Rattle.searched.specs.Searched.{Answer, Searched, found, no-plan, full, refused, refusal}
 use Rattle.node_words.specs.Words.{nodesOf}
 use Rattle.exploring.specs.Exploring.{asAnswer}
