@@ -40,7 +40,8 @@ pub fn search(file: &[u8], limit: usize, nodes: &mut [u64], plan: &mut [u8; 1023
     ensures { λ r. ⌜ asSearched (now (plan .exit)) (now (nodes .exit)) r ≡ searchFile (now (file .entry)) limit (length (now (nodes .entry)) / 4) ⌝ }
     ensures { λ r. ⌜ LentWords (searchFile (now (file .entry)) limit (length (now (nodes .entry)) / 4) .kept) (now (nodes .entry)) (now (nodes .exit)) ⌝ }
     ensures { λ r. ⌜ now (plan .exit) ≡ planAfter (searchFile (now (file .entry)) limit (length (now (nodes .entry)) / 4) .answer) (now (plan .entry)) ⌝ }
-    ensures { λ r. ⌜ Bounded r × Claim (now (file .entry)) limit (searchFile (now (file .entry)) limit (length (now (nodes .entry)) / 4) .answer) ⌝ }
+    ensures { λ r. ⌜ Claim (now (file .entry)) limit (searchFile (now (file .entry)) limit (length (now (nodes .entry)) / 4) .answer) ⌝ }
+    ensures { λ r. ⌜ Bounded r × (length (now (plan .exit)) ≡ 1023) ⌝ }
 {
     let mut words: [u64; 4096] = [0; 4096];
     let sought = finding::find(file, limit, nodes.len() / 4, &mut words, plan);

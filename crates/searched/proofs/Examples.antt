@@ -11,7 +11,7 @@ use Rattle.searching.proofs.Examples.{has, move}
 use Rattle.searched.specs.Searched.{found, no-plan, full, refused, searchFile}
 
 -- from fact 0 to a goal, directly for 5, or by fact 1 for 4
-abbrev file : ℕ → List ℕ
+abbrev pub file : ℕ → List ℕ
 file goal =
     fileOf (record { facts = 4; start = singleton 0; goal = has goal; actions = move 5 0 2 ∷ move 3 0 1 ∷ move 1 1 2 ∷ []; preferences = [] })
 

@@ -60,6 +60,9 @@ module _ (c : tie.After-nodes-in) where
   roomy : 4 * n ≤ length list
   roomy = omega (arith, fits file limit (length list / 4) words n holds)
 
+  long : length plan ≡ 1023
+  long = let e : length (now (c .before .before .before .before .before .before .before .args .plan)) ≡ 1023 = search needs in c .before .before .find .kept .1 .1 .1 .1 .0 ∙ e
+
 mul-copy-words : tie.Need-mul-copy-words
 mul-copy-words c = record { fits = omega (arith, small (c .before)) }
 
@@ -83,7 +86,7 @@ returns c =
         lent-words (file k) (limit k) (length (list k) / 4) (words k) (list k) after (n k) (holds k) e,
         (
           k .before .before .find .ensures .1 .0,
-          (k .before .before .find .ensures .1 .1 .0, search-claim (file k) (limit k) (length (list k) / 4)),
+          (search-claim (file k) (limit k) (length (list k) / 4), (k .before .before .find .ensures .1 .1 .0, long k)),
         ),
       ),
     )
