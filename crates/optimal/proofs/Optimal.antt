@@ -1,5 +1,5 @@
 -- What translate delivers, searched: by faithfulness and the search's claim.
-use mathlib.Core.Path.{_≡_, refl, sym, _∙_, ap}
+use mathlib.Core.Path.{_≡_, refl, sym, _∙_, ap, subst}
 use mathlib.Core.List.{List}
 use Prim.Native.Nat.{ℕ, _≤_}
 use native.Mathlib.Omega.{arith}
@@ -14,7 +14,7 @@ use Rattle.searching.specs.Claim.{Cheapest}
 use Rattle.searched.specs.Searched.{searchFile}
 use Rattle.searched.specs.Claim.{Claim}
 use Rattle.searched.proofs.Claimed.{search-claim}
-use Rattle.optimal.specs.Optimal.{LeastMetric, Optimal}
+use Rattle.optimal.specs.Optimal.{LeastMetric, Optimal, OptimalOn}
 
 -- a cheapest plan of a faithful task has a source part of least metric
 pub least-source : (s c : Task) → Faithful s c → (x : List ℕ) → Cheapest c x → LeastMetric s (sourcePart s x)
@@ -36,3 +36,6 @@ optimal b area n d limit room =
       priced = λ p c e. sym (d .faithfully .costPreserved p (C .plan p c e .solution)) ∙ C .priced p c e;
       none = λ t f. (λ e. d .faithfully .none .0 (C .none t f .0 e), λ u. C .none t f .1 (d .faithfully .none .1 u));
     }
+
+pub optimal-on : (c : List ℕ) (limit room : ℕ) → OptimalOn c (searchFile c limit room .answer)
+optimal-on c limit room b area n d e = subst (λ (l : List ℕ). Optimal b (searchFile l limit room .answer)) e (optimal b area n d limit room)

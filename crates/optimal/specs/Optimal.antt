@@ -5,10 +5,12 @@ use mathlib.Core.Logic.{_↔_}
 use mathlib.Core.List.{List}
 use Prim.Native.Nat.{ℕ, _≤_}
 use lib.Dec.{T}
+use lib.ListN.{take}
 use Rattle.meaning.specs.Task.{Task}
 use Rattle.meaning.specs.Meaning.{solves, metric}
 use Rattle.task.specs.File.{taskOf}
 use Rattle.classical.specs.Claim.{sourcePart}
+use Rattle.translation.specs.Translated.{Delivered}
 use Rattle.searching.specs.Claim.{Unsolvable}
 use Rattle.searched.specs.Searched.{Answer, found, no-plan, full}
 use Rattle.searched.specs.Claim.{Tried}
@@ -28,3 +30,7 @@ pub record Optimal (b : List ℕ) (x : Answer) : Type 0 where
   pub plan : (p : List ℕ) (c : ℕ) → x ≡ found p c → LeastMetric (taskOf b) (sourcePlan b p)
   pub priced : (p : List ℕ) (c : ℕ) → x ≡ found p c → metric (taskOf b) (sourcePlan b p) ≡ c
   pub none : Tried x → (x ≡ full → ⊥) → (x ≡ no-plan) ↔ Unsolvable (taskOf b)
+
+-- x is so for every source of which the bytes c are the translation
+abbrev pub OptimalOn : List ℕ → Answer → Type 0
+OptimalOn c x = (b area : List ℕ) (n : ℕ) → Delivered b area n → take n area ≡ c → Optimal b x
