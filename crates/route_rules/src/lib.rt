@@ -1,6 +1,6 @@
 // The operations for callers in C and Rust. include/route_rules.h is their header.
 ghost use mathlib.Core.Path.{_≡_};
-ghost use Prim.Native.Nat.{ℕ};
+ghost use Prim.Native.Nat.{ℕ, _/_};
 ghost use lib.ListN.{length};
 ghost use Rattle.report.specs.Report.{reportOn, reportOutcome};
 ghost use Rattle.task.specs.Check.{check};
@@ -24,7 +24,13 @@ ghost use Rattle.plan_text.specs.Outcomes.{readOutcome, stepsIn, writeOutcome, 
 ghost use Rattle.pddl_text.specs.Outcomes.{outcomeOver as texts, domainOver, problemOver};
 ghost use Rattle.figures.specs.Week.{weekOf};
 ghost use Rattle.figures.specs.Promised.{Promised};
-ghost use Rattle.words.specs.Numbers.{call, ofCheck, ofOutcome, ofTexts, ofWalk, ofSettle, ofWeek, ofLosses};
+ghost use Rattle.words.specs.Numbers.{call, ofCheck, ofOutcome, ofTexts, ofWalk, ofSettle, ofWeek, ofLosses, ofSearch};
+ghost use Rattle.searched.specs.Searched.{searchFile};
+ghost use Rattle.searched.specs.Claim.{Claim};
+ghost use Rattle.optimal.specs.Optimal.{OptimalOn};
+ghost use Rattle.finding.specs.Finding.{planAfter};
+ghost use Rattle.cheapest.specs.LentWords.{LentWords};
+use cheapest::plain;
 
 // Checks a task file.
 #[no_mangle]
@@ -142,6 +148,25 @@ pub extern "C" fn route_rules_pddl(
     ensures { λ r. ⌜ now (problem .exit) ≡ problemOver (now (file .entry)) (now (domain .entry)) (now (problem .entry)) ⌝ }
 {
     words::put_texts(pddl_text::write(file, domain, problem), answer)
+}
+
+// Searches the task in a file for a cheapest plan, keeping at most so many nodes. The list `nodes` then begins with the nodes kept, four
+// words for each, and the area `plan` with the plan found. A refusal leaves both as they were.
+#[no_mangle]
+pub extern "C" fn route_rules_search(
+    file: &[u8],
+    limit: u64,
+    nodes: &mut [u64],
+    plan: &mut [u8; 1023],
+    answer: &mut [u64; 8],
+) -> u32
+    ensures { λ r. ⌜ call r (now (answer .exit)) ≡ ofSearch (searchFile (now (file .entry)) limit (length (now (nodes .entry)) / 4)) ⌝ }
+    ensures { λ r. ⌜ LentWords (searchFile (now (file .entry)) limit (length (now (nodes .entry)) / 4) .kept) (now (nodes .entry)) (now (nodes .exit)) ⌝ }
+    ensures { λ r. ⌜ now (plan .exit) ≡ planAfter (searchFile (now (file .entry)) limit (length (now (nodes .entry)) / 4) .answer) (now (plan .entry)) ⌝ }
+    ensures { λ r. ⌜ Claim (now (file .entry)) limit (searchFile (now (file .entry)) limit (length (now (nodes .entry)) / 4) .answer) ⌝ }
+    ensures { λ r. ⌜ OptimalOn (now (file .entry)) (searchFile (now (file .entry)) limit (length (now (nodes .entry)) / 4) .answer) ⌝ }
+{
+    words::put_sought(plain::search(file, limit as usize, nodes, plan), answer)
 }
 
 // Writes the lines of program judge about a plan on the task in a file into the area `out`. A refusal leaves that area as it was.

@@ -41,8 +41,12 @@ use Rattle.plan_text.specs.Outcomes.{planFitted, readBy, readOutcome, writeOutc
 use Rattle.pddl_text.specs.Pddl.{domainText, problemText}
 use Rattle.pddl_text.specs.Outcomes
 use Rattle.pddl_text.specs.Outcomes.{outcomeBy as textsBy, outcome as texts}
+use Rattle.searched.specs.Searched
+use Rattle.searched.specs.Searched.{limitAllowed, searchBy, searchFile}
+use Rattle.searching.specs.Search
+use Rattle.searching.specs.Search.{explore}
 use Rattle.report.specs.Report.{reportOn, reportBy, reportOutcome}
-use Rattle.words.specs.Numbers.{Call, call, ofCheck, ofOutcome, ofTexts, ofWalk, ofSettle, ofWeek, ofLosses}
+use Rattle.words.specs.Numbers.{Call, call, ofCheck, ofOutcome, ofTexts, ofWalk, ofSettle, ofWeek, ofLosses, ofSearch}
 
 -- The number that a call returns, and which answers are no refusals
 
@@ -77,6 +81,12 @@ areFigures (Week.refused n i) = false
 abbrev pub isRun : Answered → Bool
 isRun (Answered.given v) = true
 isRun (Answered.refused n i) = false
+
+abbrev pub isSearched : Searched.Answer → Bool
+isSearched (Searched.found p cost) = true
+isSearched Searched.no-plan = true
+isSearched Searched.full = true
+isSearched (Searched.refused n i) = false
 
 -- Check
 
@@ -261,6 +271,32 @@ settled-done b cost met = go (check b) (check-done b)
     go (Check.refused n i) e = e
     go (Check.accepted z) e = allowed (argumentsAllowed (z .preferences) cost met)
 
+-- Searching
+
+abbrev SearchDone : Searched.Searched → Type 0
+SearchDone x = returnsZero (ofSearch x) ≡ isSearched (x .answer)
+
+search-done : (b : List ℕ) (limit room : ℕ) → SearchDone (searchFile b limit room)
+unfolding searchFile
+search-done b limit room = go (check b) (check-done b)
+  where
+    ended : (o : Search.Outcome) → (ns : List Search.Node) → SearchDone (record { answer = Searched.answerBy o ns; kept = ns })
+    ended (Search.found i) ns = refl
+    ended Search.no-plan ns = refl
+    ended Search.full ns = refl
+
+    tests : (x y : Bool) (s : Searched.Searched) → SearchDone s
+        → SearchDone (cond x (cond y s (Searched.refusal 16 0)) (Searched.refusal 13 0))
+    tests true true s e = e
+    tests true false s e = refl
+    tests false y s e = refl
+
+    go : (a : Answer) → CheckDone a → SearchDone (searchBy b limit room a)
+    go (Check.refused n i) e = e
+    go (Check.accepted z) e =
+        tests (eqb (z .preferences) 0) (limitAllowed limit room) (Searched.searched (explore (taskOf b) limit))
+        (ended (explore (taskOf b) limit .outcome) (explore (taskOf b) limit .nodes))
+
 -- Lists of translated actions
 
 abbrev LossesDone : Answered → Type 0
@@ -324,6 +360,7 @@ pub record ZeroMeansDone (b p t f : List ℕ) (cost : ℕ) (met : ℕ → Bool) 
   pub walking-text : returnsZero (ofWalk (textWalked b t)) ≡ isGiven (textWalked b t)
   pub writing-pddl : returnsZero (ofTexts (texts b room more)) ≡ areWritten (texts b room more)
   pub reckoning : returnsZero (ofWeek (weekOf b f)) ≡ areFigures (weekOf b f)
+  pub searching : returnsZero (ofSearch (searchFile b more room)) ≡ isSearched (searchFile b more room .answer)
   pub reporting : returnsZero (ofOutcome (reportOutcome b p room)) ≡ isWritten (reportOutcome b p room)
   pub losing : returnsZero (ofLosses (answered b p)) ≡ isRun (answered b p)
 
@@ -341,6 +378,7 @@ zero-means-done b p t f cost met room more =
       walking-text = text-done b t;
       writing-pddl = texts-done b room more;
       reckoning = week-done b f;
+      searching = search-done b more room;
       reporting = report-done b p room;
       losing = lost-done b p;
     }

@@ -20,10 +20,13 @@ use Rattle.spelling.specs.Outcome.{outcome as spelled}
 use Rattle.outcome.specs.Outcome
 use Rattle.singling.specs.Singled.{singled}
 use Rattle.singling.specs.Outcome.{outcome as singleOutcome}
-use Rattle.words.specs.Numbers.{Call, call, bits, ofCheck, ofOutcome, ofWalk, ofSettle, ofWeek, ofLosses}
+use Rattle.words.specs.Numbers.{Call, call, bits, ofCheck, ofOutcome, ofWalk, ofSettle, ofWeek, ofLosses, ofSearch}
 use Rattle.translation.specs.Measured.{measured}
 use Rattle.losses.specs.Losses.{lostAfter}
 use Rattle.lost.specs.Answered.{answered}
+use Rattle.searching.specs.Search.{explore}
+use Rattle.searched.specs.Searched.{searchFile}
+use Rattle.searched.proofs.Examples.{file}
 
 pub record Example : Type 0 where
   pub given : Call
@@ -72,8 +75,14 @@ examples =
     ∷ example (ofLosses (answered belt (0 ∷ 2 ∷ 4 ∷ []))) 0 (0 ∷ 1 ∷ 0 ∷ 8 ∷ 0 ∷ 0 ∷ 0 ∷ 0 ∷ [])
     ∷ example (ofLosses (answered belt (0 ∷ 2 ∷ 3 ∷ []))) 0 (0 ∷ 2 ∷ 2 ∷ 0 ∷ 0 ∷ 0 ∷ 0 ∷ 0 ∷ [])
     ∷ example (ofLosses (answered belt (0 ∷ 7 ∷ []))) 11 (1 ∷ 0 ∷ 0 ∷ 0 ∷ 0 ∷ 0 ∷ 0 ∷ 0 ∷ [])
+    -- two steps that cost 4, and three nodes; no plan; a list that is full
+    ∷ example (ofSearch (searchFile (file 2) 3 3)) 0 (0 ∷ 1 ∷ 4 ∷ 2 ∷ 3 ∷ 0 ∷ 0 ∷ 0 ∷ [])
+    ∷ example (ofSearch (searchFile (file 3) 3 3)) 0 (0 ∷ 2 ∷ 0 ∷ 0 ∷ 3 ∷ 0 ∷ 0 ∷ 0 ∷ [])
+    ∷ example (ofSearch (searchFile (file 2) 2 3)) 0 (0 ∷ 3 ∷ 0 ∷ 0 ∷ 2 ∷ 0 ∷ 0 ∷ 0 ∷ [])
+    ∷ example (ofSearch (searchFile (file 2) 4 3)) 16 (0 ∷ 0 ∷ 0 ∷ 0 ∷ 0 ∷ 0 ∷ 0 ∷ 0 ∷ [])
+    ∷ example (ofSearch (searchFile belt 1 1)) 13 (0 ∷ 0 ∷ 0 ∷ 0 ∷ 0 ∷ 0 ∷ 0 ∷ 0 ∷ [])
     ∷ []
 
 pub as-said : map (λ (e : Example). e .given) examples ≡ map (λ (e : Example). call (e .number) (e .words)) examples
-unfolding check checkRows judged verdict literals walked settled bit translated outcome canonical spelled bits weekOf readable singled singleOutcome measured lostAfter answered
+unfolding check checkRows judged verdict literals walked settled bit translated outcome canonical spelled bits weekOf readable singled singleOutcome measured lostAfter answered searchFile explore
 as-said = refl

@@ -6,3 +6,4 @@ pub mod Unchanged
 pub mod Done
 -- What the code answers
 pub mod Bits
+pub mod Sought

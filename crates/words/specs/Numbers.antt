@@ -3,6 +3,7 @@
 use mathlib.Core.Bool.{Bool, cond}
 use mathlib.Core.List.{List, [], _∷_, map}
 use Prim.Native.Nat.{ℕ, zero, suc, _+_, _*_, _-_, _^_}
+use lib.ListN.{length}
 use lib.IntN.{ℤ, pos, negsuc}
 use lib.ListN.{getD, replicate}
 use Rattle.lists.specs.Lists.{range}
@@ -19,6 +20,10 @@ use Rattle.losses.specs.Losses
 use Rattle.losses.specs.Losses.{Lost}
 use Rattle.lost.specs.Answered
 use Rattle.lost.specs.Answered.{Answered}
+use Rattle.searched.specs.Searched
+use Rattle.searched.specs.Searched.{found, no-plan, full}
+use Rattle.finding.specs.declared.Sought.{Sought}
+use Rattle.finding.specs.declared.Sought.the-variants.{Found, NoPlan, Full, Refused}
 use Rattle.outcome.specs.Outcome
 use Rattle.outcome.specs.Outcome.{Outcome, written}
 
@@ -96,3 +101,21 @@ ofLost (Losses.stopped step) = answered 2 step 0 0 0 0 0
 abbrev pub ofLosses : Answered → Call
 ofLosses (Answered.given v) = ofLost v
 ofLosses (Answered.refused n i) = refusal n i
+
+-- word 1 is what a search came to: 1 found, 2 none, 3 full. Words 2 and 3 are cost and length of a plan found, word 4 is how many nodes
+-- were kept
+abbrev pub ofFound : Searched.Answer → ℕ → Call
+ofFound (found p cost) nodes = answered 1 cost (length p) nodes 0 0 0
+ofFound no-plan nodes = answered 2 0 0 nodes 0 0 0
+ofFound full nodes = answered 3 0 0 nodes 0 0 0
+ofFound (Searched.refused n i) nodes = refusal n i
+
+abbrev pub ofSearch : Searched.Searched → Call
+ofSearch x = ofFound (x .answer) (length (x .kept))
+
+-- the same of what `find` answers
+abbrev pub ofSought : Sought → Call
+ofSought (Found r nodes) = answered 1 (r .cost) (r .steps) nodes 0 0 0
+ofSought (NoPlan nodes) = answered 2 0 0 nodes 0 0 0
+ofSought (Full nodes) = answered 3 0 0 nodes 0 0 0
+ofSought (Refused r) = refusal (r .number) (r .place)

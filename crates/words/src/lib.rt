@@ -14,9 +14,10 @@ ghost use Rattle.pddl_text.specs.Answers.{answer as asTexts};
 ghost use Rattle.figures.specs.Week.{refused as refusedWeek};
 ghost use Rattle.weekly.specs.Answers.{figuresAs, reckonedAs};
 ghost use Rattle.weekly.specs.declared.Figures.the-variants.{Solve};
-ghost use Rattle.words.specs.Numbers.{call, refusal, answered, ofCheck, ofOutcome, ofTexts, ofVerdict, ofWalk, ofSettle, ofWeek, signed, ofLost, ofLosses};
+ghost use Rattle.words.specs.Numbers.{call, refusal, answered, ofCheck, ofOutcome, ofTexts, ofVerdict, ofWalk, ofSettle, ofWeek, signed, ofLost, ofLosses, ofSought};
 use lost::Losses;
 use lost_run::Run;
+use finding::Sought;
 use outcome::Outcome;
 use plan::Solution;
 use plan::Verdict;
@@ -40,6 +41,13 @@ const RULE_MISSED: u64 = 4;
 
 // Word 1 of a list whose every step applies; one that stops has STOPPED.
 const RUN: u64 = 1;
+
+// Word 1 of a search.
+const FOUND: u64 = 1;
+
+const NONE: u64 = 2;
+
+const FULL: u64 = 3;
 
 // Writes a refusal, and returns its number.
 fn put_refusal(f: Refusal, answer: &mut [u64; 8]) -> u32
@@ -226,5 +234,16 @@ pub fn put_losses(l: Losses, answer: &mut [u64; 8]) -> u32
     match l {
         Losses::Given(x) => put_run(x, answer),
         Losses::Refused(f) => put_refusal(f, answer),
+    }
+}
+
+pub fn put_sought(s: Sought, answer: &mut [u64; 8]) -> u32
+    ensures { λ r. ⌜ call r (now (answer .exit)) ≡ ofSought s ⌝ }
+{
+    match s {
+        Sought::Found(r, n) => put_values(answer, FOUND, r.cost, r.steps as u64, n as u64, 0, 0),
+        Sought::NoPlan(n) => put_values(answer, NONE, 0, 0, n as u64, 0, 0),
+        Sought::Full(n) => put_values(answer, FULL, 0, 0, n as u64, 0, 0),
+        Sought::Refused(f) => put_refusal(f, answer),
     }
 }

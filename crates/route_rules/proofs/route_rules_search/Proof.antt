@@ -1,0 +1,36 @@
+-- The words are put_sought's of what cheapest answers, and the list and the area are as it leaves them.
+use mathlib.Core.Path.{_∙_, ap}
+use denote.Ref.{now}
+use Prim.Native.Nat.{_/_}
+use lib.ListN.{length}
+use Rattle.optimal.proofs.Optimal.{optimal-on}
+use Rattle.words.specs.Numbers.{ofSearch}
+use Rattle.words.proofs.Sought.{sought-words}
+use borrow.Author.Needs.{needs}
+use Rattle.route_rules.proofs.route_rules_search.Statement.{statement}
+use Rattle.route_rules.proofs.route_rules_search.Tie as tie
+
+search-requires : tie.Need-search-requires
+search-requires c κs = search needs
+
+put-sought-requires : tie.Need-put-sought-requires
+put-sought-requires c κs = search needs
+
+same-length : tie.Need-same-length
+same-length c = search needs
+
+returns : tie.Need-returns
+returns c =
+    let k = c .before .before .before .before in
+    let a = k .before .before .before .before .before .args in
+    let s = k .search in (
+      c .put-sought .ensures ∙ sought-words (s .last .1 .1 .1 .0) (s .last .1 .1 .0) (s .result) (s .ensures .1 .1 .1 .1 .1) (s .ensures .1 .1 .1 .1 .0) ∙ ap ofSearch (s .ensures .0),
+      (
+        s .ensures .1 .0,
+        (s .ensures .1 .1 .0, (s .ensures .1 .1 .1 .0, optimal-on (now (a .file)) (a .limit) (length (now (a .nodes)) / 4))),
+      ),
+    )
+
+pub route-rules-search-spec : {M : Type 1} → statement M
+route-rules-search-spec =
+    tie.close (tie.spec search-requires put-sought-requires same-length returns)
