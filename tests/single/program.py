@@ -3,7 +3,7 @@
 
 tests/single/program.py PROGRAM     PROGRAM is target/bin/single
 
-Effects and their choices are written out here row by row. Those of the examples, of check's vectors and of random tasks are held to the
+Effects and their choices are written out in cases.py row by row. Those of the examples, of check's vectors and of random tasks are held to the
 account in shared/singling.py.
 """
 import os
@@ -13,40 +13,15 @@ sys.path.insert(0, os.path.dirname(os.path.dirname(os.path.abspath(__file__))))
 from shared import stored
 from shared.chance import Chance
 from shared.expected import expect
-from shared.files import BELT, HARD, MOST, SOFT, file, goal, words
+from shared.files import BELT, HARD, SOFT, file, goal, words
 from shared.programs import FOLDER, Link, faults, run
 from shared.singling import singled
 from shared.tasks import random_tasks
+from cases import AROUND, EFFECTS, wide
 
 ROOT = os.path.dirname(os.path.dirname(os.path.dirname(os.path.abspath(__file__))))
 sys.path.append(os.path.join(ROOT, 'tools'))
 import task as tool
-
-# Effects in words, and what becomes of them.
-EFFECTS = [
-    ('EFFECT', 'EFFECT'), ('EFFECT ADD 2 ADD 1 DELETE 2', 'EFFECT ADD 2 ADD 1 DELETE 2'),
-    ('EFFECT CLAUSE HOLDS 1 CLAUSE LACKS 2 ADD 3', 'EFFECT CLAUSE HOLDS 1 CLAUSE LACKS 2 ADD 3'),
-    ('EFFECT CLAUSE HOLDS 1 LACKS 2 ADD 3 ADD 3 DELETE 1 DELETE 0',
-     'EFFECT CLAUSE HOLDS 1 ADD 3 ADD 3 DELETE 1 DELETE 0 EFFECT CLAUSE LACKS 2 ADD 3 ADD 3 DELETE 1 DELETE 0'),
-    ('EFFECT CLAUSE HOLDS 0 LACKS 1 CLAUSE HOLDS 2 LACKS 3',
-     'EFFECT CLAUSE HOLDS 0 CLAUSE HOLDS 2 EFFECT CLAUSE HOLDS 0 CLAUSE LACKS 3 '
-     'EFFECT CLAUSE LACKS 1 CLAUSE HOLDS 2 EFFECT CLAUSE LACKS 1 CLAUSE LACKS 3'),
-    ('EFFECT CLAUSE HOLDS 0 CLAUSE LACKS 3 HOLDS 3 LACKS 3 CLAUSE HOLDS 1 DELETE 0',
-     'EFFECT CLAUSE HOLDS 0 CLAUSE LACKS 3 CLAUSE HOLDS 1 DELETE 0 EFFECT CLAUSE HOLDS 0 CLAUSE HOLDS 3 CLAUSE HOLDS 1 DELETE 0 '
-     'EFFECT CLAUSE HOLDS 0 CLAUSE LACKS 3 CLAUSE HOLDS 1 DELETE 0'),
-    ('EFFECT CLAUSE HOLDS 1 HOLDS 1 ADD 0 EFFECT ADD 2 EFFECT CLAUSE LACKS 1 LACKS 2',
-     'EFFECT CLAUSE HOLDS 1 ADD 0 EFFECT CLAUSE HOLDS 1 ADD 0 EFFECT ADD 2 EFFECT CLAUSE LACKS 1 EFFECT CLAUSE LACKS 2'),
-]
-AROUND = ['GOAL ACTION 5 {}', f'START 0 START 3 GOAL CLAUSE HOLDS 1 LACKS 2 ACTION {MOST} CLAUSE LACKS 1 LACKS 1 {{}}',
-          'GOAL ACTION CLAUSE HOLDS 1 LACKS 2 ACTION 7 {} ACTION 8 CLAUSE LACKS 1 HOLDS 1 EFFECT ADD 1',
-          f'GOAL ACTION 5 {{}} always {MOST} CLAUSE HOLDS 1 LACKS 1 CLAUSE HOLDS 3 LACKS 2',
-          'GOAL ACTION 5 {} hard-always-within STEPS 15 CLAUSE LACKS 0 HOLDS 1 SECOND CLAUSE HOLDS 3 HOLDS 3 at-end 3 CLAUSE HOLDS 0 HOLDS 0']
-
-
-def wide(*lengths):
-    """An effect in words whose clauses have so many literals."""
-    return ' EFFECT' + ''.join(' CLAUSE' + ' HOLDS 3' * length for length in lengths)
-
 
 belt = file(BELT, F=2)
 mixed = file('GOAL CLAUSE LACKS 1 HOLDS 3 ACTION 4 EFFECT CLAUSE HOLDS 0 LACKS 1 ADD 2 DELETE 3')

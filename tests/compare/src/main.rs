@@ -53,6 +53,7 @@ fn everything(first: u64, count: u64) -> Result<(), String> {
         .and_then(|()| spelling::edges())
         .and_then(|()| spelling::compare(first, count))
         .and_then(|()| spelling::properties(first, count / 4))
+        .and_then(|()| singling::vectors())
         .and_then(|()| singling::edges())
         .and_then(|()| singling::compare(first, count / 8))
         .and_then(|()| singling::properties(first, count / 20))

@@ -36,3 +36,8 @@ pub fn hold(
     }
     Ok(())
 }
+
+/// The number of 64 bits at a place of a record.
+pub fn number(record: &[u8], at: usize) -> u64 {
+    u64::from_le_bytes(record[at..at + 8].try_into().expect("8 bytes"))
+}
