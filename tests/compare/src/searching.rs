@@ -1,6 +1,7 @@
 //! Searches for a cheapest plan: the library's answer, plan and nodes beside the independent implementation's.
 
 use crate::library::{self, Found, Node, Refusal, Searched, Verdict, MAX_FOUND, MAX_NODES};
+use crate::stored::{number, Stored};
 use crate::tally::Tally;
 use peer::colliding::{equal_hashes, one_slot};
 use peer::random::{searchable, Random, MAX_FILE};
@@ -232,39 +233,9 @@ fn shown(file: &[u8], limit: u64, room: usize) -> String {
     text
 }
 
-/// The records of a file of vectors, each a length of 32 bits and as many bytes.
-fn records(mut data: &[u8]) -> Vec<&[u8]> {
-    let mut records = vec![];
-    while let Some((length, rest)) = data.split_first_chunk() {
-        let (record, after) = rest.split_at(u32::from_le_bytes(*length) as usize);
-        records.push(record);
-        data = after;
-    }
-    records
-}
-
 /// The library gives the answers that the account in Python and the outside engine gave.
 pub fn vectors() -> Result<(), String> {
-    let stored = |name| {
-        let path = format!("{}/../search/{name}", env!("CARGO_MANIFEST_DIR"));
-        std::fs::read(&path).map_err(|why| format!("{path}: {why}"))
-    };
-    let (data, answers) = (stored("data/vectors")?, stored("stdout")?);
-    let mut left = &answers[..];
-    let records = records(&data);
-    for (number, vector) in records.chunks(2).enumerate() {
-        let word =
-            |at: usize| u64::from_le_bytes(vector[1][at..at + 8].try_into().expect("8 bytes"));
-        let text = shown(vector[0], word(0), word(8) as usize);
-        left = left.strip_prefix(text.as_bytes()).ok_or(format!(
-            "vector {number} of search: the library gives another answer\n{text}"
-        ))?;
-    }
-    println!("vectors of search: {}", records.len() / 2);
-    match left.is_empty() && !records.is_empty() {
-        true => Ok(()),
-        false => Err("answers of search without a vector, or no vector".to_string()),
-    }
+    Stored::read("search")?.hold(|file, of| shown(file, number(of, 0), number(of, 8) as usize))
 }
 
 // ---- the edges
