@@ -1,7 +1,7 @@
 //! Searches for a cheapest plan: the library's answer, plan and nodes beside the independent implementation's.
 
 use crate::library::{self, Found, Node, Refusal, Searched, Verdict, MAX_FOUND, MAX_NODES};
-use crate::stored::{number, Stored};
+use crate::stored::{hold, number};
 use crate::tally::Tally;
 use peer::colliding::{equal_hashes, one_slot};
 use peer::random::{searchable, Random, MAX_FILE};
@@ -235,7 +235,10 @@ fn shown(file: &[u8], limit: u64, room: usize) -> String {
 
 /// The library gives the answers that the account in Python and the outside engine gave.
 pub fn vectors() -> Result<(), String> {
-    Stored::read("search")?.hold(|file, of| shown(file, number(of, 0), number(of, 8) as usize))
+    hold("search", 2, |records| {
+        let (file, of) = (&records[0], &records[1]);
+        Ok(shown(file, number(of, 0), number(of, 8) as usize))
+    })
 }
 
 // ---- the edges
