@@ -7,8 +7,8 @@
  * input as the definitions say (crates/words/specs/Numbers.antt has the words of the answers), always returns, and
  * touches no memory but the areas lent to it. Nothing is kept between calls, so several threads may call at once.
  *
- * An area is a pointer and its length in bytes, or of a list of nodes in words. The pointer is never NULL, also where the length is 0. The areas of one
- * call do not overlap, unless both are only read.
+ * An area is a pointer and its length in bytes, or of a list of nodes in words. The pointer is never NULL, also where the length is
+ * 0. The areas of one call do not overlap, unless both are only read.
  *
  * Every function returns 0, or the number of a refusal, and that is never 0 (crates/words/proofs/Done.antt). It writes
  * every word of the answer: where a call is refused `place` says where and all else is 0, where it is not `place` is 0. A
