@@ -49,9 +49,9 @@ extern "C" {
 #define ROUTE_RULES_MAX_REPORT 2048
 
 /* That no area of these four lengths is refused by 9 or 14 is proved: never-too-short in crates/plan_text/proofs/Longest.antt,
- * crates/translation/proofs/Longest.antt, crates/spelling/proofs/Longest.antt and crates/pddl_text/proofs/Longest.antt, and Longest
- * of report; that no accepted file
- * is longer than MAX_FILE: longest in crates/task/proofs/Longest.antt. */
+ * crates/translation/proofs/Longest.antt, crates/spelling/proofs/Longest.antt, crates/single_effects/proofs/Longest.antt and
+ * crates/pddl_text/proofs/Longest.antt, and Longest of report; that no accepted file is longer than MAX_FILE: longest in
+ * crates/task/proofs/Longest.antt. */
 
 /* Refusals, with their place. 1 to 3 are tried in order. Rows then go from the first; the first faulty row decides, 4 before
  * 5 on one row; 6 comes after all rows. 7 to 9 are translate's, 10 and 11 walk's, in that order, after 1 to 6.
