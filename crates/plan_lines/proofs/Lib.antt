@@ -5,6 +5,7 @@ pub mod Modes
 pub mod Scanning
 pub mod Printing
 pub mod Returned
+pub mod StepLines
 pub mod Comments
 pub mod TwoTexts
 pub mod Examples

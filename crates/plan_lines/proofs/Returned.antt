@@ -50,7 +50,7 @@ read-back ns h = by-lines (textOf ns) h ∙ lines-back 0 ns
 abbrev pub bytes : List ℕ → Bool
 bytes p = all (λ (n : ℕ). ltb n 256) p
 
-byte-kept : (n : ℕ) → n < 256 → asByte n ≡ n
+pub byte-kept : (n : ℕ) → n < 256 → asByte n ≡ n
 byte-kept n h = go (ltb n 255) refl
   where
     go : (b : Bool) → ltb n 255 ≡ b → cond b n 255 ≡ n

@@ -56,7 +56,7 @@ one-step k n (faulty i) = refl
 abbrev pub countFrom : Scan → Lines → Count
 countFrom s ls = count (s .steps) (readFrom (s .mode) (s .line) ls)
 
-line-end : (m : Mode) (i k : ℕ) (ls : Lines)
+pub line-end : (m : Mode) (i k : ℕ) (ls : Lines)
     → count k (lineBefore i (endOf m) (readFrom Opening (suc i) ls)) ≡ countFrom (nextLine m i k) ls
 line-end Opening i k ls = ap (count k) (sym (from-other i ls))
 line-end Comment i k ls = refl

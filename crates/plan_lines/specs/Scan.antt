@@ -1,11 +1,13 @@
--- The code's way through a text: one byte a turn. What it comes to is said by PlanText, not here.
+-- The code's way through a text: a step's line or one byte a turn. What it comes to is said by PlanText, not here.
+use mathlib.Core.Path.{_≡_}
 use mathlib.Core.Bool.{Bool, true, false, cond}
 use mathlib.Core.List.{List, [], _∷_, _++_}
-use Prim.Native.Nat.{ℕ, suc, _+_, _*_, _-_}
+use Prim.Native.Nat.{ℕ, suc, _+_, _*_, _-_, _≤_}
 use lib.Dec.{eqb}
-use lib.ListN.{length}
-use Rattle.text.specs.Text.{isDigit}
-use Rattle.plan_lines.specs.PlanText.{NEWLINE, SEMICOLON, asByte, Read, plan, faulty}
+use lib.ListN.{length, drop}
+use Rattle.text.specs.Ascii.{ascii}
+use Rattle.text.specs.Text.{decimal, isDigit}
+use Rattle.plan_lines.specs.PlanText.{NEWLINE, SEMICOLON, stepLine, asByte, Read, plan, faulty}
 use Rattle.plan_lines.specs.declared.scan.Mode.{Mode}
 use Rattle.plan_lines.specs.declared.scan.Mode.the-variants.{Opening, Comment, Bracket, Letter, Zero, Digits, Closed, Other}
 use Rattle.plan_lines.specs.declared.scan.Scan.{Scan}
@@ -88,3 +90,20 @@ start = atLine 0 0
 unfoldable pub stepsFrom : Scan → List ℕ → List ℕ
 stepsFrom s [] = []
 stepsFrom s (b ∷ t) = stepAt (s .mode) b ++ stepsFrom (advance s b) t
+
+-- A step's line at once
+
+-- t is `(a`, then n in decimal up to byte k, and then the rest
+pub record Numbered (t : List ℕ) (k n : ℕ) : Type 0 where
+  pub is : t ≡ ascii "(a" ++ (decimal n ++ drop k t)
+
+-- n is the step, and `)` and a newline stand from byte k on, before byte `size`
+pub record Closes (t : List ℕ) (k n step size : ℕ) : Type 0 where
+  pub same : step ≡ n
+  pub ends : drop k t ≡ ascii ")\n" ++ drop size t
+  pub inside : size ≤ length t
+
+-- t begins with the line of step n, which has so many bytes with its newline
+pub record Begins (t : List ℕ) (n size : ℕ) : Type 0 where
+  pub is : t ≡ stepLine n ++ (NEWLINE ∷ drop size t)
+  pub inside : size ≤ length t

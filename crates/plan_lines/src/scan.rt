@@ -1,5 +1,6 @@
-// A plan's text, read byte by byte.
+// A plan's text: the lines of steps read at once, other lines byte by byte.
 ghost use mathlib.Core.Path.{_≡_};
+ghost use mathlib.Core.Bool.{true};
 ghost use Prim.Native.Nat.{_+_, _*_, _-_, _^_, _<_, _≤_};
 ghost use lib.ListN.{length};
 ghost use Rattle.text.specs.Area.{written};
@@ -7,6 +8,7 @@ ghost use Rattle.text.specs.Text.{isDigit};
 ghost use Rattle.plan_lines.specs.PlanText.{asByte, linesOf, readLines};
 ghost use Rattle.plan_lines.specs.declared.scan.Mode.the-variants.{Opening, Letter, Digits};
 ghost use Rattle.plan_lines.specs.Scan.{follow, nextLine, advance, isOpening, count as countOf, counted, begun, stepOf, stepAt, atLine, start, stepsFrom};
+ghost use Rattle.plan_lines.specs.Scan.{Numbered, Closes, Begins};
 
 // What stands of a line: nothing, `;`, `(`, `(a`, `(a0`, `(aN` and `(aN)` with its number, or another form.
 pub enum Mode {
@@ -153,7 +155,92 @@ pub fn between_lines(s: Scan) -> bool
     }
 }
 
-// Counts the steps of a text, up to its faulty line.
+// The line of a step at the start of a text, and how many bytes it has: 0 where no such line was found.
+pub struct StepLine {
+    pub step: u8,
+    pub size: usize,
+}
+
+fn no_line() -> StepLine
+    ensures { λ r. ⌜ r .size ≡ 0 ⌝ }
+{
+    StepLine { step: 0, size: 0 }
+}
+
+// The line of step n, where `)` and a newline stand from byte k on.
+fn closed_line(t: &[u8], k: usize, n: u8) -> StepLine
+    requires { ⌜ k + 2 ≤ length (now t) ⌝ }
+    ensures { λ r. ⌜ (0 < r .size → Closes (now (t .entry)) k n (r .step) (r .size)) ⌝ }
+{
+    if t[k] != b')' {
+        return no_line();
+    }
+    if t[k + 1] != b'\n' {
+        return no_line();
+    }
+    StepLine {
+        step: n,
+        size: k + 2,
+    }
+}
+
+// The line of a step whose number has the first digit given. One of 250 or more is not looked for.
+fn numbered_line(t: &[u8], first: u8) -> StepLine
+    requires { ⌜ (3 ≤ length (now t)) × Numbered (now t) 3 first ⌝ }
+    ensures { λ r. ⌜ (0 < r .size → Begins (now (t .entry)) (r .step) (r .size)) ⌝ }
+{
+    let size = t.len();
+    let mut n = first;
+    let mut k = 3;
+    while 2 <= size - k {
+        let b = t[k];
+        if !is_digit(b) {
+            return closed_line(t, k, n);
+        }
+        if n == 0 {
+            return no_line();
+        }
+        if 24 < n {
+            return no_line();
+        }
+        n = 10 * n + (b - b'0');
+        k += 1;
+    }
+    no_line()
+}
+
+// The line of a step that a text begins with.
+fn step_line(t: &[u8]) -> StepLine
+    ensures { λ r. ⌜ (0 < r .size → Begins (now (t .entry)) (r .step) (r .size)) ⌝ }
+{
+    if t.len() < 5 {
+        return no_line();
+    }
+    if t[0] != b'(' {
+        return no_line();
+    }
+    if t[1] != b'a' {
+        return no_line();
+    }
+    let b = t[2];
+    if !is_digit(b) {
+        return no_line();
+    }
+    numbered_line(t, b - b'0')
+}
+
+// The line of a step that begins here, where no line is begun.
+fn line_here(s: Scan, t: &[u8]) -> StepLine
+    ensures { λ r. ⌜ (0 < r .size → (isOpening (s .mode) ≡ true) × Begins (now (t .entry)) (r .step) (r .size)) ⌝ }
+{
+    if between_lines(s) {
+        step_line(t)
+    } else {
+        no_line()
+    }
+}
+
+// Counts the steps of a text, up to its faulty line: a step's line at once, any other byte by byte.
 pub fn count(text: &[u8]) -> Scan
     ensures { λ r. ⌜ counted r ≡ countOf 0 (readLines 0 (linesOf (now (text .entry)))) ⌝ }
     ensures { λ r. ⌜ r .line + begun (r .mode) ≤ length (now (text .entry)) ⌝ }
@@ -161,8 +248,14 @@ pub fn count(text: &[u8]) -> Scan
     let mut s = at_line(0, 0);
     let mut i = 0;
     while i < text.len() {
-        s = advanced(s, text[i]);
-        i += 1;
+        let l = line_here(s, &text[i..]);
+        if 0 < l.size {
+            s = at_line(s.line + 1, s.steps + 1);
+            i += l.size;
+        } else {
+            s = advanced(s, text[i]);
+            i += 1;
+        }
     }
     s
 }
@@ -198,10 +291,17 @@ pub fn fill(text: &[u8], out: &mut [u8])
     let mut s = at_line(0, 0);
     let mut i = 0;
     while i < text.len() {
-        let b = text[i];
-        let m = s.mode;
-        put_byte(m, b, &mut *out, s.steps);
-        s = advanced(s, b);
-        i += 1;
+        let l = line_here(s, &text[i..]);
+        if 0 < l.size {
+            text::put_byte(&mut *out, s.steps, l.step);
+            s = at_line(s.line + 1, s.steps + 1);
+            i += l.size;
+        } else {
+            let b = text[i];
+            let m = s.mode;
+            put_byte(m, b, &mut *out, s.steps);
+            s = advanced(s, b);
+            i += 1;
+        }
     }
 }

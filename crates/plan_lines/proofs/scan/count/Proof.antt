@@ -1,13 +1,18 @@
--- The count from byte i on is the whole text's, and lines and steps are no more than the bytes passed: Scanning.
+-- The count from byte i on is the whole text's, and lines and steps are no more than the bytes passed: byte by byte by Scanning, and of a
+-- step's line by StepLines.
 use borrow.Author.Needs.{needs}
-use mathlib.Core.Path.{_≡_, _∙_}
-use Prim.Native.Nat.{_-_, _≤_}
+use mathlib.Core.Path.{_≡_, _∙_, subst}
+use mathlib.Core.Bool.{true}
+use mathlib.Core.List.{List}
+use Prim.Native.Nat.{ℕ, _+_, _-_, _≤_}
 use native.Mathlib.Omega.{arith}
 use denote.Ref.{now}
-use lib.ListN.{length, drop, getD}
+use lib.ListN.{length, drop, getD, length-drop}
+use lib.Seq.{take-all}
 use Rattle.plan_lines.specs.PlanText.{linesOf, readLines}
-use Rattle.plan_lines.specs.Scan.{count}
+use Rattle.plan_lines.specs.Scan.{isOpening, count, Begins}
 use Rattle.plan_lines.proofs.Scanning.{countFrom, Passed, passed-start, passed-on, count-start, count-at, count-after}
+use Rattle.plan_lines.proofs.StepLines.{count-past, passed-past}
 use Rattle.plan_lines.proofs.scan.count.Statement.{statement}
 use Rattle.plan_lines.proofs.scan.count.Tie as tie
 
@@ -25,12 +30,59 @@ loop-holds c =
     let t = now (c .before .before .args .text) in
     rw (c .at-line .ensures) (search needs, passed-start, count-start t)
 
-advanced-requires : tie.Need-advanced-requires Inv-loop μ-loop
-advanced-requires c κs = let p = c .before .before .loop .inv .1 in (search needs, search needs)
+-- the line that was found
+begins : (c : tie.Then1 Inv-loop μ-loop) → let k = c .before .before in let l = k .before .before .before in
+    (isOpening (l .loop .s .mode) ≡ true) × Begins (drop (l .loop .i) (now (l .before .before .before .args .text))) (k .line-here .result .step) (k .line-here .result .size)
+begins c =
+    let k = c .before .before in
+    let l = k .before .before .before in
+    let t = now (l .before .before .before .args .text) in
+    let i = l .loop .i in
+    let q = k .line-here .ensures (search needs) in
+    (q .0, subst (λ (x : List ℕ). Begins x (k .line-here .result .step) (k .line-here .result .size)) (take-all (length t - i) (drop i t) (omega (arith, length-drop i t))) (q .1))
+
+-- it ends within the text
+inside : (c : tie.Then1 Inv-loop μ-loop) → let k = c .before .before in let l = k .before .before .before in
+    l .loop .i + k .line-here .result .size ≤ length (now (l .before .before .before .args .text))
+inside c =
+    let k = c .before .before in
+    let l = k .before .before .before in
+    let t = now (l .before .before .before .args .text) in
+    omega (arith, begins c .1 .inside, length-drop (l .loop .i) t, l .loop .inv .0)
+
+add-at-line : tie.Need-add-at-line Inv-loop μ-loop
+add-at-line c = let p = c .before .before .before .before .before .before .loop .inv .1 in search needs
+
+add-at-line-2 : tie.Need-add-at-line-2 Inv-loop μ-loop
+add-at-line-2 c = let p = c .before .before .before .before .before .before .before .loop .inv .1 in search needs
+
+add-i : tie.Need-add-i Inv-loop μ-loop
+add-i c = let h = inside (c .before .before .before .before) in search needs
+
+loop-less : tie.Need-loop-less Inv-loop μ-loop
+loop-less c = let h = inside (c .before .before .before .before) in search needs
 
 loop-again : tie.Need-loop-again Inv-loop μ-loop
 loop-again c =
-    let l = c .before .before .before in
+    let f = c .before .before .before .before in
+    let k = f .before .before in
+    let l = k .before .before .before in
+    let t = now (l .before .before .before .args .text) in
+    let s = l .loop .s in
+    let i = l .loop .i in
+    let z = k .line-here .result .size in
+    rw (c .before .at-line2 .ensures) (
+      inside f,
+      passed-past s i z (search needs) (l .loop .inv .1),
+      count-past s t i (k .line-here .result .step) z (begins f .0) (begins f .1) (search needs) ∙ l .loop .inv .2,
+    )
+
+advanced-requires : tie.Need-advanced-requires Inv-loop μ-loop
+advanced-requires c κs = let p = c .before .before .before .before .before .before .loop .inv .1 in (search needs, search needs)
+
+loop-again-2 : tie.Need-loop-again-2 Inv-loop μ-loop
+loop-again-2 c =
+    let l = c .before .before .before .before .before .before .before in
     let t = now (l .before .before .before .args .text) in
     rw (c .advanced .ensures) (search needs, passed-on (l .loop .s) (getD t (l .loop .i) 0) (l .loop .i) (l .loop .inv .1), count-at (l .loop .s) t (l .loop .i) (search needs) ∙ l .loop .inv .2)
 
@@ -44,5 +96,6 @@ pub count-spec : {M : Type 1} → statement M
 count-spec =
     tie.close
     (tie.spec
-    Inv-loop μ-loop at-line-requires loop-holds (λ c. search needs) advanced-requires (λ c. search needs)
-    (λ c. search needs) loop-again returns)
+    Inv-loop μ-loop at-line-requires loop-holds (λ c. search needs) (λ c. search needs) (λ c. search needs) (λ c κs. search needs)
+    add-at-line add-at-line-2 (λ c κs. search needs) add-i loop-less loop-again (λ c. search needs) advanced-requires
+    (λ c. search needs) (λ c. search needs) loop-again-2 returns)
