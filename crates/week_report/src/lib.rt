@@ -21,7 +21,11 @@ use weekly::plans;
 fn first_counts(counts: &[u64], n: usize) -> &[u64]
     ensures { λ r. ⌜ now r ≡ take n (now (counts .entry)) ⌝ }
 {
-    if n <= counts.len() { &counts[..n] } else { counts }
+    if n <= counts.len() {
+        &counts[..n]
+    } else {
+        counts
+    }
 }
 
 // Writes a word and a number.

@@ -198,9 +198,10 @@ fn put_amounts(a: Amounts, meeting: [u64; 16], answer: &mut [u64; 24]) -> u32
 fn put_refused_week(f: Refusal, answer: &mut [u64; 24]) -> u32
     ensures { λ r. ⌜ call r (now (answer .exit)) ≡ ofWeek (refusedWeek (f .number) (f .place)) ⌝ }
 {
+    let number = f.number;
     *answer = [0; 24];
     answer[0] = f.place as u64;
-    f.number as u32
+    number as u32
 }
 
 pub fn put_week(r: Reckoned, answer: &mut [u64; 24]) -> u32

@@ -35,8 +35,13 @@ within c =
     let k = l .before in
     let b = k .before .before .before in
     let e = c .entry-at .ensures .0 in
-    omega (arith, plan-within (now (b .args .plans)) (b .pre .1) (l .loop .i) (omega (arith, c .before .loop-test .taken, few k)), few k,
-    ap (λ (x : Entry). x .start) e, ap (λ (x : Entry). x .steps) e)
+    omega (
+      arith,
+      plan-within (now (b .args .plans)) (b .pre .1) (l .loop .i) (omega (arith, c .before .loop-test .taken, few k)),
+      few k,
+      ap (λ (x : Entry). x .start) e,
+      ap (λ (x : Entry). x .steps) e,
+    )
 
 -- what is lent is the plan
 lent : (c : tie.After-entry-at Inv-loop μ-loop) → let l = c .before .before in let k = l .before in
