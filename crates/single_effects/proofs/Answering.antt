@@ -143,7 +143,7 @@ module _ (b area : List ℕ) (x : Checked) (e : checked x ≡ check b) where
     pub lent : Rows ms vs
     lent = parts-rows b (asSizes z) accepted
 
-    many : length ms ≡ z .rows
+    pub many : length ms ≡ z .rows
     many = simp (length-take, length-drop) (omega (arith, exact))
 
     -- the row that find_wide answers

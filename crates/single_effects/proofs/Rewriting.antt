@@ -1,6 +1,6 @@
 -- The rows of the new task, written piece by piece: rows between effects are copied when the next effect comes.
 use mathlib.Core.Path.{_≡_, sym, ap, _∙_, subst}
-use mathlib.Core.List.{List, [], _∷_, _++_, append-assoc, append-nil}
+use mathlib.Core.List.{List, [], _∷_, _++_, append-assoc}
 use Prim.Native.Nat.{ℕ, _+_, _≤_, _<_}
 use native.Mathlib.Omega.{arith}
 use lib.Dec.{T, nltb→le}
@@ -19,11 +19,11 @@ use Rattle.writer.proofs.Putting.{Onward, Kept, then, as-rows, kept-none, kept-
 use Rattle.singling.specs.Singled.{choiceCount, singled}
 use Rattle.single_effects.specs.Shapes.{shapeAt, InOrder}
 use Rattle.single_effects.specs.Effects.{EffectAt}
-use Rattle.single_effects.specs.Whole.{Narrow}
+use Rattle.single_effects.specs.Whole.{NoEffects, Narrow}
 use Rattle.single_effects.specs.declared.shapes.Shape.{Shape}
 use Rattle.single_effects.proofs.EffectShape.{left-found, effect-found}
 use Rattle.single_effects.proofs.Pieces.{Piece, plain, effect, rowsOf, newEffects, newRowsOf, Sound, narrowPiece, taskPieces, task-pieces, new-pieces, task-sound, task-narrow}
-use Rattle.single_effects.proofs.Walking.{none-left, effect-here, plain-here, stretch-on}
+use Rattle.single_effects.proofs.Walking.{effect-here, plain-here, stretch-on, nothing-new, all-left}
 
 -- the rows from `from` to row i are still to be copied, and after them come the pieces that are left
 pub record Rewriting (b : List ℕ) (c : Cursor) (t : Task) (ms vs : List ℕ) (from i : ℕ) (out : List ℕ) (k : Cursor) : Type 0 where
@@ -51,10 +51,11 @@ rewriting-begins b c t ms vs room N =
 
 module _ (b : List ℕ) (c : Cursor) (t : Task) (ms vs : List ℕ) (from i : ℕ) (out : List ℕ) (k : Cursor) (R : Rewriting b c t ms vs from i out k) where
   -- the rows that are left to copy are the last
-  pub rewritten : length ms ≤ i → (r : Cursor) (o : List ℕ) → Wrote out k (stretch ms vs from i) r o → Wrote b c (taskRows (singled t)) r o
+  pub rewritten : NoEffects ms i (length ms) → (r : Cursor) (o : List ℕ) → Wrote out k (stretch ms vs from (length ms)) r o
+      → Wrote b c (taskRows (singled t)) r o
   rewritten h r o w =
-      let e : R .left ≡ [] = none-left ms vs i (R .left) (R .there) h in
-      R .onward r o (as-rows (sym (ap (λ (ps : List Piece). stretch ms vs from i ++ newRowsOf ps) e ∙ append-nil (stretch ms vs from i))) w)
+      let same : drop i (paired ms vs) ≡ newRowsOf (R .left) = R .there ∙ sym (nothing-new ms vs i (R .left) (R .there) h) in
+      R .onward r o (as-rows (all-left ms vs from i (R .order) ∙ ap (λ (xs : List Row). stretch ms vs from i ++ xs) same) w)
 
   module _ (l : i < length ms) where
     pub rewriting-on : (getD ms i 0 ≡ EFFECT → ⊥) → Rewriting b c t ms vs from (i + 1) out k

@@ -4,7 +4,10 @@ use mathlib.Core.Bool.{cond}
 use mathlib.Core.List.{List, [], _∷_, _++_}
 use mathlib.Core.Option.{some}
 use Prim.Native.Nat.{ℕ, _+_, _≤_, _<_}
+use mathlib.Core.Logic.{_⊎_, inl, inr}
+use native.Mathlib.Nat.{eq-or-lt-of-le}
 use native.Mathlib.Numerals.{add-one}
+use native.Mathlib.Omega.{arith}
 use lib.Dec.{ltb}
 use lib.ListN.{length, drop, getD}
 use borrow.Author.Tests.{lt-ltb, le-ltb}
@@ -17,7 +20,7 @@ use Rattle.singling.specs.Wide.{isWide, firstWide}
 use Rattle.singling.proofs.Capped.{counted-wide}
 use Rattle.singling.proofs.Wide.{wide-effect}
 use Rattle.single_effects.specs.Shapes.{shapeAt}
-use Rattle.single_effects.specs.Whole.{placeAt}
+use Rattle.single_effects.specs.Whole.{placeAt, NoEffects}
 use Rattle.single_effects.specs.declared.shapes.Shape.{Shape}
 use Rattle.single_effects.proofs.EffectShape.{choices-found, after-found, left-found}
 use Rattle.single_effects.proofs.Pieces.{Piece, plain, effect, rowsOf, Sound, taskPieces, task-pieces, task-sound}
@@ -92,3 +95,11 @@ module _ (ms vs : List ℕ) (t : Task) (i : ℕ) (S : Seeking ms vs t i) where
                 sound = s e qs q .1;
                 same = rw (le-ltb 64 (r .choices) h) at by-choices e qs q;
               }
+
+-- a row that opens no effect
+pub no-more : (ms : List ℕ) (last i : ℕ) → NoEffects ms last i → (getD ms i 0 ≡ EFFECT → ⊥) → NoEffects ms last (i + 1)
+no-more ms last i h n m a b q = let l : m ≤ i = omega arith in go (eq-or-lt-of-le l)
+  where
+    go : (m ≡ i) ⊎ (m < i) → ⊥
+    go (inl e) = n (subst (λ (k : ℕ). getD ms k 0 ≡ EFFECT) e q)
+    go (inr l) = h m a l q

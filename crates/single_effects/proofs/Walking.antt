@@ -5,8 +5,8 @@ use mathlib.Core.List.{List, [], _∷_, _++_}
 use Prim.Native.Nat.{ℕ, suc, _+_, _-_, _≤_, _<_}
 use native.Mathlib.Omega.{arith}
 use lib.Dec.{eqb}
-use lib.ListN.{length, drop, take, getD, length-drop}
-use lib.Seq.{take-suc, getD-drop}
+use lib.ListN.{length, drop, take, getD, length-drop, take-append-drop}
+use lib.Seq.{take-suc, getD-drop, take-all, drop-drop}
 use borrow.Author.Tests.{eq-eqb, ne-eqb}
 use Rattle.task.specs.Marks.{EFFECT, CLAUSE, HOLDS, LACKS, DELETE}
 use Rattle.meaning.specs.Task.{Effect}
@@ -14,10 +14,12 @@ use Rattle.task.specs.TaskRows.{Row}
 use Rattle.task.specs.File.{paired}
 use Rattle.task.specs.Rows.{between, Stops}
 use Rattle.task.proofs.Bytes.{length-paired}
+use Rattle.task.proofs.Positions.{drop-next}
 use Rattle.task.proofs.Reading.{mark-at, row-end}
 use Rattle.layout.specs.Sides.{stretch}
 use Rattle.singling.proofs.Wide.{Ends}
-use Rattle.single_effects.proofs.Pieces.{Piece, plain, effect, rowsOf, Sound}
+use Rattle.single_effects.specs.Whole.{NoEffects}
+use Rattle.single_effects.proofs.Pieces.{Piece, plain, effect, rowsOf, newRowsOf, Sound}
 
 -- rows that are not of an effect do not go on with its condition
 pub ends : (xs : List Row) → Stops (between CLAUSE DELETE) xs → Ends xs
@@ -62,3 +64,22 @@ stretch-on ms vs from i x xs h l e =
     ∙ take-suc (drop from rows) (i - from) x (omega (arith, length-drop from rows, length-paired ms vs))
     ∙ ap (λ (y : Row). stretch ms vs from i ++ (y ∷ []))
     (getD-drop from rows (i - from) x ∙ ap (λ (k : ℕ). getD rows k x) m ∙ sym (getD-drop i rows 0 x) ∙ ap (λ (ys : List Row). getD ys 0 x) e)
+
+-- without an effect nothing is new
+pub nothing-new : (ms vs : List ℕ) (i : ℕ) (ps : List Piece) → drop i (paired ms vs) ≡ rowsOf ps → NoEffects ms i (length ms) → newRowsOf ps ≡ rowsOf ps
+nothing-new ms vs i [] e h = refl
+nothing-new ms vs i (plain x ∷ ps) e h =
+    ap (λ (xs : List Row). x ∷ xs)
+    (nothing-new ms vs (i + 1) ps (drop-next i (paired ms vs) x (rowsOf ps) e) (λ m l. h m (omega arith)))
+nothing-new ms vs i (effect f ∷ ps) e h =
+    let l : i < length ms = omega (arith, ap length e, length-drop i (paired ms vs), length-paired ms vs) in
+    absurd (h i (omega arith) l (mark-at ms vs i l e))
+
+-- the rows from `from` on, and those from row i on
+pub all-left : (ms vs : List ℕ) (from i : ℕ) → from ≤ i → stretch ms vs from (length ms) ≡ stretch ms vs from i ++ drop i (paired ms vs)
+all-left ms vs from i h =
+    let rows : List Row = paired ms vs in
+    let n : from + (i - from) ≡ i = omega arith in
+    take-all (length ms - from) (drop from rows) (omega (arith, length-drop from rows, length-paired ms vs))
+    ∙ sym (take-append-drop (i - from) (drop from rows))
+    ∙ ap (λ (xs : List Row). stretch ms vs from i ++ xs) (drop-drop (i - from) from rows ∙ ap (λ (k : ℕ). drop k rows) n)

@@ -3,10 +3,11 @@ use mathlib.Core.Path.{_≡_}
 use mathlib.Core.Bool.{cond}
 use mathlib.Core.List.{List}
 use mathlib.Core.Option.{Option, none, some}
-use Prim.Native.Nat.{ℕ}
+use Prim.Native.Nat.{ℕ, _≤_, _<_}
 use lib.Dec.{T, ltb}
-use lib.ListN.{length}
+use lib.ListN.{length, getD}
 use Rattle.meaning.specs.Task.{Task}
+use Rattle.task.specs.Marks.{EFFECT}
 use Rattle.task.specs.TaskRows.{Row, taskRows}
 use Rattle.task.specs.File.{paired, fileOfRows}
 use Rattle.outcome.specs.Outcome.{areaAfter}
@@ -18,6 +19,10 @@ use Rattle.singling.specs.Outcome.{rowsFitted}
 -- row i of n, or none after the last
 abbrev pub placeAt : ℕ → ℕ → Option ℕ
 placeAt i n = cond (ltb i n) (some i) none
+
+-- no effect begins from row `from` up to row `to`
+abbrev pub NoEffects : List ℕ → ℕ → ℕ → Type 0
+NoEffects ms from to = (m : ℕ) → from ≤ m → m < to → getD ms m 0 ≡ EFFECT → ⊥
 
 -- the rows are those of t, whose effects have few choices
 pub record Narrow (ms vs : List ℕ) (t : Task) : Type 0 where

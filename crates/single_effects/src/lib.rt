@@ -31,9 +31,9 @@ pub fn single(file: &[u8], out: &mut [u8]) -> Outcome
         return Outcome::Refused(task::refusal_of(c));
     };
     let middle = 8 + z.rows;
-    let wide = wide::find_wide(&file[8..middle]);
-    if wide < z.rows {
-        return outcome::refuse(CHOICES, wide as u16);
+    let found = wide::find_wide(&file[8..middle]);
+    if found.wide < z.rows {
+        return outcome::refuse(CHOICES, found.wide as u16);
     }
     let facts = z.facts as u32;
     let actions = z.actions as u32;
@@ -45,5 +45,6 @@ pub fn single(file: &[u8], out: &mut [u8]) -> Outcome
         facts,
         actions,
         preferences,
+        found.last,
     )
 }

@@ -1,12 +1,13 @@
 // The whole file.
 ghost use mathlib.Core.Path.{_≡_};
+ghost use Prim.Native.Nat.{_≤_};
 ghost use lib.ListN.{length};
 ghost use Rattle.meaning.specs.Task.{Task};
 ghost use Rattle.task.specs.TaskRows.{taskRows};
 ghost use Rattle.task.specs.Rows.{Rows};
 ghost use Rattle.writer.specs.Writer.{rowAfter, Room, Wrote};
 ghost use Rattle.singling.specs.Singled.{singled};
-ghost use Rattle.single_effects.specs.Whole.{Narrow, Fitted};
+ghost use Rattle.single_effects.specs.Whole.{NoEffects, Narrow, Fitted};
 use super::choosing;
 use super::shapes;
 use layout::sides::Span;
@@ -16,16 +17,17 @@ use task::marks;
 use task::refused;
 use writer::Cursor;
 
-// Writes the rows of the new task: each effect by its choices, and the rows between effects as they stand.
-fn put_task(out: &mut [u8], c: Cursor, marks: &[u8], values: &[u8]) -> Cursor
-    requires { ⌜ Room c (now out) × Rows (now marks) (now values) × ((t : Task) × Narrow (now marks) (now values) t) ⌝ }
+// Writes the rows of the new task: each effect by its choices, and the rows between effects as they stand. None begins from row `last` on.
+fn put_task(out: &mut [u8], c: Cursor, marks: &[u8], values: &[u8], last: usize) -> Cursor
+    requires { ⌜ Room c (now out) × Rows (now marks) (now values) × (last ≤ length (now marks)) × NoEffects (now marks) last (length (now marks)) ⌝ }
+    requires { ⌜ ((t : Task) × Narrow (now marks) (now values) t) ⌝ }
     ensures { λ r. ⌜ ((t : Task) → Narrow (now (marks .entry)) (now (values .entry)) t
         → Wrote (now (out .entry)) c (taskRows (singled t)) r (now (out .exit))) ⌝ }
 {
     let mut from = 0;
     let mut i = 0;
     let mut k = c;
-    while i < marks.len() {
+    while i < last {
         if marks[i] == marks::EFFECT {
             let s = shapes::shape_of(marks, i);
             k = writer::copy_rows(&mut *out, k, marks, values, Span { from, to: i });
@@ -36,17 +38,19 @@ fn put_task(out: &mut [u8], c: Cursor, marks: &[u8], values: &[u8]) -> Cursor
             i += 1;
         }
     }
-    writer::copy_rows(&mut *out, k, marks, values, Span { from, to: i })
+    let to = marks.len();
+    writer::copy_rows(&mut *out, k, marks, values, Span { from, to })
 }
 
 // How many rows it has: it is written into a file of no rows.
-fn count_rows(marks: &[u8], values: &[u8]) -> usize
-    requires { ⌜ Rows (now marks) (now values) × ((t : Task) × Narrow (now marks) (now values) t) ⌝ }
+fn count_rows(marks: &[u8], values: &[u8], last: usize) -> usize
+    requires { ⌜ Rows (now marks) (now values) × (last ≤ length (now marks)) × NoEffects (now marks) last (length (now marks)) ⌝ }
+    requires { ⌜ ((t : Task) × Narrow (now marks) (now values) t) ⌝ }
     ensures { λ r. ⌜ ((t : Task) → Narrow (now (marks .entry)) (now (values .entry)) t → r ≡ rowAfter 0 (length (taskRows (singled t)))) ⌝ }
 {
     let mut nothing: [u8; 8] = [0; 8];
     let c = Cursor { rows: 0, next: 0 };
-    let k = put_task(&mut nothing, c, marks, values);
+    let k = put_task(&mut nothing, c, marks, values, last);
     k.next
 }
 
@@ -58,12 +62,14 @@ pub fn put_file(
     facts: u32,
     actions: u32,
     preferences: u32,
+    last: usize,
 ) -> Outcome
-    requires { ⌜ Rows (now marks) (now values) × ((t : Task) × Narrow (now marks) (now values) t) ⌝ }
+    requires { ⌜ Rows (now marks) (now values) × (last ≤ length (now marks)) × NoEffects (now marks) last (length (now marks)) ⌝ }
+    requires { ⌜ ((t : Task) × Narrow (now marks) (now values) t) ⌝ }
     ensures { λ r. ⌜ ((t : Task) → Narrow (now (marks .entry)) (now (values .entry)) t
         → Fitted facts actions preferences (taskRows (singled t)) (now (out .entry)) r (now (out .exit))) ⌝ }
 {
-    let n = count_rows(marks, values);
+    let n = count_rows(marks, values, last);
     if limits::MAX_ROWS < n {
         return outcome::refuse(refused::TRANSLATION_ROWS, 0);
     }
@@ -73,6 +79,6 @@ pub fn put_file(
     }
     writer::put_sizes(&mut *out, facts, actions, preferences, n as u32);
     let c = Cursor { rows: n, next: 0 };
-    let _ = put_task(&mut *out, c, marks, values);
+    let _ = put_task(&mut *out, c, marks, values, last);
     Outcome::Written(length)
 }

@@ -1,9 +1,8 @@
 -- The clause that is known ends where it is known to; any other is gone through.
 use mathlib.Core.Path.{_≡_, sym, ap, _∙_}
-use Prim.Native.Nat.{ℕ, _+_, _<_}
+use Prim.Native.Nat.{ℕ, _+_}
 use native.Mathlib.Omega.{arith}
 use denote.Ref.{now}
-use lib.ListN.{length}
 use Rattle.task.specs.Marks.{HOLDS, LACKS}
 use Rattle.layout.specs.Sides.{endAt}
 use borrow.Author.Needs.{needs}

@@ -1,10 +1,7 @@
 -- What is noted is where a clause begins and ends, or the row after the last.
 use borrow.Author.Needs.{needs}
-use mathlib.Core.Path.{_≡_}
-use Prim.Native.Nat.{ℕ, _-_, _≤_, _<_}
+use Prim.Native.Nat.{_-_, _≤_}
 use native.Mathlib.Omega.{arith}
-use denote.Ref.{now}
-use lib.ListN.{length}
 use Rattle.single_effects.specs.Effects.{Known}
 use Rattle.single_effects.proofs.choosing.find_longest.Statement.{statement}
 use Rattle.single_effects.proofs.choosing.find_longest.Tie as tie

@@ -24,6 +24,12 @@ returns-2 c = λ t N.
     no-room (a .facts) (a .actions) (a .preferences) (taskRows (singled t)) (now (a .out)) (n .count-rows .result) (n .count-rows .ensures t N) (search needs)
     (c .refuse2 .result) (c .refuse2 .ensures) (search needs)
 
+put-task-requires : tie.Need-put-task-requires
+put-task-requires c κs =
+    let n = c .before .before .before .before .before .before .before in
+    let st = n .before .before .before .before in
+    ((record { few = search needs; long = search needs }, st .pre .0 .0, st .pre .0 .1, st .pre .0 .2), st .pre .1)
+
 returns-3 : tie.Need-returns-3
 returns-3 c = λ t N.
     let w = c .before .before in
@@ -39,4 +45,4 @@ put-file-spec =
     tie.close
     (tie.spec
     (λ c κs. search needs) (λ c κs. search needs) returns (λ c. search needs) (λ c. search needs) (λ c κs. search needs) returns-2
-    (λ c. search needs) (λ c κs. search needs) (λ c κs. search needs) (λ c. search needs) returns-3)
+    (λ c. search needs) (λ c κs. search needs) put-task-requires (λ c. search needs) returns-3)
