@@ -6,7 +6,7 @@ use Prim.Native.Nat.{ℕ, _+_, _*_, _-_, _≤_}
 use native.Mathlib.Omega.{arith}
 use lib.Dec.{leb}
 use lib.ListN.{length, take, drop}
-use borrow.Author.Tests.{leb-true, eq-eqb, ne-eqb, not-true, not-false}
+use borrow.Author.Tests.{leb-true, le-leb, eq-eqb, ne-eqb, not-true, not-false}
 use Rattle.meaning.specs.Task.{Task}
 use Rattle.task.specs.File
 use Rattle.task.specs.File.{taskOf}
@@ -24,41 +24,43 @@ use Rattle.task.proofs.Answered.{lengths, parts-spell}
 use Rattle.text.specs.Area.{Filled}
 use Rattle.text.proofs.Writing.{written-whole}
 use Rattle.pddl_text.specs.Pddl.{domainText, problemText}
-use Rattle.pddl_text.specs.Puts.{SpelledOver, OfTask}
-use Rattle.pddl_text.specs.Outcomes.{Outcome, written, refused, fitted, outcomeBy, outcome, domainAfter, problemAfter, outcomeOver, domainOver, problemOver}
-use Rattle.pddl_text.specs.Answers.{answer, Fits, DomainLeft, ProblemLeft}
+use Rattle.pddl_text.specs.Puts.{SpelledShort, OfTask}
+use Rattle.pddl_text.specs.Outcomes.{Outcome, written, refused, bothFit, fitted, outcomeBy, outcome, domainAfter, problemAfter, outcomeOver, domainOver, problemOver}
+use Rattle.pddl_text.specs.Answers.{answer, DomainPut, ProblemPut, Fits, DomainLeft, ProblemLeft}
+use Rattle.pddl_text.specs.declared.Lengths.{Lengths}
 use Rattle.pddl_text.specs.declared.Outcome.{Outcome as Written}
+use Rattle.pddl_text.proofs.Longest.{longest}
 
 -- Whether both fit
 
 -- a text that fits stands at the front of its area
-at-front : {xs b out : List ℕ} {n r : ℕ} → n ≡ length xs → n ≤ length b → Filled b xs r out → out ≡ xs ++ drop n b
-at-front {xs} {b} {out} {n} {r} e h f =
-    f .area ∙ written-whole xs b (omega (arith, e, h)) ∙ ap (λ (k : ℕ). xs ++ drop k b) (sym e)
+at-front : {xs b out : List ℕ} {n : ℕ} → Filled b xs n out → length xs ≤ length b → out ≡ xs ++ drop n b
+at-front {xs} {b} f h = f .area ∙ written-whole xs b h ∙ ap (λ (k : ℕ). xs ++ drop k b) (sym (f .size))
 
-module _ (t : Task) (domain problem : List ℕ) {d p : ℕ} (d-is : d ≡ length (domainText t)) (p-is : p ≡ length (problemText t)) where
-  -- as the code tests it
-  abbrev bothFit : Bool
-  bothFit = leb d (length domain) && leb p (length problem)
+module _ (t : Task) (domain problem : List ℕ) where
+  pub too-short : {fit : Bool} → fit ≡ bothFit t (length domain) (length problem) → not fit ≡ true → refused 14 0 ≡ fitted t (length domain) (length problem)
+  too-short {fit} same h = rw (sym same ∙ not-true fit h) refl
 
-  as-tested : (leb (length (domainText t)) (length domain) && leb (length (problemText t)) (length problem)) ≡ bothFit
-  as-tested = λ i. leb (sym d-is i) (length domain) && leb (sym p-is i) (length problem)
+  -- as it was counted
+  pub counted-fit : {fit : Bool} → fit ≡ bothFit t (length domain) (length problem) → not fit ≡ false
+      → (length (domainText t) ≤ length domain) × (length (problemText t) ≤ length problem)
+  counted-fit {fit} same h =
+      let (d, p) = both-true (leb (length (domainText t)) (length domain)) (leb (length (problemText t)) (length problem)) (sym same ∙ not-false fit h) in
+      (leb-true (length (domainText t)) (length domain) d, leb-true (length (problemText t)) (length problem) p)
 
-  pub too-short : not bothFit ≡ true → refused 14 0 ≡ fitted t (length domain) (length problem)
-  too-short h = rw (as-tested ∙ not-true bothFit h) refl
-
-  module _ (h : not bothFit ≡ false) where
-    both-fit : (leb d (length domain) ≡ true) × (leb p (length problem) ≡ true)
-    both-fit = both-true (leb d (length domain)) (leb p (length problem)) (not-false bothFit h)
-
-    pub fit : written d p ≡ fitted t (length domain) (length problem)
-    fit = rw (as-tested ∙ not-false bothFit h) (λ i. written (d-is i) (p-is i))
-
-    pub domain-left : {out : List ℕ} {r : ℕ} → Filled domain (domainText t) r out → out ≡ domainText t ++ drop d domain
-    domain-left = at-front d-is (leb-true d (length domain) (both-fit .0))
-
-    pub problem-left : {out : List ℕ} {r : ℕ} → Filled problem (problemText t) r out → out ≡ problemText t ++ drop p problem
-    problem-left = at-front p-is (leb-true p (length problem) (both-fit .1))
+-- both texts were written, and both fit: the answer, and the two areas
+module _ (facts : ℕ) (ms vs domain problem : List ℕ) (n : Lengths) {domain′ problem′ : List ℕ}
+    (d : OfTask facts ms vs (DomainPut domain n domain′)) (p : OfTask facts ms vs (ProblemPut problem n problem′))
+    (fit : OfTask facts ms vs (λ (t : Task). (length (domainText t) ≤ length domain) × (length (problemText t) ≤ length problem))) where
+  pub put-down : OfTask facts ms vs (λ (t : Task). written (n .domain) (n .problem) ≡ fitted t (length domain) (length problem))
+      × (OfTask facts ms vs (λ (t : Task). domain′ ≡ domainText t ++ drop (n .domain) domain)
+      × OfTask facts ms vs (λ (t : Task). problem′ ≡ problemText t ++ drop (n .problem) problem))
+  put-down = (
+    λ t same rows.
+        let (h, k) = fit t same rows in
+        rw (le-leb (length (domainText t)) (length domain) h, le-leb (length (problemText t)) (length problem) k) (λ i. written (d t same rows .size i) (p t same rows .size i)),
+    (λ t same rows. at-front (d t same rows) (fit t same rows .0), λ t same rows. at-front (p t same rows) (fit t same rows .1)),
+  )
 
 -- From what check answers
 
@@ -99,8 +101,8 @@ module _ (b : List ℕ) {x : Checked} {z : Sizes} (q : x ≡ Accepted z) (e : ch
   facts : z .facts ≡ taskOf b .facts
   facts = ap (λ (y : File.Sizes). y .facts) (sym (accepted-spelling b (asSizes z) accepted .sized))
 
-  pub spelled : SpelledOver (z .facts) marksIn valuesIn
-  spelled = (taskOf b, facts, parts-spell b (asSizes z) accepted)
+  pub spelled : SpelledShort (z .facts) marksIn valuesIn
+  spelled = (taskOf b, facts, parts-spell b (asSizes z) accepted, (longest b (asSizes z) accepted .0, longest b (asSizes z) accepted .1))
 
   module _ (domain problem : List ℕ) where
     on-task : outcomeBy b (length domain) (length problem) (Check.accepted (asSizes z)) ≡ outcomeOver b domain problem

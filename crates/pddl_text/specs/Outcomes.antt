@@ -1,5 +1,5 @@
 -- What comes of writing a task as PDDL: document 02, request 4.
-use mathlib.Core.Bool.{cond, _&&_}
+use mathlib.Core.Bool.{Bool, cond, _&&_}
 use mathlib.Core.List.{List, _++_}
 use Prim.Native.Nat.{ℕ}
 use lib.Dec.{eqb, leb}
@@ -16,11 +16,14 @@ pub data Outcome : Type 0 where
   written : ℕ → ℕ → Outcome
   refused : ℕ → ℕ → Outcome
 
+-- whether both texts of t fit into areas of so many bytes
+abbrev pub bothFit : Task → ℕ → ℕ → Bool
+bothFit t domain problem = leb (length (domainText t)) domain && leb (length (problemText t)) problem
+
 -- the texts of t, for areas of so many bytes
 abbrev pub fitted : Task → ℕ → ℕ → Outcome
 fitted t domain problem =
-    cond (leb (length (domainText t)) domain && leb (length (problemText t)) problem)
-    (written (length (domainText t)) (length (problemText t))) (refused SHORT-AREA 0)
+    cond (bothFit t domain problem) (written (length (domainText t)) (length (problemText t))) (refused SHORT-AREA 0)
 
 abbrev pub outcomeBy : List ℕ → ℕ → ℕ → Answer → Outcome
 outcomeBy b domain problem (Check.refused n i) = refused n i

@@ -1,7 +1,8 @@
 -- What a function that writes one of the texts asks and gives.
 use mathlib.Core.Path.{_≡_}
 use mathlib.Core.List.{List, _++_}
-use Prim.Native.Nat.{ℕ}
+use Prim.Native.Nat.{ℕ, _≤_}
+use lib.ListN.{length}
 use Rattle.lists.specs.Lists.{concatMap}
 use Rattle.meaning.specs.Task.{Task}
 use Rattle.task.specs.TaskRows.{actionRows, preferenceRows, taskRows}
@@ -30,7 +31,13 @@ Spelled ms vs = (t : Task) × (paired ms vs ≡ taskRows t)
 abbrev pub SpelledOver : ℕ → List ℕ → List ℕ → Type 0
 SpelledOver facts ms vs = (t : Task) × (facts ≡ t .facts) × (paired ms vs ≡ taskRows t)
 
--- and these are the rows after its goal's condition
+-- and no text of it is longer than what is enough for all
+abbrev pub SpelledShort : ℕ → List ℕ → List ℕ → Type 0
+SpelledShort facts ms vs =
+    (t : Task) × (facts ≡ t .facts) × (paired ms vs ≡ taskRows t)
+    × ((length (domainText t) ≤ 262144) × (length (problemText t) ≤ 262144))
+
+-- of so many facts, and these are the rows after its goal's condition
 abbrev pub ActionsOver : ℕ → Stretch → Type 0
 ActionsOver facts s = (t : Task) × (facts ≡ t .facts) × ActionsAt t s
 

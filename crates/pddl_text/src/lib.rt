@@ -4,9 +4,9 @@ mod texts;
 ghost use mathlib.Core.Path.{_≡_};
 ghost use Prim.Native.Nat.{_≤_};
 ghost use Rattle.task.specs.Rows.{Rows};
-ghost use Rattle.pddl_text.specs.Puts.{SpelledOver, OfTask};
-ghost use Rattle.pddl_text.specs.Outcomes.{refused, outcomeOver, domainOver, problemOver};
-ghost use Rattle.pddl_text.specs.Answers.{answer, Fits, DomainLeft, ProblemLeft};
+ghost use Rattle.pddl_text.specs.Puts.{SpelledOver, SpelledShort, OfTask};
+ghost use Rattle.pddl_text.specs.Outcomes.{refused, bothFit, outcomeOver, domainOver, problemOver};
+ghost use Rattle.pddl_text.specs.Answers.{answer, Fits, DomainPut, ProblemPut, DomainLeft, ProblemLeft};
 use task::Checked;
 use task::Refusal;
 use task::refused;
@@ -16,6 +16,9 @@ pub struct Lengths {
     pub domain: usize,
     pub problem: usize,
 }
+
+// An area of this length holds every domain and every problem (proofs/Longest).
+const ENOUGH: usize = 262144;
 
 // The texts stand at the starts of their areas, or a refusal has left both areas as they were.
 pub enum Outcome {
@@ -29,7 +32,38 @@ fn refuse(number: u8) -> Outcome
     Outcome::Refused(Refusal { number, place: 0 })
 }
 
-// Writes both texts, where both fit.
+// Writes both texts, each as far as its area reaches.
+fn put_both(
+    marks: &[u8],
+    values: &[u8],
+    facts: usize,
+    domain: &mut [u8],
+    problem: &mut [u8],
+) -> Lengths
+    requires { ⌜ Rows (now marks) (now values) × (facts ≤ 128) × SpelledOver facts (now marks) (now values) ⌝ }
+    ensures { λ r. ⌜ OfTask facts (now (marks .entry)) (now (values .entry)) (DomainPut (now (domain .entry)) r (now (domain .exit))) ⌝ }
+    ensures { λ r. ⌜ OfTask facts (now (marks .entry)) (now (values .entry)) (ProblemPut (now (problem .entry)) r (now (problem .exit))) ⌝ }
+{
+    let p = texts::put_problem(&mut *problem, marks, values);
+    let d = texts::put_domain(&mut *domain, facts, marks, values, p.next);
+    Lengths {
+        domain: d,
+        problem: p.at,
+    }
+}
+
+// Whether both fit into areas of so many bytes.
+fn both_fit(marks: &[u8], values: &[u8], facts: usize, domain: usize, problem: usize) -> bool
+    requires { ⌜ Rows (now marks) (now values) × (facts ≤ 128) × SpelledOver facts (now marks) (now values) ⌝ }
+    ensures { λ r. ⌜ OfTask facts (now (marks .entry)) (now (values .entry)) (λ t. r ≡ bothFit t domain problem) ⌝ }
+{
+    let mut no_domain: [u8; 1] = [0; 1];
+    let mut no_problem: [u8; 1] = [0; 1];
+    let n = put_both(marks, values, facts, &mut no_domain, &mut no_problem);
+    (n.domain <= domain) & (n.problem <= problem)
+}
+
+// Writes both texts, where both fit. They are counted first where an area is not long enough for every text.
 fn put_texts(
     marks: &[u8],
     values: &[u8],
@@ -37,24 +71,20 @@ fn put_texts(
     domain: &mut [u8],
     problem: &mut [u8],
 ) -> Outcome
-    requires { ⌜ Rows (now marks) (now values) × (facts ≤ 128) × SpelledOver facts (now marks) (now values) ⌝ }
+    requires { ⌜ Rows (now marks) (now values) × (facts ≤ 128) × SpelledShort facts (now marks) (now values) ⌝ }
     ensures { λ r. ⌜ OfTask facts (now (marks .entry)) (now (values .entry)) (Fits (now (domain .entry)) (now (problem .entry)) r) ⌝ }
     ensures { λ r. ⌜ OfTask facts (now (marks .entry)) (now (values .entry)) (DomainLeft (now (domain .entry)) r (now (domain .exit))) ⌝ }
     ensures { λ r. ⌜ OfTask facts (now (marks .entry)) (now (values .entry)) (ProblemLeft (now (problem .entry)) r (now (problem .exit))) ⌝ }
 {
-    let mut nothing: [u8; 1] = [0; 1];
-    let p = texts::put_problem(&mut nothing, marks, values);
-    let d = texts::put_domain(&mut nothing, facts, marks, values, p.next);
-    let both_fit = (d <= domain.len()) & (p.at <= problem.len());
-    if !both_fit {
+    if (ENOUGH <= domain.len()) & (ENOUGH <= problem.len()) {
+        let n = put_both(marks, values, facts, &mut *domain, &mut *problem);
+        return Outcome::Written(n);
+    }
+    if !both_fit(marks, values, facts, domain.len(), problem.len()) {
         return refuse(refused::SHORT_AREA);
     }
-    texts::put_problem(&mut *problem, marks, values);
-    texts::put_domain(&mut *domain, facts, marks, values, p.next);
-    Outcome::Written(Lengths {
-        domain: d,
-        problem: p.at,
-    })
+    let n = put_both(marks, values, facts, &mut *domain, &mut *problem);
+    Outcome::Written(n)
 }
 
 // Writes the task in a file as PDDL, the domain into one area and the problem into the other.
