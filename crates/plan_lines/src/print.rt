@@ -9,15 +9,16 @@ ghost use Rattle.plan_lines.specs.PlanText.{stepLine, textOf};
 fn put_step(out: &mut [u8], at: usize, step: u8) -> usize
     requires { ⌜ at + 30 < 2 ^ 64 ⌝ }
     ensures { λ r. ⌜ Wrote (now (out .entry)) at (stepLine step ++ (10 ∷ [])) r (now (out .exit)) ⌝ }
-    ensures { λ r. ⌜ r ≤ at + 24 ⌝ }
+    ensures { λ r. ⌜ r ≤ at + 7 ⌝ }
 {
     text::put_number(out, at, b"(a", step as u64, b")\n")
 }
 
-// Writes a line for each step.
+// Writes a line for each step, of 7 bytes at most.
 pub fn put_plan(plan: &[u8], out: &mut [u8]) -> usize
     requires { ⌜ length (now plan) ≤ 2048 ⌝ }
     ensures { λ r. ⌜ Filled (now (out .entry)) (textOf (now (plan .entry))) r (now (out .exit)) ⌝ }
+    ensures { λ r. ⌜ r ≤ 7 * length (now (plan .entry)) ⌝ }
 {
     let mut k = 0;
     let mut i = 0;

@@ -40,7 +40,7 @@ pub fn read(text: &[u8], out: &mut [u8]) -> Outcome
     Outcome::Written(s.steps)
 }
 
-// Writes a plan as text at the start of the area.
+// Writes a plan as text at the start of the area. It is counted first where the area is not long enough for every plan of as many steps.
 pub fn write(plan: &[u8], out: &mut [u8]) -> Outcome
     ensures { λ r. ⌜ answer r ≡ writeOutcome (now (plan .entry)) (length (now (out .entry))) ⌝ }
     ensures { λ r.
@@ -49,6 +49,10 @@ pub fn write(plan: &[u8], out: &mut [u8]) -> Outcome
 {
     if limits::MAX_STEPS < plan.len() {
         return outcome::refuse(refused::LONG_PLAN, 0);
+    }
+    if 7 * plan.len() <= out.len() {
+        let n = print::put_plan(plan, &mut *out);
+        return Outcome::Written(n);
     }
     let mut nothing: [u8; 1] = [0; 1];
     let n = print::put_plan(plan, &mut nothing);

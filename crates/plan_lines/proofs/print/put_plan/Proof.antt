@@ -11,7 +11,7 @@ use Rattle.plan_lines.proofs.print.put_plan.Statement.{statement}
 use Rattle.plan_lines.proofs.print.put_plan.Tie as tie
 
 abbrev Inv-loop : tie.InvT-loop
-Inv-loop plan out₀ k₀ i₀ out k i = (i ≤ length plan) × (k ≤ 24 * i) × Wrote out₀ 0 (textOf (take i plan)) k out
+Inv-loop plan out₀ k₀ i₀ out k i = (i ≤ length plan) × (k ≤ 7 * i) × Wrote out₀ 0 (textOf (take i plan)) k out
 
 abbrev μ-loop : tie.MeasureT-loop
 μ-loop plan out₀ k₀ i₀ out k i = length plan - i
@@ -36,7 +36,7 @@ returns : tie.Need-returns Inv-loop μ-loop
 returns c =
     let l = c .before in
     let a = l .before .before .before .args in
-    all-lines (now (a .out)) (now (a .plan)) (l .loop .out) (l .loop .i) (l .loop .k) (search needs) (l .loop .inv .2)
+    (all-lines (now (a .out)) (now (a .plan)) (l .loop .out) (l .loop .i) (l .loop .k) (search needs) (l .loop .inv .2), search needs)
 
 pub put-plan-spec : {M : Type 1} → statement M
 put-plan-spec =

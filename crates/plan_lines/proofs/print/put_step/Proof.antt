@@ -2,10 +2,13 @@
 use mathlib.Core.Path.{_≡_, sym, ap, subst}
 use mathlib.Core.List.{List, [], _∷_, _++_, append-assoc}
 use Prim.Native.Nat.{ℕ}
+use native.Mathlib.Omega.{arith}
+use lib.ListN.{length-append}
 use denote.Ref.{now}
 use Rattle.text.specs.Ascii.{ascii}
 use Rattle.text.specs.Text.{decimal}
 use Rattle.text.specs.Area.{Wrote}
+use Rattle.text.proofs.Decimal.{few-digits}
 use Rattle.plan_lines.specs.PlanText.{stepLine}
 use borrow.Author.Needs.{needs}
 use Rattle.plan_lines.proofs.print.put_step.Statement.{statement}
@@ -23,7 +26,10 @@ returns : tie.Need-returns
 returns c =
     let n = c .before .before in
     let a = n .before .before .before .before .before .args in
-    (subst (λ (l : List ℕ). Wrote (now (a .out)) (a .at) l (n .put-number .result) (n .put-number .last .0)) (ended (a .step)) (n .put-number .ensures .0), search needs)
+    let put = n .put-number .ensures .0 in (
+      subst (λ (l : List ℕ). Wrote (now (a .out)) (a .at) l (n .put-number .result) (n .put-number .last .0)) (ended (a .step)) put,
+      omega (arith, put .behind, length-append (decimal (a .step)) (ascii ")\n"), few-digits 2 (a .step) (search needs)),
+    )
 
 pub put-step-spec : {M : Type 1} → statement M
 put-step-spec =
