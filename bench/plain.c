@@ -1,4 +1,4 @@
-/* check, walk, settle, week, translate, lost, spell, single and search in C, written from documents 01 and 02 for speed, to measure the
+/* check, walk, settle, week, translate, lost, source, spell, single and search in C, written from documents 01 and 02 for speed, to measure the
  * library beside. The answers are those of include/route_rules.h.
  *
  * plain_ reads the rows where they lie: parts of a file are found once, a condition is left as soon as it is decided, parts of
@@ -933,6 +933,32 @@ uint32_t plain_lost(const uint8_t *file, size_t length, const uint8_t *steps, si
     answer[1] = ROUTE_RULES_RUN;
     answer[3] = r.cost;
     answer[4] = lost_weights(&r);
+    return 0;
+}
+
+/* ---- source */
+
+uint32_t plain_source(const uint8_t *file, size_t length, const uint8_t *text, size_t text_length, uint8_t *out, size_t room,
+                      uint64_t answer[8])
+{
+    Task t;
+    uint8_t list[ROUTE_RULES_MAX_STEPS], part[ROUTE_RULES_MAX_STEPS];
+    uint64_t read[8];
+    size_t steps = 0;
+    memset(answer, 0, 64);
+    if (check(&t, file, length) && translatable(&t)) {
+        t.number = plain_read_plan(text, text_length, list, sizeof list, read);
+        t.place = read[0];
+    }
+    if (t.number != 0 || !admitted_below(&t, t.actions + 2 * t.preferences + 1, list, read[1])) {
+        answer[0] = t.place;
+        return t.number;
+    }
+    for (size_t i = 0; i < read[1]; i++)
+        if (list[i] < t.actions) part[steps++] = list[i];
+    if (room < steps) return ROUTE_RULES_REFUSED_SHORT_OUTPUT;
+    memcpy(out, part, steps);
+    answer[1] = steps;
     return 0;
 }
 

@@ -23,6 +23,8 @@ uint32_t plain_search(const uint8_t *file, size_t length, uint64_t limit, uint64
 uint32_t plain_read_plan(const uint8_t *text, size_t length, uint8_t *out, size_t room, uint64_t answer[8]);
 uint32_t plain_write_plan(const uint8_t *plan, size_t steps, uint8_t *out, size_t room, uint64_t answer[8]);
 uint32_t plain_walk_text(const uint8_t *file, size_t length, const uint8_t *text, size_t text_length, uint64_t answer[8]);
+uint32_t plain_source(const uint8_t *file, size_t length, const uint8_t *text, size_t text_length, uint8_t *out, size_t room,
+                      uint64_t answer[8]);
 uint32_t plain_pddl(const uint8_t *file, size_t length, uint8_t *domain, size_t domain_room, uint8_t *problem,
                     size_t problem_room, uint64_t answer[8]);
 uint32_t plain_report(const uint8_t *file, size_t length, const uint8_t *plan, size_t steps, uint8_t *out, size_t room,

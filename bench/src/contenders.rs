@@ -23,7 +23,7 @@ type Settle = unsafe extern "C" fn(*const u8, usize, u64, u64, Words) -> u32;
 type Week = unsafe extern "C" fn(*const u8, usize, *const u8, usize, *mut [u64; 24]) -> u32;
 type Write = unsafe extern "C" fn(*const u8, usize, *mut u8, usize, Words) -> u32;
 type Search = unsafe extern "C" fn(*const u8, usize, u64, *mut u64, usize, *mut u8, Words) -> u32;
-type Report =
+type WriteOn =
     unsafe extern "C" fn(*const u8, usize, *const u8, usize, *mut u8, usize, Words) -> u32;
 type Pddl = unsafe extern "C" fn(*const u8, usize, *mut u8, usize, *mut u8, usize, Words) -> u32;
 
@@ -45,6 +45,7 @@ functions! {
     route_rules_read_plan(*const u8, usize, *mut u8, usize);
     route_rules_write_plan(*const u8, usize, *mut u8, usize);
     route_rules_walk_text(*const u8, usize, *const u8, usize);
+    route_rules_source(*const u8, usize, *const u8, usize, *mut u8, usize);
     route_rules_pddl(*const u8, usize, *mut u8, usize, *mut u8, usize);
     route_rules_report(*const u8, usize, *const u8, usize, *mut u8, usize);
     route_rules_search(*const u8, usize, u64, *mut u64, usize, *mut u8);
@@ -58,6 +59,7 @@ functions! {
     plain_read_plan(*const u8, usize, *mut u8, usize);
     plain_write_plan(*const u8, usize, *mut u8, usize);
     plain_walk_text(*const u8, usize, *const u8, usize);
+    plain_source(*const u8, usize, *const u8, usize, *mut u8, usize);
     plain_pddl(*const u8, usize, *mut u8, usize, *mut u8, usize);
     plain_report(*const u8, usize, *const u8, usize, *mut u8, usize);
     plain_search(*const u8, usize, u64, *mut u64, usize, *mut u8);
@@ -164,6 +166,14 @@ fn call_write(write: Write, bytes: &[u8], out: &mut [u8]) -> Answer {
     let mut words = [0; 8];
     let (from, to) = (bytes.as_ptr(), out.as_mut_ptr());
     let number = unsafe { write(from, bytes.len(), to, out.len(), &mut words) };
+    (number, words)
+}
+
+/// What is written of the task in a file and a plan or a text.
+fn call_write_on(write: WriteOn, file: &[u8], of: &[u8], out: &mut [u8]) -> Answer {
+    let mut words = [0; 8];
+    let (task, from, to) = (file.as_ptr(), of.as_ptr(), out.as_mut_ptr());
+    let number = unsafe { write(task, file.len(), from, of.len(), to, out.len(), &mut words) };
     (number, words)
 }
 
@@ -347,26 +357,21 @@ pub fn search(who: usize, input: &Input, areas: &mut Areas) -> Answer {
 
 pub fn report(who: usize, input: &Input, areas: &mut Areas) -> Answer {
     let (file, plan, out) = (&input.file, &input.plan, &mut areas.out);
-    let mut call = |report: Report| {
-        let mut words = [0; 8];
-        let (from, steps) = (file.as_ptr(), plan.as_ptr());
-        let number = unsafe {
-            report(
-                from,
-                file.len(),
-                steps,
-                plan.len(),
-                out.as_mut_ptr(),
-                out.len(),
-                &mut words,
-            )
-        };
-        (number, words)
-    };
     match who {
-        0 => call(route_rules_report),
+        0 => call_write_on(route_rules_report, file, plan, out),
         1 => peer::report::write(file, plan, out.len())
             .map_or_else(refused, |bytes| written(out, &bytes)),
-        _ => call(plain_report),
+        _ => call_write_on(plain_report, file, plan, out),
+    }
+}
+
+/// The source part of a list of translated actions, as a planner prints it. The Rust makes the translation.
+pub fn source(who: usize, input: &Input, areas: &mut Areas) -> Answer {
+    let (file, printed, out) = (&input.file, &input.printed, &mut areas.out);
+    match who {
+        0 => call_write_on(route_rules_source, file, printed, out),
+        1 => peer::source(file, printed, out.len())
+            .map_or_else(refused, |bytes| written(out, &bytes)),
+        _ => call_write_on(plain_source, file, printed, out),
     }
 }

@@ -10,14 +10,15 @@ use peer::{
 use std::fs;
 use std::path::Path;
 
-/// A task file and a plan, with its text, its list of translated actions, what it costs and meets where it solves, and a week in
-/// which it comes as often as it may.
+/// A task file and a plan, with its text, its list of translated actions and that as text, what it costs and meets where it solves,
+/// and a week in which it comes as often as it may.
 pub struct Input {
     pub name: String,
     pub file: Vec<u8>,
     pub plan: Vec<u8>,
     pub text: Vec<u8>,
     pub list: Vec<u8>,
+    pub printed: Vec<u8>,
     pub plans: Vec<u8>,
     pub cost: u64,
     pub met: u64,
@@ -34,6 +35,7 @@ impl Input {
             ("plan", &self.plan),
             ("text", &self.text),
             ("list", &self.list),
+            ("printed", &self.printed),
             ("plans", &self.plans),
             ("amounts", &amounts),
         ] {
@@ -54,6 +56,7 @@ impl Input {
             plan: read("plan"),
             text: read("text"),
             list: read("list"),
+            printed: read("printed"),
             plans: read("plans"),
             cost: amount(0),
             met: amount(8),
@@ -85,10 +88,13 @@ fn of_file(name: &str, file: Vec<u8>, plan: Vec<u8>) -> Input {
         Ok(Verdict::Solved { cost, met }) => (cost, met),
         _ => (0, 0),
     };
+    let list = completed(&file, &plan);
+    let text = |steps: &[u8]| text::write(steps, text::MAX_TEXT).expect("a text");
     Input {
         name: name.to_string(),
-        text: text::write(&plan, text::MAX_TEXT).expect("a text"),
-        list: completed(&file, &plan),
+        text: text(&plan),
+        printed: text(&list),
+        list,
         plans: joined(&[(0, plan.len()); MAX_PLANS], &plan),
         file,
         plan,

@@ -146,6 +146,15 @@ fn lines() -> Vec<(Operation, Vec<Input>)> {
         (ReadPlan, vec![belt(), middle(), each_in_turn()]),
         (WritePlan, vec![belt(), middle(), each_in_turn()]),
         (WalkText, walked()),
+        (
+            Source,
+            vec![
+                belt(),
+                middle(),
+                inputs::belt_again(2_048),
+                inputs::in_turn(inputs::in_trackers(12_000, 40), 2_048),
+            ],
+        ),
         (Report, walked()),
         (
             Search,

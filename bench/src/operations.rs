@@ -18,13 +18,14 @@ pub enum Operation {
     ReadPlan,
     WritePlan,
     WalkText,
+    Source,
     Report,
     Search,
 }
 
 use Operation::*;
 
-pub const ALL: [Operation; 13] = [
+pub const ALL: [Operation; 16] = [
     Check,
     WalkAndSettle,
     Walk,
@@ -38,6 +39,7 @@ pub const ALL: [Operation; 13] = [
     ReadPlan,
     WritePlan,
     WalkText,
+    Source,
     Report,
     Search,
 ];
@@ -58,6 +60,7 @@ impl Operation {
             ReadPlan => "read_plan",
             WritePlan => "write_plan",
             WalkText => "walk_text",
+            Source => "source",
             Report => "report",
             Search => "search",
         }
@@ -92,6 +95,7 @@ impl Operation {
             ReadPlan => one(contenders::read_plan(who, input, areas)),
             WritePlan => one(contenders::write_plan(who, input, areas)),
             WalkText => one(contenders::walk_text(who, input)),
+            Source => one(contenders::source(who, input, areas)),
             Report => one(contenders::report(who, input, areas)),
             Search => one(contenders::search(who, input, areas)),
         }
@@ -109,7 +113,7 @@ impl Operation {
             Search => (self.call(0, input, areas)[0].1[4], "nodes"),
             ReadPlan | WritePlan => (input.plan.len() as u64, "steps"),
             Week => (input.planned_steps(), "steps"),
-            Lost => (input.list.len() as u64, "steps"),
+            Lost | Source => (input.list.len() as u64, "steps"),
             WalkAndSettle | Walk | WalkText | Report => {
                 (Walk.call(0, input, areas)[0].1[5], "literals")
             }
