@@ -1,4 +1,4 @@
-/* What an execution lends, made from the fuzzer's bytes in this order: a byte of choices, eight of rooms, three of a limit and a
+/* What an execution lends, made from the fuzzer's bytes in this order: a byte of choices, nine of rooms, three of a limit and a
  * list of nodes, two of a cost, three of met preferences, the plan's length and steps, two bytes of the text and its bytes, two of a
  * week's plans with their starts and lengths, how many translated actions follow the plan and a byte of each, and the file. */
 #include "plain.h"
@@ -6,7 +6,7 @@
 enum { PLAN_ROOM = 4096, PLANS_ROOM = PLAN_ROOM + 512, MORE_STEPS = 24, LIST_ROOM = PLAN_ROOM + MORE_STEPS, TEXT_ROOM = ROUTE_RULES_MAX_TEXT + 16, FILE_ROOM = ROUTE_RULES_MAX_FILE + 5 };
 
 /* Output areas, each with a room byte of its own. */
-enum { TO_TRANSLATE, TO_SPELL, TO_REPORT, TO_READ, TO_WRITE, TO_DOMAIN, TO_PROBLEM, TO_SINGLE, ROOMS };
+enum { TO_TRANSLATE, TO_SPELL, TO_REPORT, TO_READ, TO_WRITE, TO_DOMAIN, TO_PROBLEM, TO_SINGLE, TO_SOURCE, ROOMS };
 
 typedef struct {
     int at_end; /* areas touch the page without access with their end */

@@ -25,7 +25,7 @@ def seed(data, plan=b'\0', text=b'(a0)\n', choice=0, room=EXACT, limit=(2, 4, 0)
          week=WHOLE, more=()):
     """An input: a file, a plan (`steps` is the byte of its length), a text, a week's plans, what follows the plan in a list of translated
     actions, and what else fuzz/inputs.c reads."""
-    rooms = [room] * 8 if isinstance(room, int) else room
+    rooms = [room] * 9 if isinstance(room, int) else room
     return bytes([choice, *rooms, *limit, *cost, *met, len(plan) if steps is None else steps, *plan, how, len(text), *text, *week,
                   len(more), *more]) + data
 
@@ -75,8 +75,8 @@ def refusals():
     for room in (BYTE_SHORT, SMALL, MORE, EXACT):                                # 9 and 14
         yield seed(belt, room=room)
         yield seed(file('GOAL', F=1), room=room)
-    yield seed(file('GOAL ACTION 3', F=1), room=[EXACT] * 6 + [BYTE_SHORT, EXACT])
-    yield seed(file('GOAL ACTION 3', F=1), room=[EXACT] * 5 + [BYTE_SHORT, EXACT, EXACT])
+    yield seed(file('GOAL ACTION 3', F=1), room=[EXACT] * 6 + [BYTE_SHORT] + [EXACT] * 2)
+    yield seed(file('GOAL ACTION 3', F=1), room=[EXACT] * 5 + [BYTE_SHORT] + [EXACT] * 3)
     yield seed(belt, plan=b'\0' * 8, steps=LONG_PLAN)                            # 10
     yield seed(belt, plan=b'\0' * 8, steps=LONGEST_PLAN)
     yield seed(belt, plan=b'\0\2', text=b'(a0)\n(a2)\n')                         # 11
@@ -231,6 +231,25 @@ def lists():
             yield seed(data, plan=b'\0' * 8, steps=steps, week=(1, 0, 0, 0))
 
 
+def sources():
+    """What a planner prints for a translation: end, collect and forgo in any place, comments, numbers at the edge of what is known, and of
+    two refusals the first."""
+    belt = file(BELT, F=2)                                                       # 0 and 1 are its actions, 2 to 6 those of its translation
+    four = file('GOAL' + ' ACTION 1' * 4)
+    for room in (BYTE_SHORT, SMALL, EXACT, MORE):
+        yield from (seed(belt, text=text, room=room) for text in (
+            b'(a0)\n(a2)\n(a4)\n(a5)\n; cost = 8\n', b'(a2)\n(a1)\n; a6\n(a6)\n(a0)\n', b'(a1)\n(a0)\n(a0)\n', b'(a2)\n', b'(a6)\n(a7)\n',
+            b'(a0)\n(a7)\n(a6)\n', b'(a0)\n(a1)\n(a256)\n', b'(a9)\n(a0\n'))
+        for steps in (3, 4):                                                     # 2,048 steps, and 2,049
+            yield seed(four, text=b'\1', choice=MADE_TEXT, how=FILLED + 16 * steps, room=room)
+    for text, how in ((b'\1', FILLED), (b'\17', FILLED), (b'\17', BOTH)):        # 10, before 11, and after 12
+        yield seed(belt, text=text, choice=MADE_TEXT, how=how + 16 * 4)
+    for text in (b'(a)\n', b'(a127)\n'):                                        # 7 and 8 before 12 and 11
+        yield seed(file('GOAL', F=127), text=text)
+        rows = 'GOAL' + ' ACTION 1' * 22 + ' EFFECT' * 83 + ' always 1 CLAUSE HOLDS 0'
+        yield seed(made(rows, 2, repeat=255), text=text, choice=MADE_FILE)
+
+
 def chance_tasks():
     """Chance tasks in the order of rows, with plans of their first actions."""
     chance = random.Random(1)
@@ -243,7 +262,7 @@ def chance_tasks():
 
 def main(folder):
     os.makedirs(folder, exist_ok=True)
-    for group in (examples, refusals, texts, kinds, values, spellings, choices, searches, weeks, lists, chance_tasks):
+    for group in (examples, refusals, texts, kinds, values, spellings, choices, searches, weeks, lists, sources, chance_tasks):
         for number, data in enumerate(group()):
             with open(os.path.join(folder, f'{group.__name__}_{number}'), 'wb') as out:
                 out.write(data)

@@ -76,6 +76,16 @@ uint32_t route_rules_walk_text(const uint8_t *file, size_t file_length, const ui
     return plain_walk_text(file, file_length, text, text_length, WORDS(answer));
 }
 
+uint32_t route_rules_source(const uint8_t *file, size_t file_length, const uint8_t *text, size_t text_length, uint8_t *out,
+                            size_t out_length, route_rules_length *answer)
+{
+    uint32_t number = plain_source(file, file_length, text, text_length, out, out_length, WORDS(answer));
+    if (STRAY == 25) seen = text[text_length];                                              /* reads past the text */
+    if (STRAY == 26 && number == 11 && out_length > 0) out[0] = 0;                          /* writes on a refusal */
+    if (STRAY == 27 && number == 0 && answer->length < out_length) out[answer->length] = 0; /* writes after the part */
+    return number;
+}
+
 uint32_t route_rules_pddl(const uint8_t *file, size_t file_length, uint8_t *domain, size_t domain_length, uint8_t *problem,
                           size_t problem_length, route_rules_texts *answer)
 {

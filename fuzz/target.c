@@ -8,12 +8,12 @@
 #include <string.h>
 
 enum {
-    CHECK, TRANSLATE, SPELL, SINGLE, WALK, SETTLE, READ_PLAN, WRITE_PLAN, WALK_TEXT, PDDL, REPORT, WEEK, LOST, SEARCH, OPERATIONS,
-    REFUSALS = 19
+    CHECK, TRANSLATE, SPELL, SINGLE, WALK, SETTLE, READ_PLAN, WRITE_PLAN, WALK_TEXT, SOURCE, PDDL, REPORT, WEEK, LOST, SEARCH,
+    OPERATIONS, REFUSALS = 19
 };
 
 static const char *const NAMES[OPERATIONS] = {"check", "translate", "spell", "single", "walk", "settle", "read_plan",
-                                              "write_plan", "walk_text", "pddl", "report", "week", "lost", "search"};
+                                              "write_plan", "walk_text", "source", "pddl", "report", "week", "lost", "search"};
 
 /* The refusals of each operation, bit n for number n. */
 #define OF_FILE 0x7eu
@@ -27,6 +27,7 @@ static const uint32_t ALLOWED[OPERATIONS] = {
     1 << 12 | 1 << 10 | 1 << 9,
     1 << 10 | 1 << 9,
     OF_FILE | 1 << 12 | 1 << 10 | 1 << 11,
+    OF_FILE | 1 << 7 | 1 << 8 | 1 << 12 | 1 << 10 | 1 << 11 | 1 << 9,
     OF_FILE | 1 << 13 | 1 << 14,
     OF_FILE | 1 << 10 | 1 << 11 | 1 << 9,
     OF_FILE | 1 << 18 | 1 << 10 | 1 << 11,
@@ -34,17 +35,18 @@ static const uint32_t ALLOWED[OPERATIONS] = {
     OF_FILE | 1 << 13 | 1 << 16,
 };
 
-static Pages file_pages, plan_pages, plans_pages, list_pages, text_pages, made_pages, out_pages, other_pages, node_pages, found_pages,
-    answer_pages;
+static Pages file_pages, plan_pages, plans_pages, list_pages, text_pages, printed_pages, made_pages, out_pages, other_pages, node_pages,
+    found_pages, answer_pages;
 
 /* Bytes that C wrote. */
 static uint8_t expected[ROUTE_RULES_MAX_PDDL], expected_problem[ROUTE_RULES_MAX_PDDL];
 
 static uint64_t expected_nodes[NODE_WORDS];
 
-/* How often each operation gave each number, walk each verdict, search each outcome, a week figures or none, and how often a list
- * stopped or ran, with nothing lost or something. */
-static uint64_t numbers[OPERATIONS][REFUSALS], verdicts[5], outcomes[4], weeks[2], losses[3];
+/* How often each operation gave each number, walk each verdict, search each outcome, a week figures or none, how often a list
+ * stopped or ran, with nothing lost or something, and how often a source part was that of a list that does not solve the translation
+ * or does. */
+static uint64_t numbers[OPERATIONS][REFUSALS], verdicts[5], outcomes[4], weeks[2], losses[3], returned[2];
 
 static void same_answer(int operation, uint32_t number, Area answer, uint32_t expected_number, const uint64_t *words)
 {
@@ -358,6 +360,49 @@ static void try_walk_text(Area file, Area text, int at_end)
     same_answer(WALK_TEXT, number, answer, plain_walk_text(file.at, file.length, text.at, text.length, words), words);
 }
 
+/* Where the list in a text solves the translation, its source part solves, and its metric is what the list costs. */
+static void try_returned(Area file, Area text, Area part)
+{
+    static uint8_t translation[ROUTE_RULES_MAX_FILE];
+    route_rules_translated made;
+    route_rules_walked paid, walked;
+    route_rules_settled worth;
+    if (route_rules_translate(file.at, file.length, translation, sizeof translation, &made) != 0)
+        fail("a source part without a translation");
+    if (route_rules_walk_text(translation, made.length, text.at, text.length, &paid) != 0) fail("a source part of an unknown list");
+    returned[paid.verdict == ROUTE_RULES_SOLVED]++;
+    if (paid.verdict != ROUTE_RULES_SOLVED) return;
+    if (route_rules_walk(file.at, file.length, part.at, part.length, &walked) != 0 || walked.verdict != ROUTE_RULES_SOLVED)
+        fail("a source part that does not solve");
+    if (route_rules_settle(file.at, file.length, walked.cost, walked.met, &worth) != 0 || worth.metric != paid.cost)
+        fail("a planner that paid something else");
+}
+
+static void try_source(Area file, Area text, const Input *in)
+{
+    uint64_t words[8];
+    plain_source(file.at, file.length, text.at, text.length, expected, sizeof expected, words);
+    Area out = lend(out_pages, room_for(in->rooms[TO_SOURCE], words[1]), in->at_end);
+    Area answer = lend(answer_pages, 64, in->at_end);
+    uint32_t number = route_rules_source(file.at, file.length, text.at, text.length, out.at, out.length,
+                                         (route_rules_length *)answer.at);
+    same_answer(SOURCE, number, answer,
+                plain_source(file.at, file.length, text.at, text.length, expected, out.length, words), words);
+    holds_output(out, expected, words[1]);
+    if (number == 0) try_returned(file, text, lend_copy(other_pages, expected, words[1], in->at_end));
+}
+
+/* A list of translated actions as a planner prints it. */
+static void try_printed(Area file, const Input *in)
+{
+    static uint8_t bytes[TEXT_ROOM];
+    uint64_t words[8];
+    if (plain_write_plan(in->list, in->list_length, bytes, sizeof bytes, words) != 0) return;
+    Area printed = lend_copy(printed_pages, bytes, words[1], in->at_end);
+    try_source(file, printed, in);
+    unchanged(printed, bytes);
+}
+
 /* A line for each operation: how often each number came. */
 static void tell(void)
 {
@@ -374,6 +419,7 @@ static void tell(void)
     fprintf(stderr, "\nreached weeks none:%llu figures:%llu\n", (unsigned long long)weeks[0], (unsigned long long)weeks[1]);
     fprintf(stderr, "reached lists stopped:%llu nothing:%llu lost:%llu\n", (unsigned long long)losses[0],
             (unsigned long long)losses[1], (unsigned long long)losses[2]);
+    fprintf(stderr, "reached parts other:%llu paid:%llu\n", (unsigned long long)returned[0], (unsigned long long)returned[1]);
 }
 
 int LLVMFuzzerInitialize(int *count, char ***words)
@@ -385,6 +431,7 @@ int LLVMFuzzerInitialize(int *count, char ***words)
     plans_pages = pages(PLANS_ROOM);
     list_pages = pages(LIST_ROOM);
     text_pages = pages(TEXT_ROOM);
+    printed_pages = pages(TEXT_ROOM);
     made_pages = pages(ROUTE_RULES_MAX_FILE);
     out_pages = pages(ROUTE_RULES_MAX_PDDL);
     other_pages = pages(ROUTE_RULES_MAX_PDDL);
@@ -418,6 +465,8 @@ int LLVMFuzzerTestOneInput(const uint8_t *bytes, size_t size)
     try_read_plan(text, in.rooms[TO_READ], in.at_end);
     try_write_plan(plan, &in);
     try_walk_text(file, text, in.at_end);
+    try_source(file, text, &in);
+    try_printed(file, &in);
     unchanged(file, in.file);
     unchanged(plan, in.plan);
     unchanged(plans, in.plans);
