@@ -133,12 +133,14 @@ static void try_lost(Area file, Area list, int at_end)
     if (words[1] == ROUTE_RULES_RUN) try_beginning(file, list, words);
 }
 
+/* Of some rooms the area holds every text: where both do, the library does not count the texts first. */
 static void try_pddl(Area file, const Input *in)
 {
     uint64_t words[8];
+    uint8_t first = in->rooms[TO_DOMAIN], second = in->rooms[TO_PROBLEM];
     plain_pddl(file.at, file.length, expected, sizeof expected, expected_problem, sizeof expected_problem, words);
-    Area domain = lend(out_pages, room_for(in->rooms[TO_DOMAIN], words[1]), in->at_end);
-    Area problem = lend(other_pages, room_for(in->rooms[TO_PROBLEM], words[2]), in->at_end);
+    Area domain = lend(out_pages, first >= 248 ? ROUTE_RULES_MAX_PDDL : room_for(first, words[1]), in->at_end);
+    Area problem = lend(other_pages, second >= 192 ? ROUTE_RULES_MAX_PDDL : room_for(second, words[2]), in->at_end);
     Area answer = lend(answer_pages, 64, in->at_end);
     uint32_t number = route_rules_pddl(file.at, file.length, domain.at, domain.length, problem.at, problem.length,
                                        (route_rules_texts *)answer.at);

@@ -10,7 +10,6 @@ mod operations;
 use contenders::{Answer, Areas, NAMES};
 use inputs::Input;
 use operations::Operation::{self, *};
-use peer::pddl::{MAX_DOMAIN, MAX_PROBLEM};
 use peer::search::MAX_NODES;
 use std::fs;
 use std::hint::black_box;
@@ -21,10 +20,13 @@ fn folder() -> PathBuf {
     PathBuf::from(concat!(env!("CARGO_MANIFEST_DIR"), "/../target/bench"))
 }
 
+/// ROUTE_RULES_MAX_PDDL of the header: an area of this length is never too short, for any operation.
+const ENOUGH: usize = 262_144;
+
 fn areas(filled: u8) -> Areas {
     Areas {
-        out: vec![filled; MAX_DOMAIN],
-        other: vec![filled; MAX_PROBLEM],
+        out: vec![filled; ENOUGH],
+        other: vec![filled; ENOUGH],
         nodes: vec![u64::from(filled); 4 * MAX_NODES],
     }
 }

@@ -43,12 +43,16 @@ fn same(file: &[u8], rooms: (usize, usize)) -> Result<&'static str, String> {
     })
 }
 
-/// Areas that fit, and areas of which the first or the second is a byte too short. It answers both lengths.
+/// Areas that hold every text, areas that fit, and areas of which the first or the second is a byte too short. It answers both
+/// lengths.
 fn fitting(file: &[u8]) -> Result<(usize, usize), String> {
     let (domain, problem) = library::pddl(file, (MAX_DOMAIN, MAX_PROBLEM))
         .answer
         .map_err(|refusal| format!("{refusal:?}"))?;
     for (rooms, wanted) in [
+        ((library::MAX_PDDL, library::MAX_PDDL), "both texts"),
+        ((library::MAX_PDDL, problem - 1), "refused 14"),
+        ((domain - 1, library::MAX_PDDL), "refused 14"),
         ((domain, problem), "both texts"),
         ((domain - 1, problem), "refused 14"),
         ((domain, problem - 1), "refused 14"),
