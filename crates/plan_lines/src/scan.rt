@@ -240,26 +240,6 @@ fn line_here(s: Scan, t: &[u8]) -> StepLine
     }
 }
 
-// Counts the steps of a text, up to its faulty line: a step's line at once, any other byte by byte.
-pub fn count(text: &[u8]) -> Scan
-    ensures { λ r. ⌜ counted r ≡ countOf 0 (readLines 0 (linesOf (now (text .entry)))) ⌝ }
-    ensures { λ r. ⌜ r .line + begun (r .mode) ≤ length (now (text .entry)) ⌝ }
-{
-    let mut s = at_line(0, 0);
-    let mut i = 0;
-    while i < text.len() {
-        let l = line_here(s, &text[i..]);
-        if 0 < l.size {
-            s = at_line(s.line + 1, s.steps + 1);
-            i += l.size;
-        } else {
-            s = advanced(s, text[i]);
-            i += 1;
-        }
-    }
-    s
-}
-
 // Writes the step of a line.
 fn put_step(m: Mode, out: &mut [u8], at: usize)
     requires { ⌜ at + 1 < 2 ^ 64 ⌝ }
@@ -283,10 +263,13 @@ fn put_byte(m: Mode, b: u8, out: &mut [u8], at: usize)
     }
 }
 
-// Writes the steps of a text.
-pub fn fill(text: &[u8], out: &mut [u8])
+// Writes the steps of a text, as far as the area reaches, and counts them, up to its faulty line: a step's line at once, any other byte
+// by byte.
+pub fn fill(text: &[u8], out: &mut [u8]) -> Scan
     requires { ⌜ length (now text) ≤ 65536 ⌝ }
     ensures { λ r. ⌜ now (out .exit) ≡ written (stepsFrom start (now (text .entry))) 0 (now (out .entry)) ⌝ }
+    ensures { λ r. ⌜ counted r ≡ countOf 0 (readLines 0 (linesOf (now (text .entry)))) ⌝ }
+    ensures { λ r. ⌜ (r .line + begun (r .mode) ≤ length (now (text .entry))) × (r .steps ≤ length (now (text .entry))) ⌝ }
 {
     let mut s = at_line(0, 0);
     let mut i = 0;
@@ -304,4 +287,5 @@ pub fn fill(text: &[u8], out: &mut [u8])
             i += 1;
         }
     }
+    s
 }

@@ -38,6 +38,10 @@ pub put-whole : (bytes area out : List ℕ) (n : ℕ) (o : Outcome) → length b
     → (written n ≡ o) × (out ≡ areaAfter bytes area o)
 put-whole bytes area out n o e h w y = put-down bytes area out n o e (w ∙ written-whole bytes area (omega arith)) y
 
+-- what was written at the front of an area that has room for it
+pub front-put : (bytes area : List ℕ) (n : ℕ) → length bytes ≡ n → n ≤ length area → take n (put bytes 0 area) ≡ bytes
+front-put bytes area n e h = ap (take n) (written-whole bytes area (omega arith)) ∙ take-at bytes (drop (length bytes) area) n e
+
 -- Room
 
 module _ (k bytes room : ℕ) where

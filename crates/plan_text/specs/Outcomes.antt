@@ -1,7 +1,7 @@
 -- What reading, writing and walking a plan's text answer, and what a text is judged as: document 02, request 1.
 use mathlib.Core.Bool.{cond}
 use mathlib.Core.List.{List, []}
-use Prim.Native.Nat.{ℕ}
+use Prim.Native.Nat.{ℕ, _≤_}
 use lib.Dec.{leb}
 use lib.ListN.{length}
 use Rattle.task.specs.Check
@@ -27,6 +27,10 @@ readBy room (faulty i) = refused TEXT i
 
 unfoldable pub readOutcome : List ℕ → ℕ → Outcome
 readOutcome t room = readBy room (readPlan t)
+
+-- an area of so many bytes has room for every plan that a text of so many may hold
+abbrev pub HasRoom : ℕ → ℕ → Type 0
+HasRoom bytes room = (steps : ℕ) → steps ≤ MAX-STEPS → steps ≤ bytes → steps ≤ room
 
 -- the plan read; none from a faulty text
 abbrev pub steps : Read → List ℕ

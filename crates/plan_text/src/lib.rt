@@ -1,8 +1,9 @@
 // Plans as planners print them: a line for each step.
 ghost use mathlib.Core.Path.{_≡_};
+ghost use Prim.Native.Nat.{_≤_};
 ghost use lib.ListN.{length};
 ghost use Rattle.plan_lines.specs.PlanText.{textOf};
-ghost use Rattle.plan_text.specs.Outcomes.{readOutcome, stepsIn, writeOutcome, refusedAfter, textWalked};
+ghost use Rattle.plan_text.specs.Outcomes.{HasRoom, readOutcome, stepsIn, writeOutcome, refusedAfter, textWalked};
 ghost use Rattle.outcome.specs.Outcome.{areaAfter};
 ghost use Rattle.outcome.specs.Answers.{answer};
 ghost use Rattle.task.specs.Check.{check};
@@ -16,6 +17,28 @@ use task::Refusal;
 use task::limits;
 use task::refused;
 
+// Reads a text by way of an area of our own, which has room for every plan that the text may hold.
+fn read_through(text: &[u8], own: &mut [u8], out: &mut [u8]) -> Outcome
+    requires { ⌜ (length (now text) ≤ 65536) × HasRoom (length (now text)) (length (now own)) ⌝ }
+    ensures { λ r. ⌜ answer r ≡ readOutcome (now (text .entry)) (length (now (out .entry))) ⌝ }
+    ensures { λ r.
+        let outcome = readOutcome (now (text .entry)) (length (now (out .entry))) in
+        ⌜ now (out .exit) ≡ areaAfter (stepsIn (now (text .entry))) (now (out .entry)) outcome ⌝ }
+{
+    let s = scan::fill(text, &mut *own);
+    if !scan::between_lines(s) {
+        return outcome::refuse(refused::TEXT, s.line as u16);
+    }
+    if limits::MAX_STEPS < s.steps {
+        return outcome::refuse(refused::LONG_PLAN, 0);
+    }
+    if out.len() < s.steps {
+        return outcome::refuse(refused::SHORT_OUTPUT, 0);
+    }
+    text::put_bytes(&mut *out, 0, text::front(&*own, s.steps));
+    Outcome::Written(s.steps)
+}
+
 // Reads a text into a plan, one byte a step, at the start of the area.
 pub fn read(text: &[u8], out: &mut [u8]) -> Outcome
     ensures { λ r. ⌜ answer r ≡ readOutcome (now (text .entry)) (length (now (out .entry))) ⌝ }
@@ -26,18 +49,12 @@ pub fn read(text: &[u8], out: &mut [u8]) -> Outcome
     if limits::MAX_TEXT < text.len() {
         return outcome::refuse(refused::TEXT, 0);
     }
-    let s = scan::count(text);
-    if !scan::between_lines(s) {
-        return outcome::refuse(refused::TEXT, s.line as u16);
+    if text.len() <= 64 {
+        let mut few: [u8; 64] = [0; 64];
+        return read_through(text, &mut few, &mut *out);
     }
-    if limits::MAX_STEPS < s.steps {
-        return outcome::refuse(refused::LONG_PLAN, 0);
-    }
-    if out.len() < s.steps {
-        return outcome::refuse(refused::SHORT_OUTPUT, 0);
-    }
-    scan::fill(text, &mut *out);
-    Outcome::Written(s.steps)
+    let mut steps: [u8; 2048] = [0; 2048];
+    read_through(text, &mut steps, &mut *out)
 }
 
 // Writes a plan as text at the start of the area. It is counted first where the area is not long enough for every plan of as many steps.

@@ -26,10 +26,9 @@ returns : tie.Need-returns
 returns c =
     let n = c .before .before in
     let a = n .before .before .before .before .before .args in
-    let put = n .put-number .ensures .0 in (
-      subst (λ (l : List ℕ). Wrote (now (a .out)) (a .at) l (n .put-number .result) (n .put-number .last .0)) (ended (a .step)) put,
-      omega (arith, put .behind, length-append (decimal (a .step)) (ascii ")\n"), few-digits 2 (a .step) (search needs)),
-    )
+    let put = n .put-number .ensures .0 in
+    let line = subst (λ (l : List ℕ). Wrote (now (a .out)) (a .at) l (n .put-number .result) (n .put-number .last .0)) (ended (a .step)) put in
+    (line, omega (arith, put .behind, length-append (decimal (a .step)) (ascii ")\n"), few-digits 2 (a .step) (search needs)))
 
 pub put-step-spec : {M : Type 1} → statement M
 put-step-spec =

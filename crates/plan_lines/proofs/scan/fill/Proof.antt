@@ -1,5 +1,5 @@
--- The steps written and those from byte i on are the whole text's, and no more than its bytes: byte by byte by Scanning, and of a step's
--- line by StepLines.
+-- The steps written and those from byte i on are the whole text's, so is the count, and lines and steps are no more than the bytes passed: byte
+-- by byte by Scanning, and of a step's line by StepLines.
 use borrow.Author.Needs.{needs}
 use mathlib.Core.Path.{_≡_, refl, _∙_, subst}
 use mathlib.Core.Bool.{true}
@@ -10,14 +10,16 @@ use denote.Ref.{now}
 use lib.ListN.{length, drop, getD, length-drop}
 use lib.Seq.{take-all}
 use Rattle.text.specs.Area.{written}
-use Rattle.plan_lines.specs.Scan.{isOpening, start, stepsFrom, Begins}
-use Rattle.plan_lines.proofs.Scanning.{Passed, passed-start, passed-on, write-at, write-after}
-use Rattle.plan_lines.proofs.StepLines.{write-past, passed-past}
+use Rattle.plan_lines.specs.PlanText.{linesOf, readLines}
+use Rattle.plan_lines.specs.Scan.{isOpening, count, start, stepsFrom, Begins}
+use Rattle.plan_lines.proofs.Scanning.{countFrom, Passed, passed-start, passed-on, count-start, count-at, count-after, write-at, write-after}
+use Rattle.plan_lines.proofs.StepLines.{count-past, write-past, passed-past}
 use Rattle.plan_lines.proofs.scan.fill.Statement.{statement}
 use Rattle.plan_lines.proofs.scan.fill.Tie as tie
 
 abbrev Inv-loop : tie.InvT-loop
 Inv-loop text out₀ s₀ i₀ out s i = (i ≤ length text) × Passed s i × (length out ≡ length out₀) × (written (stepsFrom s (drop i text)) (s .steps) out ≡ written (stepsFrom start text) 0 out₀)
+    × (countFrom s (linesOf (drop i text)) ≡ count 0 (readLines 0 (linesOf text)))
 
 abbrev μ-loop : tie.MeasureT-loop
 μ-loop text out₀ s₀ i₀ out s i = length text - i
@@ -26,7 +28,9 @@ at-line-requires : tie.Need-at-line-requires Inv-loop μ-loop
 at-line-requires c κs = tt
 
 loop-holds : tie.Need-loop-holds Inv-loop μ-loop
-loop-holds c = rw (c .at-line .ensures) (search needs, passed-start, refl, refl)
+loop-holds c =
+    let t = now (c .before .before .before .args .text) in
+    rw (c .at-line .ensures) (search needs, passed-start, refl, refl, count-start t)
 
 -- the line that was found
 begins : (c : tie.Then1 Inv-loop μ-loop) → let k = c .before .before in let l = k .before .before .before in
@@ -78,6 +82,7 @@ loop-again c =
       passed-past s i z (search needs) (l .loop .inv .1),
       w .put-byte .kept .0 ∙ l .loop .inv .2,
       rw (w .put-byte .ensures .area) (write-past s t i (k .line-here .result .step) z (begins f .0) (begins f .1) (search needs) (l .loop .out)) ∙ l .loop .inv .3,
+      count-past s t i (k .line-here .result .step) z (begins f .0) (begins f .1) (search needs) ∙ l .loop .inv .4,
     )
 
 put-byte-requires-2 : tie.Need-put-byte-requires-2 Inv-loop μ-loop
@@ -96,6 +101,7 @@ loop-again-2 c =
       passed-on (l .loop .s) (getD t (l .loop .i) 0) (l .loop .i) (l .loop .inv .1),
       w .put-byte2 .kept .1 .1 .0 ∙ l .loop .inv .2,
       rw (w .put-byte2 .ensures) (write-at (l .loop .s) t (l .loop .i) (l .loop .out) (search needs)) ∙ l .loop .inv .3,
+      count-at (l .loop .s) t (l .loop .i) (search needs) ∙ l .loop .inv .4,
     )
 
 same-length : tie.Need-same-length Inv-loop μ-loop
@@ -105,7 +111,10 @@ returns : tie.Need-returns Inv-loop μ-loop
 returns c =
     let l = c .before in
     let t = now (l .before .before .before .before .args .text) in
-    write-after (l .loop .s) t (l .loop .i) (l .loop .out) (search needs) ∙ l .loop .inv .3
+    let p = l .loop .inv .1 in (
+      write-after (l .loop .s) t (l .loop .i) (l .loop .out) (search needs) ∙ l .loop .inv .3,
+      (count-after (l .loop .s) t (l .loop .i) (search needs) ∙ l .loop .inv .4, (omega (arith, p .lines), omega (arith, p .steps))),
+    )
 
 pub fill-spec : {M : Type 1} → statement M
 fill-spec =
