@@ -77,6 +77,20 @@ def instructions():
     return table(['operation', 'input', 'for each of', 'library before', 'library', 'plain C', '/ plain C'], cells)
 
 
+def shares():
+    """Where the instructions of the lines go that miss the goal beside plain C: the three largest parts of each."""
+    cells = []
+    for n, (row, counts) in enumerate(zip(figures('bench/times.csv'), figures('bench/instructions.csv'), strict=True)):
+        if not misses(row, 'plain C'):
+            continue
+        whole, plain = int(counts['library']), int(counts['plain C'])
+        parts = [line.split() for line in logged(f'bench/shares/{n}').splitlines()]
+        largest = sorted(((int(count.replace(',', '')), name) for count, name in parts), reverse=True)[:3]
+        cells.append([row['operation'], named(row['input']), f'{whole:,}', f'{plain:,}',
+                      ', '.join(f'{name} {count:,}' for count, name in largest)])
+    return table(['operation', 'input', 'library', 'plain C', 'largest parts of the library'], cells)
+
+
 def output(*command):
     return subprocess.run(command, capture_output=True, text=True, check=True).stdout
 
@@ -135,7 +149,7 @@ def mistakes():
 
 def main():
     text = open(DOCUMENT).read()
-    for part in (machine, times, instructions, fuzzed, coverage, mistakes):
+    for part in (machine, times, instructions, shares, fuzzed, coverage, mistakes):
         try:
             made = part()
         except FileNotFoundError as missing:
