@@ -120,9 +120,12 @@ def vectors():
         return f'{what}, limit {limit}, room {room}', stored.record(data) + stored.record(struct.pack('<QQ', limit, room)), shown(data, limit, room).encode()
 
     def limits(what, data):
-        """All nodes that there may be; as many as it takes and one less; 1 and 2; and limits that are refused."""
+        """All nodes that there may be; as many as it takes and one less; 1 and 2; and limits that are refused, also of a refused file."""
         yield vector(what, data, 1024, 1024)
-        if not refusal(data):
+        if refusal(data):
+            for limit, room in [(0, 0), (1025, 2000), (2, 1)]:
+                yield vector(what, data, limit, room)
+        else:
             needed = len(explored(data, 1024).nodes)
             for limit, room in sorted({(1, 1), (2, 3), (needed, needed), (max(1, needed - 1), needed), (needed + 1, needed)}):
                 yield vector(what, data, limit, room)
@@ -130,7 +133,9 @@ def vectors():
     for what, data, answer in by_hand():
         lines = answer.split('|')
         expect(what, shown(data, 1024, 1024).splitlines()[:len(lines)], lines)
-        if not refusal(data):
+        if refusal(data):
+            expect(f'{what}, before 16', shown(data, 0, 0), f'{answer}\n')
+        else:
             asked += engine(what, data)
         yield from limits(what, data)
     task = file('GOAL')

@@ -146,6 +146,15 @@ fn limits(file: &[u8], tally: &mut Tally) -> Result<(), String> {
     let (answer, count) = same(file, most, MAX_NODES)?;
     tally.count(answer);
     if answer.starts_with("refused") {
+        // A file is refused by its own number also where the limit is none.
+        for (limit, room) in [(0, 0), (2, 1), (most + 1, MAX_NODES + 2)] {
+            let (other, _) = same(file, limit, room)?;
+            if other != answer {
+                return Err(format!(
+                    "limit {limit}, room {room}: {other}, and not {answer}"
+                ));
+            }
+        }
         return Ok(());
     }
     walked(file)?;
