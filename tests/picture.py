@@ -5,6 +5,7 @@ by shared/translated.py, which rules are met by the stored texts of program judg
 tests/picture.py            needs what `rt staticlib route_rules` wrote
 tests/picture.py --write    writes docs/route.svg anew
 """
+import math
 import os
 import re
 import subprocess
@@ -13,7 +14,7 @@ import xml.etree.ElementTree as xml
 
 from shared import stored
 from shared.expected import expect
-from shared.files import BELT, HARD, MARK, PREFERENCES, SOFT, file, rows
+from shared.files import BELT, HARD, MARK, MOST, PREFERENCES, SOFT, file, rows
 from shared.tasks import random_tasks
 from shared.translated import lost, run, task, translation, true_in
 
@@ -26,6 +27,7 @@ PICTURE = os.path.join(ROOT, 'docs/route.svg')
 HOUSE = os.path.join(ROOT, 'examples/batch_house')
 DRAWN = (os.path.join(HOUSE, 'task.txt'), os.path.join(HOUSE, 'plans/gate_twice'))
 OUTCOME = re.compile(r'^\d+ \S+ \d+ (met|missed)$', re.M)
+LETTER = 0.6  # how wide a letter is for its size, on the average of DejaVu Sans
 
 
 def softened(data):
@@ -58,7 +60,8 @@ def ways(library, what, data, plan):
 
 
 def counted(what, of, svg):
-    """The picture has a dot for each condition in each state, a cell for each lost rule, and the outcomes."""
+    """The picture has a dot for each condition in each state, a cell for each lost rule, and the outcomes; its words have room."""
+    inside(what, svg)
     parts = [(part.tag.split('}')[1], part.attrib, part.text) for part in xml.fromstring(svg).iter()]
     conditions = sum(1 + (rule.psi is not None) for rule in of.rules)
     full = [attributes['fill'] == route.INK for tag, attributes, _ in parts if tag == 'circle']
@@ -69,6 +72,23 @@ def counted(what, of, svg):
     outcomes = [text for _, _, text in parts if text in ('met', 'missed')]
     wanted = [] if of.met is None else ['met' if met else 'missed' for met in of.met]
     expect(f'{what}: outcomes', outcomes, ['met', 'missed', *wanted])
+
+
+def inside(what, svg):
+    """No words leave the picture, nor the cell that they stand in."""
+    picture = xml.fromstring(svg)
+    whole = (0, 0, float(picture.attrib['width']), float(picture.attrib['height']))
+    cells = [[float(part.attrib[name]) for name in ('x', 'y', 'width', 'height')] for part in picture.findall('{*}rect') if 'x' in part.attrib]
+    for part in picture.findall('{*}text'):
+        x, y = float(part.attrib['x']), float(part.attrib['y'])
+        length = len(part.text) * LETTER * float(part.attrib.get('font-size', picture.attrib['font-size']))
+        slope = math.radians(float(part.attrib.get('transform', 'rotate(0 ').split('(')[1].split()[0]))
+        start = x - length * {'end': 1, 'middle': 0.5}.get(part.attrib.get('text-anchor'), 0)
+        end, rise = start + length * math.cos(slope), length * math.sin(slope)
+        holding = [cell for cell in cells if cell[0] <= x <= cell[0] + cell[2] and cell[1] <= y <= cell[1] + cell[3]]
+        left, top, width, height = (holding or [whole])[0]
+        fits = left <= start and end <= left + width and top <= y + rise <= top + height
+        expect(f'{what}: "{part.text}" has room', fits, True)
 
 
 def judged(library):
@@ -103,6 +123,13 @@ def main(option=None):
     for number, (what, data, plan, _) in enumerate(random_tasks(60, 29, SOFT + HARD)):
         if data[0] < 64:
             counted(what, ways(library, what, data, bytes(plan)), route.picture_of(route.way(library, data, bytes(plan)), what))
+    most = file(f'GOAL ACTION {MOST} always {MOST} CLAUSE HOLDS 0 always {MOST} CLAUSE HOLDS 0', F=1)
+    for names in [(), ('a_step_that_has_a_long_name',) * 9]:
+        of = ways(library, 'the greatest amounts', most, bytes(9))
+        counted('the greatest amounts', of, route.picture_of(of, 'a plan of nine steps at the greatest cost', (), names))
+    stops = file('GOAL ACTION CLAUSE HOLDS 0', F=1)
+    counted('a first step that stops', ways(library, 'stops', stops, b'\0'),
+            route.picture_of(route.way(library, stops, b'\0'), 'a first step that stops', (), ('a_step_that_does_not_apply',)))
     sixteen = file('GOAL ACTION 1 EFFECT ADD 0' + ' sometime-before 3 CLAUSE HOLDS 0 SECOND CLAUSE LACKS 0 LACKS 1' * 16, F=2)
     ways(library, '16 rules with two conditions', sixteen, b'\0\0')
     ways_tried, losing = judged(library)

@@ -8,9 +8,11 @@ of the actions, and else a byte for each step. Needs gcc, and what `rt staticlib
 
 Everything that is drawn is what the library answers. Which conditions hold in a state is asked by tasks made for that: the same facts and
 actions, no goal, and rules at-end φ and at-end ψ, walked up to the state. Which rules are lost is asked with the rule's own bit for a
-weight, after the steps up to the state and end, which leaves it; hard rules are asked as soft ones, and are drawn as broken.
+weight, after the steps up to the state and end, which leaves it; hard rules are asked as soft ones, and are drawn as broken. So a task
+that can't be translated is refused, and so is a plan of more than 2,047 steps.
 """
 import ctypes
+import math
 import os
 import struct
 import subprocess
@@ -171,6 +173,7 @@ def verdict_words(of):
 # ---- the picture
 
 LABEL, COLUMN, OUTCOME, TOP, LINE, MARGIN = 340, 58, 92, 150, 17, 16
+LETTERS, TITLE, LOSS, TILT = 12, 16, 10.5, 38  # the sizes of letters, and the slope of the actions' names in degrees
 INK, PALE, GRID = '#1a1a1a', '#6b6b6b', '#b8b8b8'
 MET, MISSED, LOST = '#d5ead9', '#f0b35a', '#f7ddd3'  # in print: nearly white, a mid grey, and light grey with lines
 
@@ -198,8 +201,41 @@ def heights(rules):
     return [(2 if rule.psi is None else 3) * LINE + 10 for rule in rules]
 
 
-def draw_head(picture, of, title, names):
-    picture.text(MARGIN, 26, title, font_size=16, font_weight='bold')
+def wide(words, size=LETTERS):
+    """About what words take, and rather more: most letters and all digits of DejaVu Sans are narrower."""
+    return len(words) * size * 0.65
+
+
+def bounds(of):
+    return [cost + lost for cost, lost in zip(of.cost, of.lost)]
+
+
+def loss_words(rule):
+    return 'broken' if rule.kind.startswith('hard-') else f'lost {rule.weight}'
+
+
+def step_words(of, names):
+    """The names of the steps from the states that are drawn; where a plan stops, the last one does not apply."""
+    return [name + (' (does not apply)' if i == of.states - 1 else '') for i, name in enumerate(names[:of.states])]
+
+
+# How wide a column is, which row the rules begin at, and how wide the picture is: amounts, names and title have room.
+Frame = namedtuple('Frame', 'column top width')
+
+
+def frame_of(of, title, steps):
+    amounts = [wide(str(amount)) for amount in [*of.cost, *of.lost, *bounds(of)]]
+    losses = [wide(loss_words(rule), LOSS) for rule, lost in zip(of.rules, of.is_lost) if any(lost)]
+    column = max(COLUMN, math.ceil(max(amounts + losses)) + 6)
+    up, along = math.sin(math.radians(TILT)), math.cos(math.radians(TILT))
+    top = max(TOP, math.ceil(max((wide(words) * up for words in steps), default=0)) + 60)
+    ends = [MARGIN + LABEL + column * i + math.ceil(wide(words) * along) for i, words in enumerate(steps, 1)]
+    outcomes = MARGIN + LABEL + column * of.states + 10 + OUTCOME
+    return Frame(column, top, max(outcomes, MARGIN + math.ceil(wide(title, TITLE)), *ends) + MARGIN)
+
+
+def draw_head(picture, of, frame, title, steps):
+    picture.text(MARGIN, 26, title, font_size=TITLE, font_weight='bold')
     picture.text(MARGIN, 46, verdict_words(of), font_size=13)
     picture.dot(MARGIN + 5, 66, True)
     picture.text(MARGIN + 15, 70, 'true')
@@ -209,65 +245,64 @@ def draw_head(picture, of, title, names):
         picture.box(x, 58, 18, 15, fill, stroke=GRID)
         picture.text(x + 24, 70, words)
     for i in range(of.states):
-        x = MARGIN + LABEL + COLUMN * i
-        picture.text(x + COLUMN / 2, TOP - 8, str(i), text_anchor='middle', font_weight='bold')
-        if i < len(names):
-            at = (x + COLUMN - 6, TOP - 22)
-            stops = ' (does not apply)' if i == of.states - 1 else ''
-            picture.text(*at, names[i] + stops, transform=f'rotate(-38 {at[0]} {at[1]})', fill=PALE if stops else INK)
-    picture.text(MARGIN + LABEL - 10, TOP - 8, 'state', text_anchor='end', fill=PALE)
+        x = MARGIN + LABEL + frame.column * i
+        picture.text(x + frame.column / 2, frame.top - 8, str(i), text_anchor='middle', font_weight='bold')
+        if i < len(steps):
+            at = (x + frame.column - 6, frame.top - 22)
+            picture.text(*at, steps[i], transform=f'rotate({-TILT} {at[0]} {at[1]})', fill=PALE if i == of.states - 1 else INK)
+    picture.text(MARGIN + LABEL - 10, frame.top - 8, 'state', text_anchor='end', fill=PALE)
 
 
-def draw_rule(picture, of, k, y, height, facts):
+def draw_rule(picture, of, frame, k, y, height, facts):
     """A rule's label, its cells, and where no step stops its outcome."""
     rule, right = of.rules[k], MARGIN + LABEL
-    hard = rule.kind.startswith('hard-')
     steps = '' if rule.steps is None else f' {rule.steps}'
-    weight = 'must hold' if hard else f'weight {rule.weight}'
+    weight = 'must hold' if rule.kind.startswith('hard-') else f'weight {rule.weight}'
     picture.text(MARGIN, y + LINE, f'{k}  {rule.kind}{steps}', font_weight='bold')
     picture.text(right - 10, y + LINE, weight, text_anchor='end')
     conditions = [('φ', rule.phi, of.phi[k])] + ([] if rule.psi is None else [('ψ', rule.psi, of.psi[k])])
     for line, (letter, condition, _) in enumerate(conditions, 2):
         picture.text(MARGIN + 18, y + line * LINE, shortened(f'{letter}  {condition_words(condition, facts)}', 46), fill=PALE)
     for i in range(of.states):
-        x, lost = right + COLUMN * i, of.is_lost[k][i]
-        picture.box(x, y, COLUMN, height, 'url(#lost)' if lost else 'white', stroke=GRID)
+        x, lost = right + frame.column * i, of.is_lost[k][i]
+        picture.box(x, y, frame.column, height, 'url(#lost)' if lost else 'white', stroke=GRID)
         if lost and not (i and of.is_lost[k][i - 1]):
-            picture.text(x + COLUMN / 2, y + LINE - 3, 'broken' if hard else f'lost {rule.weight}', text_anchor='middle', font_weight='bold',
-                         font_size=10.5, paint_order='stroke', stroke='white', stroke_width=3)
+            picture.text(x + frame.column / 2, y + LINE - 3, loss_words(rule), text_anchor='middle', font_weight='bold', font_size=LOSS,
+                         paint_order='stroke', stroke='white', stroke_width=3)
         for line, (_, _, truth) in enumerate(conditions, 2):
-            picture.dot(x + COLUMN / 2, y + line * LINE - 4, truth[i])
+            picture.dot(x + frame.column / 2, y + line * LINE - 4, truth[i])
     if of.met is not None:
-        x = right + COLUMN * of.states + 10
+        x = right + frame.column * of.states + 10
         picture.box(x, y, OUTCOME, height, MET if of.met[k] else MISSED, stroke=GRID)
         picture.text(x + OUTCOME / 2, y + height / 2 + 4, 'met' if of.met[k] else 'missed', text_anchor='middle', font_weight='bold')
 
 
-def draw_sums(picture, of, y):
-    bound = [cost + lost for cost, lost in zip(of.cost, of.lost)]
-    for line, (words, sums) in enumerate([('cost so far', of.cost), ('lost so far', of.lost), ('metric at least, whatever follows', bound)]):
+def draw_sums(picture, of, frame, y):
+    for line, (words, sums) in enumerate([('cost so far', of.cost), ('lost so far', of.lost), ('metric at least, whatever follows', bounds(of))]):
         top = y + line * (LINE + 6)
         picture.text(MARGIN, top + LINE, words, font_weight='bold')
         for i, amount in enumerate(sums):
-            x = MARGIN + LABEL + COLUMN * i
-            picture.box(x, top, COLUMN, LINE + 6, '#efefef' if line == 2 else 'white', stroke=GRID)
-            picture.text(x + COLUMN / 2, top + LINE - 1, str(amount), text_anchor='middle', font_size=9 if amount > 99999999 else 12)
+            x = MARGIN + LABEL + frame.column * i
+            picture.box(x, top, frame.column, LINE + 6, '#efefef' if line == 2 else 'white', stroke=GRID)
+            picture.text(x + frame.column / 2, top + LINE - 1, str(amount), text_anchor='middle', font_size=LETTERS)
 
 
 def picture_of(of, title, facts=(), names=()):
     """The SVG."""
-    picture, y = Picture(), TOP
-    draw_head(picture, of, title, names)
+    steps = step_words(of, names)
+    frame = frame_of(of, title, steps)
+    picture, y = Picture(), frame.top
+    draw_head(picture, of, frame, title, steps)
     for k, height in enumerate(heights(of.rules)):
-        draw_rule(picture, of, k, y, height, facts)
+        draw_rule(picture, of, frame, k, y, height, facts)
         y += height
-    draw_sums(picture, of, y + 14)
-    width, height = MARGIN * 2 + LABEL + COLUMN * of.states + 10 + OUTCOME, y + 14 + 3 * (LINE + 6) + MARGIN
+    draw_sums(picture, of, frame, y + 14)
+    width, height = frame.width, y + 14 + 3 * (LINE + 6) + MARGIN
     hatch = (f'<defs><pattern id="lost" width="7" height="7" patternUnits="userSpaceOnUse" patternTransform="rotate(45)"><rect width="7" height="7" '
              f'fill="{LOST}"/><line x1="0" y1="0" x2="0" y2="7" stroke="#b3472a" stroke-width="1.6"/></pattern></defs>')
     body = '\n'.join(picture.parts)
     return (f'<svg xmlns="http://www.w3.org/2000/svg" width="{width}" height="{height}" viewBox="0 0 {width} {height}" '
-            f'font-family="DejaVu Sans, Verdana, sans-serif" font-size="12" fill="{INK}">\n{hatch}\n'
+            f'font-family="DejaVu Sans, Verdana, sans-serif" font-size="{LETTERS}" fill="{INK}">\n{hatch}\n'
             f'<rect width="{width}" height="{height}" fill="white"/>\n{body}\n</svg>\n')
 
 
