@@ -6,7 +6,7 @@ ghost use lib.ListN.{length};
 ghost use Rattle.searched.specs.Searched.{searchFile, Lent};
 ghost use Rattle.searched.specs.Claim.{Claim};
 ghost use Rattle.nodes.specs.Nodes.{asNode};
-ghost use Rattle.cheapest.specs.Kept.{answer, KeptAs};
+ghost use Rattle.cheapest.specs.Kept.{byValue, KeptAs};
 use finding::Sought;
 use nodes;
 use nodes::Node;
@@ -42,9 +42,9 @@ fn searched_words<'a>(file: &'a [u8], limit: usize, room: usize) -> Kept
 
 // Searches the task in a file, keeping at most so many nodes. The list then begins with the nodes kept; a refusal leaves it as it was.
 pub fn search<'a, 'b>(file: &'a [u8], limit: usize, nodes: &'b mut [Node]) -> Searched
-    ensures { λ r. ⌜ (answer r ≡ searchFile (now (file .entry)) limit (length (now (nodes .entry))) .answer)
+    ensures { λ r. ⌜ (r ≡ byValue (searchFile (now (file .entry)) limit (length (now (nodes .entry)))))
         × Lent asNode (searchFile (now (file .entry)) limit (length (now (nodes .entry))) .kept) (now (nodes .entry)) (now (nodes .exit))
-        × Claim (now (file .entry)) limit (answer r) ⌝ }
+        × Claim (now (file .entry)) limit (searchFile (now (file .entry)) limit (length (now (nodes .entry))) .answer) ⌝ }
 {
     let k = searched_words(file, limit, nodes.len());
     let words = k.words;
