@@ -119,12 +119,24 @@ later ns i (some b) = cond (leb (nodeAt ns i .cost) (nodeAt ns b .cost)) (some i
 abbrev latest : Search
 latest = record { better = later; meet = meet; fit = fit; early = never }
 
-abbrev PassesBy : Search → List Node → ℕ → ℕ → Type 0
-PassesBy S ns j i =
-    (cheapestBy S ns (λ q. false) (length ns) ≡ some i) × (ltb j i ≡ true) × (leb (nodeAt ns j .cost) (nodeAt ns i .cost) ≡ true)
+abbrev PassesBy : Search → List Node → (ℕ → Bool) → ℕ → ℕ → Type 0
+PassesBy S ns taken j i =
+    (cheapestBy S ns taken (length ns) ≡ some i) × (taken j ≡ false) × (ltb j i ≡ true) × (leb (nodeAt ns j .cost) (nodeAt ns i .cost) ≡ true)
 
-passes-by : PassesBy latest (openingNode detour ∷ openingNode detour ∷ []) 0 1
-passes-by = (refl, refl, refl)
+-- two ways of one cost to the goal
+abbrev twins : Task
+twins = roads (move 3 0 1 ∷ move 3 0 2 ∷ move 1 2 3 ∷ move 1 1 3 ∷ [])
+
+-- the nodes when place 0 is taken and its actions are tried
+abbrev first-turn : List Node
+first-turn = triedBy latest twins 4 0 (openingNode twins) (singleton (openingNode twins)) 4 .nodes
+
+passes-by : PassesBy latest first-turn (with-place 0 (λ q. false)) 1 2
+passes-by = (refl, refl, refl, refl)
+
+-- and the other way is found
+second-way : (planOf right twins 4 3 ≡ 0 ∷ 3 ∷ []) × (planOf latest twins 4 3 ≡ 1 ∷ 2 ∷ [])
+second-way = (refl, refl)
 
 -- an equal cost replaces: fact 1 leads to fact 2 and back for nothing, and the origins go round
 abbrev lowered-equal : Node → Node → Node
