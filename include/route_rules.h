@@ -266,8 +266,9 @@ typedef struct route_rules_searched {
  * action 0; where no state is open none is answered.
  *
  * A plan found solves, and no list of any length that solves costs less; it is written into the first `steps` bytes of the plan, one
- * for each step. Where the answer is not full, none is answered exactly if no list solves. The list then begins with the nodes kept, in
- * the order found: its first 4 * `nodes` words are written. No other bytes are written. */
+ * for each step. Where the answer is not full, none is answered exactly if no list solves. Of what route_rules_translate wrote, the
+ * source steps of a plan found, those below A, have the least metric of all plans of the source, which is `cost`. The list then begins
+ * with the nodes kept, in the order found: its first 4 * `nodes` words are written. No other bytes are written. */
 uint32_t route_rules_search(const uint8_t *file, size_t file_length, uint64_t limit, uint64_t *nodes, size_t node_words,
                             uint8_t plan[ROUTE_RULES_MAX_FOUND], route_rules_searched *answer);
 
