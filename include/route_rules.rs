@@ -32,8 +32,23 @@ pub mod refused {
     pub const PLANS: u32 = 18;
 }
 
+/// The most facts, actions, preferences and rows of a task.
+pub const MAX_FACTS: usize = 128;
+pub const MAX_ACTIONS: usize = 128;
+pub const MAX_PREFERENCES: usize = 16;
+pub const MAX_ROWS: usize = 12_000;
+
+/// The greatest cost of an action, and the greatest weight of a soft rule; a hard rule's is 0.
+pub const MAX_AMOUNT: u64 = 4_294_967_295;
+
+/// The most steps of a plan: an area of this length is never too short for a plan that is read.
+pub const MAX_STEPS: usize = 2_048;
+
+/// The most steps of within and always-within.
+pub const MAX_DEADLINE: usize = 15;
+
 /// The length of the longest task file: an output area of this length is never too short.
-pub const MAX_FILE: usize = 8 + 5 * 12_000;
+pub const MAX_FILE: usize = 8 + 5 * MAX_ROWS;
 
 /// The largest cost that settle takes: no plan costs more.
 pub const MAX_COST: u64 = 8_796_093_020_160;
@@ -46,6 +61,9 @@ pub const MAX_NODES: usize = 1_024;
 
 /// The most steps of a plan that a search finds.
 pub const MAX_FOUND: usize = 1_023;
+
+/// The most plans of a week.
+pub const MAX_PLANS: usize = 64;
 
 /// The length of the longest plan's text that is read: an area of this length is never too short for a plan's text.
 pub const MAX_TEXT: usize = 65_536;
@@ -149,7 +167,7 @@ pub struct Figures {
     pub mean: u64,
     pub remainder: u64,
     /// How many meet preference k; 0 where there is no such preference.
-    pub meeting: [u64; 16],
+    pub meeting: [u64; MAX_PREFERENCES],
 }
 
 /// What comes of a list of translated actions.
@@ -496,7 +514,7 @@ pub fn week(file: &[u8], plans: &[u8]) -> Result<Option<Figures>, Refusal> {
         )
     })?;
     let [_, solving, least, greatest, sum, mean, remainder, ..] = words;
-    let mut meeting = [0; 16];
+    let mut meeting = [0; MAX_PREFERENCES];
     meeting.copy_from_slice(&words[8..]);
     Ok((solving > 0).then_some(Figures {
         solving,

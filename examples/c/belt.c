@@ -165,6 +165,21 @@ static void write_plan(const uint8_t *plan, size_t steps)
     fwrite(text, 1, answer.length, stdout);
 }
 
+/* Prints the steps of the plan in a text. */
+static void read_plan(const char *text, size_t room)
+{
+    static uint8_t plan[ROUTE_RULES_MAX_STEPS];
+    route_rules_length answer;
+    uint32_t number = route_rules_read_plan((const uint8_t *)text, strlen(text), plan, room, &answer);
+    if (number != 0) {
+        refused("read_plan", number, answer.place);
+        return;
+    }
+    printf("read_plan:");
+    for (uint64_t i = 0; i < answer.length; i++) printf(" %d", plan[i]);
+    printf("\n");
+}
+
 static void walk_text(const uint8_t *file, size_t length, const char *text)
 {
     route_rules_walked answer;
@@ -240,6 +255,8 @@ int main(int count, char **words)
     check(file, length - 1);                            /* a byte is missing */
 
     write_plan(plan, steps);
+    read_plan("; from a planner\n(a0)\n(a1)\n(a300)\n", ROUTE_RULES_MAX_STEPS); /* too large for a byte is 255 */
+    read_plan("; from a planner\n(a0)\n(a1)\n", 1);                           /* an area that is a byte short */
     walk_text(file, length, "; from a planner\n(a0)\n");
     walk_text(file, length, "; from a planner\n(a00)\n"); /* line 1 has a leading zero */
 

@@ -6,8 +6,8 @@
 mod route_rules;
 
 use route_rules::{
-    Found, Lost, Node, Refusal, Verdict, Walked, MAX_COST, MAX_FILE, MAX_FOUND, MAX_NODES, MAX_PDDL,
-    MAX_REPORT, MAX_TEXT,
+    Found, Lost, Node, Refusal, Verdict, Walked, MAX_COST, MAX_FILE, MAX_FOUND, MAX_NODES,
+    MAX_PDDL, MAX_REPORT, MAX_STEPS, MAX_TEXT,
 };
 use std::fs;
 
@@ -135,6 +135,16 @@ fn write_plan(plan: &[u8]) {
     }
 }
 
+/// Prints the steps of the plan in a text.
+fn read_plan(text: &[u8], room: usize) {
+    let mut plan = vec![0; room];
+    let line = route_rules::read_plan(text, &mut plan).map_or_else(
+        |refusal| format!(" {}", refused(refusal)),
+        |length| plan[..length].iter().map(|n| format!(" {n}")).collect(),
+    );
+    println!("read_plan:{line}");
+}
+
 fn walk_text(file: &[u8], text: &[u8]) {
     let line = route_rules::walk_text(file, text).map_or_else(refused, walked);
     println!("walk_text: {line}");
@@ -192,6 +202,8 @@ fn main() {
     check(&file[..file.len() - 1]); // a byte is missing
 
     write_plan(&plan);
+    read_plan(b"; from a planner\n(a0)\n(a1)\n(a300)\n", MAX_STEPS); // too large for a byte is 255
+    read_plan(b"; from a planner\n(a0)\n(a1)\n", 1); // an area that is a byte short
     walk_text(&file, b"; from a planner\n(a0)\n");
     walk_text(&file, b"; from a planner\n(a00)\n"); // line 1 has a leading zero
 
