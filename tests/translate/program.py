@@ -9,8 +9,9 @@ import sys
 
 sys.path.insert(0, os.path.dirname(os.path.dirname(os.path.abspath(__file__))))
 from shared.account import check
-from shared.files import BELT, MOST, file, goal
+from shared.files import BELT, file, goal
 from shared.programs import FOLDER, Link, faults, run
+from cases import by_hand
 
 belt = file(BELT, F=2)
 longest = file(goal(12000))
@@ -48,47 +49,6 @@ FAULTS = [
     ('a compiled whose close fails', dict(env=faults('compiled', close=0)), b''),
 ]
 
-# ---- deadlines, their trackers row by row
-
-PHI, PSI = 'CLAUSE HOLDS 0', 'CLAUSE HOLDS 1 LACKS 0 CLAUSE HOLDS 1'
-NOT_0, NOT_1 = 'CLAUSE LACKS 1 CLAUSE HOLDS 0', 'CLAUSE LACKS 1'  # each clause of ψ denied
-# Two facts, S 2, B 3, C 4, normal 5, ended 6, D1 7, D2 8. A preference, its trackers, what collect and forgo ask, and all facts.
-DEADLINES = [
-    (f'within 9 STEPS 0 {PHI}', f'EFFECT ADD 7 EFFECT CLAUSE LACKS 7 {PHI} ADD 2', ('HOLDS 2', 'LACKS 2'), 8),
-    (f'within 9 STEPS 1 {PHI}', f'EFFECT ADD 7 EFFECT CLAUSE HOLDS 7 ADD 8 EFFECT CLAUSE LACKS 8 {PHI} ADD 2', ('HOLDS 2', 'LACKS 2'), 9),
-    (f'always-within 9 STEPS 0 {PHI} SECOND {PSI}',
-     f'EFFECT {PHI} {NOT_0} ADD 3 ADD 2 EFFECT {PHI} {NOT_1} ADD 3 ADD 2 EFFECT CLAUSE LACKS 2 {PSI} DELETE 3', ('LACKS 3', 'HOLDS 3'), 7),
-    (f'always-within 9 STEPS 1 {PHI} SECOND {PSI}',
-     f'EFFECT {PHI} {NOT_0} ADD 3 ADD 7 EFFECT {PHI} {NOT_1} ADD 3 ADD 7 '
-     f'EFFECT CLAUSE HOLDS 7 {NOT_0} ADD 2 EFFECT CLAUSE HOLDS 7 {NOT_1} ADD 2 '
-     f'EFFECT CLAUSE LACKS 2 {PSI} DELETE 3 DELETE 7', ('LACKS 3', 'HOLDS 3'), 8),
-    (f'always-within 9 STEPS 2 SECOND {NOT_1}',
-     'EFFECT CLAUSE HOLDS 1 ADD 3 ADD 7 EFFECT CLAUSE HOLDS 7 CLAUSE HOLDS 1 ADD 8 EFFECT CLAUSE HOLDS 8 CLAUSE HOLDS 1 ADD 2 '
-     f'EFFECT CLAUSE LACKS 2 {NOT_1} DELETE 3 DELETE 7 DELETE 8', ('LACKS 3', 'HOLDS 3'), 9),
-]
-
-
-# ---- the greatest cost and the greatest weight: each is copied as it stands, the weight into its forgo
-
-def greatest(weight, last=''):
-    """The translation of a task with an action of the greatest cost and one preference, at-end of fact 0, over two facts. S is 2, C 4,
-    normal 5, ended 6."""
-    return file(f'START 5 GOAL CLAUSE HOLDS 6 CLAUSE HOLDS 4 ACTION {MOST} CLAUSE HOLDS 5 ACTION 0 CLAUSE HOLDS 5 EFFECT ADD 6 DELETE 5 '
-                'EFFECT CLAUSE HOLDS 0 ADD 2 ACTION 0 CLAUSE HOLDS 6 CLAUSE LACKS 4 CLAUSE HOLDS 2 EFFECT ADD 4 '
-                f'ACTION {weight} CLAUSE HOLDS 6 CLAUSE LACKS 4 CLAUSE LACKS 2 {last} EFFECT ADD 4', F=7)
-
-
-GREATEST = [(f'at-end {MOST}', greatest(MOST)), ('at-end 1000001', greatest(1000001)), ('hard-at-end', greatest(0, 'CLAUSE LACKS 6'))]
-
-
-def with_deadline(trackers, met, missed, facts, weight=9, last=''):
-    """The translation of a task with an action of cost 4 and one preference. Forgo costs its weight, and has a last clause if it is
-    hard."""
-    return file(f'START 5 GOAL CLAUSE HOLDS 6 CLAUSE HOLDS 4 ACTION 4 CLAUSE HOLDS 5 {trackers} '
-                f'ACTION 0 CLAUSE HOLDS 5 EFFECT ADD 6 DELETE 5 {trackers} '
-                f'ACTION 0 CLAUSE HOLDS 6 CLAUSE LACKS 4 CLAUSE {met} EFFECT ADD 4 '
-                f'ACTION {weight} CLAUSE HOLDS 6 CLAUSE LACKS 4 CLAUSE {missed} {last} EFFECT ADD 4', F=facts)
-
 
 def main(program):
     for what, files, line in REFUSED:
@@ -118,18 +78,11 @@ def main(program):
     for name, pieces in [('task', 1), ('compiled', 7)]:
         if run(program, dict(task=belt), env=faults(name, piece=pieces)) != ('', '', made):
             sys.exit(f'{name} in pieces')
-    for preference, trackers, closings, facts in DEADLINES:
-        hard = 'hard-' + preference.replace('within 9', 'within')
-        for rule, more in [(preference, {}), (hard, dict(weight=0, last='CLAUSE LACKS 6'))]:
-            task = file(f'GOAL ACTION 4 {rule}', F=2)
-            got = run(program, dict(task=task))
-            if got != ('', '', dict(task=task, compiled=with_deadline(trackers, *closings, facts, **more))):
-                sys.exit(f'{rule}: {got}')
-    for rule, compiled in GREATEST:
-        task = file(f'GOAL ACTION {MOST} {rule} CLAUSE HOLDS 0', F=2)
+    cases = list(by_hand())
+    for what, task, wanted in cases:
         got = run(program, dict(task=task))
-        if got != ('', '', dict(task=task, compiled=compiled)):
-            sys.exit(f'an action of the greatest cost and {rule}: {got}')
+        if got != ('', '', dict(task=task, compiled=wanted)):
+            sys.exit(f'{what}: {got}')
     widest = run(program, dict(task=file('GOAL within STEPS 15 always-within STEPS 15 SECOND', F=89)))
     if widest[:2] != ('', '') or widest[2]['compiled'][0] != 128:
         sys.exit('128 facts, 31 of them of deadlines')
@@ -139,7 +92,7 @@ def main(program):
     with_rule = run(program, dict(task=file(goal(11967) + ' hard-sometime')))
     if with_rule[:2] != ('', '') or len(with_rule[2]['compiled']) != 60008:
         sys.exit('the longest translation with a hard rule')
-    print(f'program translate: {len(REFUSED) + len(FAULTS) + 2 * len(DEADLINES) + len(GREATEST) + 11} cases as they should be')
+    print(f'program translate: {len(REFUSED) + len(FAULTS) + len(cases) + 11} cases as they should be')
 
 
 if __name__ == '__main__':

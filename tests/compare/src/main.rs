@@ -48,6 +48,7 @@ fn everything(first: u64, count: u64) -> Result<(), String> {
     walking::compare(first, count)
         .and_then(|()| settling::edges())
         .and_then(|()| settling::compare(first, count))
+        .and_then(|()| translating::vectors())
         .and_then(|()| translating::edges())
         .and_then(|()| translating::compare(first, count))
         .and_then(|()| spelling::edges())

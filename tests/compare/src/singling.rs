@@ -1,7 +1,7 @@
 //! Single literals in effects: the library's task beside the independent implementation's, and what it leaves as it was.
 
 use crate::library::{self, Verdict, Worth};
-use crate::stored::{hold, number};
+use crate::stored::{filled, hold, number};
 use crate::tally::Tally;
 use crate::translating;
 use peer::random::{widened, Random, MAX_FILE};
@@ -84,15 +84,8 @@ pub fn compare(first: u64, count: u64) -> Result<(), String> {
 /// The library gives the answers that the account in Python gave.
 pub fn vectors() -> Result<(), String> {
     hold("single", 2, |records| {
-        let (file, room) = (&records[0], &records[1]);
-        let (out, answer) = library::single(file, number(room, 0) as usize);
-        Ok(match answer {
-            Ok(length) => {
-                let digits = out[..length].iter().map(|byte| format!("{byte:02x}"));
-                digits.collect::<String>() + "\n"
-            }
-            Err(refusal) => format!("refused {} {}\n", refusal.number, refusal.place),
-        })
+        let (file, room) = (&records[0], number(&records[1], 0) as usize);
+        filled(library::single(file, room))
     })
 }
 

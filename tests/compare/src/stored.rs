@@ -1,5 +1,6 @@
 //! The vectors that scripts of tests/ store: records in `data/vectors`, and in `stdout` the answers to them, one after the other.
 
+use crate::library::{Left, Refusal, GUARD};
 use std::fs;
 
 /// The records: a length of 32 bits, little-endian, and as many bytes.
@@ -40,4 +41,25 @@ pub fn hold(
 /// The number of 64 bits at a place of a record.
 pub fn number(record: &[u8], at: usize) -> u64 {
     u64::from_le_bytes(record[at..at + 8].try_into().expect("8 bytes"))
+}
+
+/// What is written into an area, so many bytes at its start; those after them have to be as they were.
+pub fn written(area: &[u8], length: usize) -> Result<&[u8], String> {
+    let (written, rest) = area.split_at(length);
+    match rest.iter().all(|&byte| byte == GUARD) {
+        true => Ok(written),
+        false => Err("bytes after the output are written".to_string()),
+    }
+}
+
+/// The line of a refusal.
+pub fn refused(refusal: Refusal) -> String {
+    format!("refused {} {}\n", refusal.number, refusal.place)
+}
+
+/// The line of an answer that fills an area: the bytes written in hexadecimal digits, or the refusal.
+pub fn filled((out, answer): Left) -> Result<String, String> {
+    let written = written(&out, answer.unwrap_or(0))?;
+    let digits: String = written.iter().map(|byte| format!("{byte:02x}")).collect();
+    Ok(answer.map_or_else(refused, |_| digits + "\n"))
 }

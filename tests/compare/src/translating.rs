@@ -1,6 +1,7 @@
 //! Translations: the library's bytes beside the independent implementation's.
 
 use crate::library::{self, refused, Verdict};
+use crate::stored::{filled, hold, number};
 use crate::tally::Tally;
 use peer::{Action, Condition, Effect, Kind, Literal, Preference, Task};
 
@@ -81,6 +82,14 @@ pub fn compare(first: u64, count: u64) -> Result<(), String> {
     }
     println!("completed lists: {solved}, and {missed} that miss a hard rule");
     tally.finish()
+}
+
+/// The library gives the answers that the account in Python gave.
+pub fn vectors() -> Result<(), String> {
+    hold("translate", 2, |records| {
+        let (file, room) = (&records[0], number(&records[1], 0) as usize);
+        filled(library::translate(file, room))
+    })
 }
 
 // ---- the edges
