@@ -4,7 +4,7 @@ writes.
 
 tests/pddl/program.py PROGRAM     PROGRAM is target/bin/pddl
 
-The texts are written out here, letter by letter: the lines of document 02's request 4, the shortest texts, and the longest.
+The texts are those of texts.py, written out letter by letter.
 """
 import os
 import sys
@@ -12,7 +12,7 @@ import sys
 sys.path.insert(0, os.path.dirname(os.path.dirname(os.path.abspath(__file__))))
 from shared.files import BELT, MOST, file, goal
 from shared.programs import FOLDER, Link, faults, run
-from shared.tasks import LONGEST_DOMAIN, LONGEST_PROBLEM
+from texts import LONGEST, REQUEST, REQUEST_TEXTS, SMALL
 
 belt = file(BELT, F=2)
 small = file('GOAL')
@@ -41,48 +41,6 @@ REFUSED = [
     ('a hard rule with a deadline', dict(compiled=file('GOAL hard-within STEPS 1')), 'refused 13 0\n'),
     ('a hard weight', dict(compiled=file('GOAL hard-always 1'), **old), 'refused 5 1\n'),
     ('preferences, and folders for texts', {'compiled': belt, 'domain.pddl': FOLDER, 'problem.pddl': FOLDER}, 'refused 13 0\n'),
-]
-
-
-# ---- tasks and their texts
-
-def domain(facts, actions):
-    predicates = ''.join(f' (f{n})' for n in range(facts))
-    return ('(define (domain d)\n'
-            '(:requirements :negative-preconditions :disjunctive-preconditions :conditional-effects :action-costs)\n'
-            f'(:predicates{predicates})\n'
-            f'(:functions (total-cost))\n{actions})\n')
-
-
-def problem(opening, condition):
-    return ('(define (problem p) (:domain d)\n'
-            f'(:init (= (total-cost) 0){opening})\n'
-            f'(:goal {condition})\n'
-            '(:metric minimize (total-cost)))\n')
-
-
-REQUEST = file('START 1 GOAL CLAUSE HOLDS 2 CLAUSE HOLDS 0 LACKS 1 ACTION 3 CLAUSE HOLDS 0 LACKS 1 EFFECT CLAUSE HOLDS 2 ADD 0 DELETE 1 '
-               'ACTION 4294967295 ACTION EFFECT ACTION 1000001', F=3)
-REQUEST_TEXTS = (
-    domain(3, '(:action a0 :parameters () :precondition (and (or (f0) (not (f1)))) '
-              ':effect (and (increase (total-cost) 3) (when (and (f2)) (and (f0) (not (f1))))))\n'
-              '(:action a1 :parameters () :precondition (and) :effect (and (increase (total-cost) 4294967295)))\n'
-              '(:action a2 :parameters () :precondition (and) :effect (and (increase (total-cost) 0) (when (and) (and))))\n'
-              '(:action a3 :parameters () :precondition (and) :effect (and (increase (total-cost) 1000001)))\n'),
-    problem(' (f1)', '(and (f2) (or (f0) (not (f1))))'))
-
-LONGEST_DOMAIN_TEXTS = (
-    domain(128, ''.join(f'(:action a{n} :parameters () :precondition (and) :effect (and (increase (total-cost) 4294967295)'
-                        + ' (when (and) (and))' * (11871 if n == 127 else 0) + '))\n' for n in range(128))),
-    problem('', '(and)'))
-assert len(LONGEST_DOMAIN_TEXTS[0]) == 239060
-LONGEST_PROBLEM_TEXTS = domain(128, ''), problem('', '(and (or' + ' (not (f127))' * 11998 + '))')
-
-WRITTEN = [
-    ('the lines of the request', REQUEST, REQUEST_TEXTS),
-    ('GOAL alone', small, (domain(4, ''), problem('', '(and)'))),
-    ('the longest domain', LONGEST_DOMAIN, LONGEST_DOMAIN_TEXTS),
-    ('the longest problem', LONGEST_PROBLEM, LONGEST_PROBLEM_TEXTS),
 ]
 
 # A text that can't be opened: all files are left as they were.
@@ -118,7 +76,7 @@ def main(program):
         got = run(program, files)
         if got != (line, '', files):
             sys.exit(f'{what}: {str(got)[:1000]}, and not {line!r}')
-    for what, compiled, texts in WRITTEN:
+    for what, compiled, texts in SMALL + LONGEST:
         made = {'compiled': compiled, 'domain.pddl': texts[0].encode(), 'problem.pddl': texts[1].encode()}
         for before in [{}, old, {'domain.pddl': b'(' * 300000, 'problem.pddl': b')' * 300000}]:
             got = run(program, dict(compiled=compiled, **before))

@@ -14,6 +14,7 @@ translated the translated task, row by row, and runs of lists on it
 engine     the outside engine, gringo and clasp, over rules that stand beside the scripts
 planning   the same engine as a planner, on task files and on PDDL
 pddl       a parser of PDDL
+pddl_lines a task without preferences as PDDL, line by line
 programs   programs run in a folder of their own, with files that fail where asked
 expected   something held to what it should be
 """

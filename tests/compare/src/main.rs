@@ -69,6 +69,7 @@ fn everything(first: u64, count: u64) -> Result<(), String> {
         .and_then(|()| sources::edges())
         .and_then(|()| sources::compare(first, count))
         .and_then(|()| pddl::edges())
+        .and_then(|()| pddl::vectors())
         .and_then(|()| pddl::compare(first, count / 10))
         .and_then(|()| searching::vectors())
         .and_then(|()| searching::edges())

@@ -1,6 +1,7 @@
 //! PDDL texts: the library's beside the independent implementation's.
 
 use crate::library;
+use crate::stored::{hold, number, refused, written};
 use crate::tally::Tally;
 use peer::encode;
 use peer::pddl::{longest_domain, longest_problem, MAX_DOMAIN, MAX_PROBLEM};
@@ -63,6 +64,23 @@ fn fitting(file: &[u8]) -> Result<(usize, usize), String> {
         }
     }
     Ok((domain, problem))
+}
+
+/// The library gives the answers that the account in Python gave.
+pub fn vectors() -> Result<(), String> {
+    hold("pddl", 2, |records| {
+        let room = |at| number(&records[1], at) as usize;
+        let got = library::pddl(&records[0], (room(0), room(8)));
+        let (domain, problem) = got.answer.unwrap_or((0, 0));
+        let texts = [
+            written(&got.domain, domain)?,
+            written(&got.problem, problem)?,
+        ]
+        .concat();
+        let texts = String::from_utf8_lossy(&texts);
+        let lengths = format!("domain {domain} problem {problem}\n");
+        Ok(got.answer.map_or_else(refused, |_| lengths + &texts))
+    })
 }
 
 pub fn edges() -> Result<(), String> {
