@@ -1,11 +1,12 @@
 /* Route rules: check a task file, write the one spelling of its task, translate a task with soft and hard rules into a classical
- * task, write it with single literals in its effects, write it as PDDL, search it for a cheapest plan, walk a plan on a task, given
- * as bytes or as planners print it, settle what it is worth, put up to 64 plans into figures, and say what a half-made plan has
- * already lost.
+ * task, write it with single literals in its effects, write it as PDDL, search it for a cheapest plan, take the source part of what a
+ * planner prints for it, walk a plan on a task, given as bytes or as planners print it, settle what it is worth, put up to 64 plans
+ * into figures, and say what a half-made plan has already lost.
  *
- * Link target/staticlib/libroute_rules.a, which `rt staticlib route_rules` writes. Every function is proved: it answers every
- * input as the definitions say (crates/words/specs/Numbers.antt has the words of the answers), always returns, and
- * touches no memory but the areas lent to it. Nothing is kept between calls, so several threads may call at once.
+ * Link libroute_rules.a: of a release by what pkg-config says of route_rules; in the repository `rt staticlib route_rules` writes it
+ * into target/staticlib. Every function is proved: it answers every input as the definitions say (crates/words/specs/Numbers.antt has
+ * the words of the answers), always returns, and touches no memory but the areas lent to it. Nothing is kept between calls, so several
+ * threads may call at once.
  *
  * An area is a pointer and its length in bytes, or of a list of nodes in words. The pointer is never NULL, also where the length is
  * 0. The areas of one call do not overlap, unless both are only read.
@@ -73,7 +74,7 @@ enum {
     ROUTE_RULES_REFUSED_TRANSLATION_ROWS = 8, /* translation, or task with single literals, over 12,000 rows; 0 */
     ROUTE_RULES_REFUSED_SHORT_OUTPUT = 9,     /* output area under the output's length; 0 */
     ROUTE_RULES_REFUSED_LONG_PLAN = 10,       /* plan over 2,048 steps; 0 */
-    ROUTE_RULES_REFUSED_STEP = 11,            /* step not below A, for lost not below A + 2 * P + 1; the first such step */
+    ROUTE_RULES_REFUSED_STEP = 11,            /* step not below A, for lost and source not below A + 2 * P + 1; the first such step */
     ROUTE_RULES_REFUSED_TEXT = 12,            /* text over 65,536 bytes: 0; or a line of another form or without a newline: that line */
     ROUTE_RULES_REFUSED_PREFERENCES = 13,     /* the task has preferences; 0 */
     ROUTE_RULES_REFUSED_SHORT_AREA = 14,      /* a domain or a problem longer than its area; 0 */
