@@ -21,6 +21,9 @@
 #include <stddef.h>
 #include <stdint.h>
 
+/* The version; the changelog says what each adds. */
+#define ROUTE_RULES_VERSION "1.0.0"
+
 #ifdef __cplusplus
 extern "C" {
 #endif

@@ -1,6 +1,7 @@
 //! Safe functions over the static library, for Rust. It says what include/route_rules.h says.
 //!
-//! Take it into a crate as a module, and link `libroute_rules.a`: `rustc -L target/staticlib -l static=route_rules`.
+//! Take it into a crate as a module, and link `libroute_rules.a`: `rustc -L FOLDER -l static=route_rules`, the folder being lib of a
+//! release, or target/staticlib.
 #![allow(dead_code)]
 
 /// Why a call was refused, and where: a row, a step, a line, a plan, or 0. The numbers are those of `refused`.
@@ -31,6 +32,9 @@ pub mod refused {
     pub const CHOICES: u32 = 17;
     pub const PLANS: u32 = 18;
 }
+
+/// The version, the same as the header's.
+pub const VERSION: &str = "1.0.0";
 
 /// The most facts, actions, preferences and rows of a task.
 pub const MAX_FACTS: usize = 128;
