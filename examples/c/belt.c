@@ -1,6 +1,7 @@
 /* Checks the belt's task, translates it, writes the translation as PDDL and with single literals in its effects, searches it for a
- * cheapest plan, spells the task, walks a plan on it, as bytes and as text, settles what it is worth, puts a week of plans into
- * figures, says what beginnings of translated runs have lost, and prints the answers: belt TASK PLAN. */
+ * cheapest plan, spells the task, walks a plan on it, as bytes and as text, takes the source part of a translated one, settles
+ * what it is worth, puts a week of plans into figures, says what beginnings of translated runs have lost, and prints the answers:
+ * belt TASK PLAN. */
 #include "route_rules.h"
 
 #include <inttypes.h>
@@ -165,19 +166,33 @@ static void write_plan(const uint8_t *plan, size_t steps)
     fwrite(text, 1, answer.length, stdout);
 }
 
-/* Prints the steps of the plan in a text. */
+/* Prints the steps of a plan that was read. */
+static void steps_of(const char *operation, uint32_t number, const uint8_t *plan, const route_rules_length *answer)
+{
+    if (number != 0) {
+        refused(operation, number, answer->place);
+        return;
+    }
+    printf("%s:", operation);
+    for (uint64_t i = 0; i < answer->length; i++) printf(" %d", plan[i]);
+    printf("\n");
+}
+
 static void read_plan(const char *text, size_t room)
 {
     static uint8_t plan[ROUTE_RULES_MAX_STEPS];
     route_rules_length answer;
     uint32_t number = route_rules_read_plan((const uint8_t *)text, strlen(text), plan, room, &answer);
-    if (number != 0) {
-        refused("read_plan", number, answer.place);
-        return;
-    }
-    printf("read_plan:");
-    for (uint64_t i = 0; i < answer.length; i++) printf(" %d", plan[i]);
-    printf("\n");
+    steps_of("read_plan", number, plan, &answer);
+}
+
+/* From what a planner prints for the translation back to a plan of the source. */
+static void source(const uint8_t *file, size_t length, const char *text)
+{
+    static uint8_t plan[ROUTE_RULES_MAX_STEPS];
+    route_rules_length answer;
+    uint32_t number = route_rules_source(file, length, (const uint8_t *)text, strlen(text), plan, sizeof plan, &answer);
+    steps_of("source", number, plan, &answer);
 }
 
 static void walk_text(const uint8_t *file, size_t length, const char *text)
@@ -259,6 +274,8 @@ int main(int count, char **words)
     read_plan("; from a planner\n(a0)\n(a1)\n", 1);                           /* an area that is a byte short */
     walk_text(file, length, "; from a planner\n(a0)\n");
     walk_text(file, length, "; from a planner\n(a00)\n"); /* line 1 has a leading zero */
+    source(file, length, "(a0)\n(a2)\n(a4)\n(a5)\n; cost = 8\n");
+    source(file, length, "(a0)\n(a7)\n"); /* no translated action 7 */
 
     report(file, length, plan, steps);
     report(file, length, (const uint8_t *)"\2", 1); /* no action 2 */

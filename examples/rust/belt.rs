@@ -1,6 +1,7 @@
 //! Checks the belt's task, translates it, writes the translation as PDDL and with single literals in its effects, searches it for a
-//! cheapest plan, spells the task, walks a plan on it, as bytes and as text, settles what it is worth, puts a week of plans into
-//! figures, says what beginnings of translated runs have lost, and prints the answers: `belt TASK PLAN`.
+//! cheapest plan, spells the task, walks a plan on it, as bytes and as text, takes the source part of a translated one, settles
+//! what it is worth, puts a week of plans into figures, says what beginnings of translated runs have lost, and prints the answers:
+//! `belt TASK PLAN`.
 
 #[path = "../../include/route_rules.rs"]
 mod route_rules;
@@ -52,8 +53,7 @@ fn search(file: &[u8], limit: u64) {
         route_rules::search(file, limit, &mut nodes, &mut plan).map_or_else(refused, |searched| {
             let found = match searched.found {
                 Found::Plan { cost, steps } => {
-                    let steps: String = plan[..steps].iter().map(|n| format!(" {n}")).collect();
-                    format!("found cost {cost} steps{steps}")
+                    format!("found cost {cost} steps{}", self::steps(&plan[..steps]))
                 }
                 Found::NoPlan => "none".to_string(),
                 Found::Full => "full".to_string(),
@@ -135,14 +135,26 @@ fn write_plan(plan: &[u8]) {
     }
 }
 
-/// Prints the steps of the plan in a text.
+/// The steps of a plan that was read.
+fn steps(plan: &[u8]) -> String {
+    plan.iter().map(|n| format!(" {n}")).collect()
+}
+
 fn read_plan(text: &[u8], room: usize) {
     let mut plan = vec![0; room];
-    let line = route_rules::read_plan(text, &mut plan).map_or_else(
-        |refusal| format!(" {}", refused(refusal)),
-        |length| plan[..length].iter().map(|n| format!(" {n}")).collect(),
-    );
-    println!("read_plan:{line}");
+    match route_rules::read_plan(text, &mut plan) {
+        Ok(length) => println!("read_plan:{}", steps(&plan[..length])),
+        Err(refusal) => println!("read_plan: {}", refused(refusal)),
+    }
+}
+
+/// From what a planner prints for the translation back to a plan of the source.
+fn source(file: &[u8], text: &[u8]) {
+    let mut plan = vec![0; MAX_STEPS];
+    match route_rules::source(file, text, &mut plan) {
+        Ok(length) => println!("source:{}", steps(&plan[..length])),
+        Err(refusal) => println!("source: {}", refused(refusal)),
+    }
 }
 
 fn walk_text(file: &[u8], text: &[u8]) {
@@ -206,6 +218,8 @@ fn main() {
     read_plan(b"; from a planner\n(a0)\n(a1)\n", 1); // an area that is a byte short
     walk_text(&file, b"; from a planner\n(a0)\n");
     walk_text(&file, b"; from a planner\n(a00)\n"); // line 1 has a leading zero
+    source(&file, b"(a0)\n(a2)\n(a4)\n(a5)\n; cost = 8\n");
+    source(&file, b"(a0)\n(a7)\n"); // no translated action 7
 
     report(&file, &plan);
     report(&file, &[2]); // no action 2
