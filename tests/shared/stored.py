@@ -1,6 +1,6 @@
 """Vectors as they stand in a crate: in data/vectors what its program reads, one vector after the other, in stdout what it has to write.
 
-A vector is one record or two. A record is a length, 32 bits, little-endian, and as many bytes.
+A vector is one record, two or three. A record is a length, 32 bits, little-endian, and as many bytes.
 """
 import os
 import struct

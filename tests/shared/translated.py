@@ -223,16 +223,22 @@ def run(data, steps):
     return cost, state
 
 
+def refusal(made, steps):
+    """The line of refusal 10 or 11 of a list of the actions of a translation, or nothing."""
+    if len(steps) > 2048:
+        return 'refused 10 0'
+    unknown = [i for i, step in enumerate(steps) if step >= made[2]]
+    return f'refused 11 {unknown[0]}' if unknown else ''
+
+
 def lost(data, steps):
     """What is lost after a list of translated actions, as a line."""
     made = translation(data)
     if isinstance(made, str):
         return made
-    if len(steps) > 2048:
-        return 'refused 10 0'
-    unknown = [i for i, step in enumerate(steps) if step >= made[2]]
-    if unknown:
-        return f'refused 11 {unknown[0]}'
+    refused = refusal(made, steps)
+    if refused:
+        return refused
     after = run(made, steps)
     if isinstance(after, int):
         return f'stopped {after}'

@@ -9,8 +9,8 @@ A vector is two records (shared/stored.py): the task file, then the text. In std
 of 2,048 bytes answers, the lines of the plan read, and a line with what the text is worth on the task.
 
 Where the lines come from:
-- The first, and the plan's: the function `read` below, which splits a text at its newlines and holds each line to a regular
-  expression.
+- The first, and the plan's: the function `read` of shared/texts.py, which splits a text at its newlines and holds each line to a
+  regular expression.
 - The last: refused 1 to 6 by the account in shared/account.py, then 12 by `read`, then 10 and 11 by the account and the verdict by the
   outside engine (shared/engine.py), by the rules of tests/judge/meaning.lp.
 Where an answer stands beside a vector, it was written by hand, and has to agree with the lines.
@@ -25,27 +25,10 @@ from shared.account import check, refusal
 from shared.chance import Chance
 from shared.files import BELT, MOST, file
 from shared.stored import record
-
-LINE = re.compile(rb';.*|\(a(0|[1-9][0-9]*)\)')  # a dot is every byte but a newline
+from shared.texts import read, written
 
 
 # ---- the account
-
-def read(text):
-    """The plan in a text and no refusal, or no plan and the line of refusal 12."""
-    if len(text) > 65536:
-        return [], 'refused 12 0\n'
-    *lines, rest = text.split(b'\n')
-    matches = [LINE.fullmatch(line) for line in lines]
-    if None in matches or rest:
-        return [], f'refused 12 {[*matches, None].index(None)}\n'
-    numbers = [match[1] for match in matches if match[1]]
-    return [min(int(digits[:4]), 255) for digits in numbers], ''  # four digits are too large, and so are more
-
-
-def written(plan):
-    return ''.join(f'(a{step})\n' for step in plan)
-
 
 def worth(text):
     """Cost, metric and utility alone, of a verdict as program judge writes it."""

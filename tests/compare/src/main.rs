@@ -66,6 +66,7 @@ fn everything(first: u64, count: u64) -> Result<(), String> {
         .and_then(|()| losing::compare(first, count / 10))
         .and_then(|()| losing::continuations(first, count / 10))
         .and_then(|()| texts::compare(first, count))
+        .and_then(|()| sources::vectors())
         .and_then(|()| sources::edges())
         .and_then(|()| sources::compare(first, count))
         .and_then(|()| pddl::edges())

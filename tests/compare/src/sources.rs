@@ -1,6 +1,7 @@
 //! The way back from a planner: the source part that the library writes, beside the independent implementation's, and what it is worth.
 
 use crate::library::{self, expected, Verdict};
+use crate::stored::{hold, number};
 use crate::tally::Tally;
 use peer::random::{case, MAX_FILE};
 use peer::source::printed;
@@ -84,6 +85,22 @@ pub fn compare(first: u64, count: u64) -> Result<(), String> {
         }
     }
     tally.finish()
+}
+
+/// The library gives the answers that the account in Python gave.
+pub fn vectors() -> Result<(), String> {
+    hold("source", 3, |records| {
+        let (file, text, room) = (&records[0], &records[1], number(&records[2], 0) as usize);
+        let (out, answer) = library::source(file, text, room);
+        same(file, text, room)?;
+        Ok(match answer {
+            Ok(length) => {
+                let steps = out[..length].iter().map(|step| format!(" {step}"));
+                format!("plan{}\n", steps.collect::<String>())
+            }
+            Err(refusal) => format!("refused {} {}\n", refusal.number, refusal.place),
+        })
+    })
 }
 
 /// Texts and areas at their limits, on the belt.
