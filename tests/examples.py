@@ -101,10 +101,11 @@ def main(option=None):
     way = subprocess.run([os.path.join(SITE, 'run')], capture_output=True, text=True)
     expect('the small site', way.stdout + way.stderr, read(os.path.join(SITE, 'answers')).decode())
 
-    # The planner pays the least metric of the stored plans, and judge says the same of what it found.
-    cost, plan = RUN['planned'](text)
+    # The planner pays the least metric of the stored plans, and confirm says the same of what it printed.
+    cost, lines = RUN['planned'](text)
     expect("the planner's cost", cost, min(metrics(got)))
-    expect("the planner's plan", metrics(RUN['judged'](text.file(), plan)), [cost])
+    confirmed = RUN['confirmed'](text.file(), lines)
+    expect("the planner's plan", (metrics(confirmed), confirmed.split('\n')[-2]), ([cost], f'paid {cost}'))
     print(f'{count} files turned into text and back, {len(metrics(got))} solved plans and a planned one of the batch house, the small site: as they should be')
 
 
