@@ -3,3 +3,6 @@ pub mod SourceSteps
 -- What is answered, and the whole way of a text
 pub mod Sourced
 pub mod Returning
+-- Examples, and wrong definitions
+pub mod Examples
+pub mod Refuted

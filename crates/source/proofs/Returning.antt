@@ -84,10 +84,9 @@ module _ (b t : List ℕ) (z : Sizes) (can : measured b ≡ within z) where
         record {
           way = λ w n d solving.
               let is-part : sourcePart (taskOf b) (stepsIn t) ≡ take m area = ap (λ (A : ℕ). below A (stepsIn t)) (d .source-actions ∙ ap (λ (y : Sizes). y .actions) (sym same)) ∙ sym at-start in
-              let short : length (sourcePart (taskOf b) (stepsIn t)) ≤ 2048 = omega (arith, fewer (λ (k : ℕ). ltb k (length (taskOf b .actions))) (stepsIn t), answered-few z room t m e) in
-              (
+              let short : length (sourcePart (taskOf b) (stepsIn t)) ≤ 2048 = omega (arith, fewer (λ (k : ℕ). ltb k (length (taskOf b .actions))) (stepsIn t), answered-few z room t m e) in (
                 subst (λ (p : List ℕ). T (solves (taskOf b) p)) is-part (d .faithfully .onto (sourcePart (taskOf b) (stepsIn t)) .0 (stepsIn t, solving, refl)),
                 subst (λ (p : List ℕ). SettledAt b p (cost (taskOf (take n w)) (stepsIn t))) is-part
-                (paid-as-settled b w n z accepting d .pays (stepsIn t) solving short),
+                    (paid-as-settled b w n z accepting d .pays (stepsIn t) solving short),
               );
         }

@@ -41,8 +41,8 @@ returns c =
     let same = sym (on-steps z room t (m .l .given .0 .0) e) in (
       w .put-known .ensures .0 ∙ ap (ofKnown z room) front ∙ same,
       w .put-known .ensures .1
-      ∙ ap (λ (p : List ℕ). areaAfter (below (a .z .actions) p) (now (a .out)) (ofKnown z room p)) front
-      ∙ ap (areaAfter (below (a .z .actions) (stepsIn t)) (now (a .out))) same,
+          ∙ ap (λ (p : List ℕ). areaAfter (below (a .z .actions) p) (now (a .out)) (ofKnown z room p)) front
+          ∙ ap (areaAfter (below (a .z .actions) (stepsIn t)) (now (a .out))) same,
     )
 
 returns-2 : tie.Need-returns-2

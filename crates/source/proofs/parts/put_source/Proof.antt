@@ -27,7 +27,7 @@ loop-again c =
       search needs,
       search needs,
       one-step-more (now (a .out)) (now (a .steps)) (a .actions) (l .loop .out) (w .put-below .last .0) (l .loop .i) (l .loop .k) (w .put-below .result)
-      (search needs) (l .loop .inv .2) (w .put-below .ensures .0),
+          (search needs) (l .loop .inv .2) (w .put-below .ensures .0),
     )
 
 same-length : tie.Need-same-length Inv-loop μ-loop
