@@ -39,7 +39,7 @@ def faults(name, **after):
 
 def run(program, files, env=None, most=None):
     """What the program writes on standard output and on standard error, and the files after it. Files are {name: content};
-    where `most` is given no file may grow longer."""
+    where `most` is given no file may grow longer. A program ends with exit status 0, whatever it finds."""
     def limited():
         if most is not None:
             signal.signal(signal.SIGXFSZ, signal.SIG_IGN)
@@ -50,4 +50,6 @@ def run(program, files, env=None, most=None):
             make(os.path.join(folder, name), of)
         done = subprocess.run([os.path.abspath(program)], cwd=folder, capture_output=True, env=env, preexec_fn=limited)
         left = {name: content(os.path.join(folder, name)) for name in os.listdir(folder)}
+    if done.returncode != 0:
+        raise AssertionError(f'{program}: exit status {done.returncode}')
     return done.stdout.decode(), done.stderr.decode(), left
