@@ -79,7 +79,11 @@ fn main() {
     let mut compiled = io::large_buffer();
     let answer = translation::translate(text::front(&task, n), &mut compiled);
     match answer {
-        Outcome::Written(k) => walk(text::front(&task, n), text::front(&planned, m), text::front(&compiled, k)),
+        Outcome::Written(k) => walk(
+            text::front(&task, n),
+            text::front(&planned, m),
+            text::front(&compiled, k),
+        ),
         Outcome::Refused(f) => files::say_refused(f),
     }
 }

@@ -34,7 +34,15 @@ fn link(place: usize, action: usize) -> u64
 }
 
 // Tries one action from node x: how many nodes there are then, more than the limit where one had no room.
-fn try_action(marks: &[u8], values: &[u8], trial: Trial, x: Packed, words: &mut [u64], table: &mut [u16], tree: &mut [u16]) -> usize
+fn try_action(
+    marks: &[u8],
+    values: &[u8],
+    trial: Trial,
+    x: Packed,
+    words: &mut [u64],
+    table: &mut [u16],
+    tree: &mut [u16],
+) -> usize
     requires { ⌜ ((t : Task) × (k : ℕ) × (taken : ℕ → Bool) × Trying (now marks) (now values) trial x (now words) (now table) (now tree) t k taken) ⌝ }
     ensures { λ r. ⌜ ((t : Task) (k : ℕ) (taken : ℕ → Bool)
         → Trying (now (marks .entry)) (now (values .entry)) trial x (now (words .entry)) (now (table .entry)) (now (tree .entry)) t k taken
@@ -44,7 +52,14 @@ fn try_action(marks: &[u8], values: &[u8], trial: Trial, x: Packed, words: &mut 
     let Led::To(y) = led else {
         return trial.nodes;
     };
-    meeting::meet(&mut *words, &mut *table, &mut *tree, trial.nodes, trial.limit, y)
+    meeting::meet(
+        &mut *words,
+        &mut *table,
+        &mut *tree,
+        trial.nodes,
+        trial.limit,
+        y,
+    )
 }
 
 // Tries the actions, whose rows are `starts`, from the taken place: how many nodes there are then, more than the limit where one had
@@ -75,7 +90,15 @@ pub fn expand(
             nodes: n,
             limit,
         };
-        n = try_action(marks, values, trial, x, &mut *words, &mut *table, &mut *tree);
+        n = try_action(
+            marks,
+            values,
+            trial,
+            x,
+            &mut *words,
+            &mut *table,
+            &mut *tree,
+        );
         if limit < n {
             return n;
         }

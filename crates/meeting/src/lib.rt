@@ -37,7 +37,14 @@ fn add(words: &mut [u64], table: &mut [u16], tree: &mut [u16], slot: usize, n: u
 }
 
 // A node is met: how many there are then, one more than the limit where a new one has no room.
-pub fn meet(words: &mut [u64], table: &mut [u16], tree: &mut [u16], n: usize, limit: usize, x: Packed) -> usize
+pub fn meet(
+    words: &mut [u64],
+    table: &mut [u16],
+    tree: &mut [u16],
+    n: usize,
+    limit: usize,
+    x: Packed,
+) -> usize
     requires { ⌜ (n ≤ limit) × (limit ≤ 1024) × ((taken : ℕ → Bool) × Held (now words) (now table) (now tree) n taken) ⌝ }
     ensures { λ r. ⌜ ((taken : ℕ → Bool) → Held (now (words .entry)) (now (table .entry)) (now (tree .entry)) n taken → taken n ≡ false
         → MetAs (now (words .entry)) (now (words .exit)) (now (table .exit)) (now (tree .exit)) n limit x taken r) ⌝ }

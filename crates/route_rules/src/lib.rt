@@ -70,7 +70,8 @@ pub extern "C" fn route_rules_single(file: &[u8], out: &mut [u8], answer: &mut [
         let answered = singleOutcome (now (file .entry)) (length (now (out .entry))) in
         ⌜ now (out .exit) ≡ areaAfter (singledFile (now (file .entry))) (now (out .entry)) answered ⌝ }
     ensures { λ r. ⌜ ((n : ℕ) → singleOutcome (now (file .entry)) (length (now (out .entry))) ≡ written n → Singled (now (file .entry)) (now (out .exit)) n) ⌝ }
-    ensures { λ r. ⌜ ((n : ℕ) → singleOutcome (now (file .entry)) (length (now (out .entry))) ≡ written n → StillPaid (now (file .entry)) (now (out .exit)) n) ⌝ }
+    ensures { λ r. ⌜ ((n : ℕ) → singleOutcome (now (file .entry)) (length (now (out .entry))) ≡ written n
+        → StillPaid (now (file .entry)) (now (out .exit)) n) ⌝ }
 {
     words::put_outcome(single_effects::single(file, out), answer)
 }
@@ -116,7 +117,12 @@ pub extern "C" fn route_rules_write_plan(plan: &[u8], out: &mut [u8], answer: &m
 // Writes the source part of what a planner prints for the translation of the task in a file into the area `out`. A refusal leaves that area
 // as it was.
 #[no_mangle]
-pub extern "C" fn route_rules_source(file: &[u8], text: &[u8], out: &mut [u8], answer: &mut [u64; 8]) -> u32
+pub extern "C" fn route_rules_source(
+    file: &[u8],
+    text: &[u8],
+    out: &mut [u8],
+    answer: &mut [u64; 8],
+) -> u32
     ensures { λ r. ⌜ call r (now (answer .exit)) ≡ ofOutcome (sourced (now (file .entry)) (now (text .entry)) (length (now (out .entry)))) ⌝ }
     ensures { λ r.
         let answered = sourced (now (file .entry)) (now (text .entry)) (length (now (out .entry))) in

@@ -127,10 +127,9 @@ actions-sound (x ∷ l) ps s a =
     let more : List Piece = concatMap actionPieces l in
     let es : List Piece = map effect (x .effects) in
     let grouped : map plain head ++ es ++ more ++ ps ≡ map plain head ++ (es ++ (more ++ ps)) =
-    cc (append-assoc (map plain head ++ es) more ps, append-assoc (map plain head) es (more ++ ps)) in
-    (
+    cc (append-assoc (map plain head ++ es) more ps, append-assoc (map plain head) es (more ++ ps)) in (
       subst⁻¹ Sound grouped
-      (plain-sound head (es ++ (more ++ ps)) (condition-effectless (x .precondition)) (effects-sound (x .effects) (more ++ ps) (r .0) (r .1) .0)),
+          (plain-sound head (es ++ (more ++ ps)) (condition-effectless (x .precondition)) (effects-sound (x .effects) (more ++ ps) (r .0) (r .1) .0)),
       refl,
     )
 

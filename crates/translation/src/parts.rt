@@ -51,7 +51,9 @@ fn put_trackers(
 ) -> Cursor
     requires { ⌜ Room c (now out) × Rows (now marks) (now values) × Noted (now starts) facts ⌝ }
     requires { ⌜ Before (now out) c t (trackersBy (now marks) (now values) (now starts) facts false) ⌝ }
-    ensures { λ r. ⌜ Wrote (now (out .entry)) c (trackersBy (now (marks .entry)) (now (values .entry)) (now (starts .entry)) facts false) r (now (out .exit)) ⌝ }
+    ensures { λ r.
+        let trackers = trackersBy (now (marks .entry)) (now (values .entry)) (now (starts .entry)) facts false in
+        ⌜ Wrote (now (out .entry)) c trackers r (now (out .exit)) ⌝ }
 {
     if t.from < t.to {
         return writer::repeat_rows(&mut *out, c, t);

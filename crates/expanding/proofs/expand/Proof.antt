@@ -54,12 +54,15 @@ try-action-requires c κs =
     let l = k .before .before .before in
     let d = l .before in
     let b = d .before .before .before .before .before .before .before .before in
-    let a = b .args in
-    (b .pre .0, l .loop .k, b .pre .1,
-    trial (now (a .marks)) (now (a .values)) (now (a .starts)) (a .turn) (now (a .words)) (now (a .table)) (now (a .tree)) (b .pre .0) (b .pre .1) (b .pre .2)
-    (l .loop .k) (l .loop .words) (l .loop .table) (l .loop .tree) (l .loop .n) (l .loop .inv (b .pre .0) (b .pre .1) (b .pre .2))
-    (record { from = getD (now (a .starts)) (l .loop .k) 0; link = k .link .result; nodes = l .loop .n; limit = a .turn .limit }) (d .node-at .result)
-    (search needs) refl refl refl (d .node-at .ensures))
+    let a = b .args in (
+      b .pre .0,
+      l .loop .k,
+      b .pre .1,
+      trial (now (a .marks)) (now (a .values)) (now (a .starts)) (a .turn) (now (a .words)) (now (a .table)) (now (a .tree)) (b .pre .0) (b .pre .1) (b .pre .2)
+          (l .loop .k) (l .loop .words) (l .loop .table) (l .loop .tree) (l .loop .n) (l .loop .inv (b .pre .0) (b .pre .1) (b .pre .2))
+          (record { from = getD (now (a .starts)) (l .loop .k) 0; link = k .link .result; nodes = l .loop .n; limit = a .turn .limit }) (d .node-at .result)
+          (search needs) refl refl refl (d .node-at .ensures),
+    )
 
 -- what trying action k gave
 module _ (m : tie.After-try-action Inv-loop μ-loop) (t : Task) (taken : ℕ → Bool) where

@@ -19,8 +19,7 @@ cast-number c = let few = c .before .before .before .before .before .before .bef
 put-literals-requires : tie.Need-put-literals-requires
 put-literals-requires c κs =
     let p = c .before .before .before in
-    let st = p .before .before .before .before .before .before in
-    (
+    let st = p .before .before .before .before .before .before in (
       (p .put-row .ensures .room, st .pre .0 .1, st .pre .0 .3),
       (st .pre .1 .0 .condition, choosable (st .pre .1 .1) (st .args .j) (st .pre .0 .2)),
     )

@@ -12,8 +12,7 @@ returns : tie.Need-returns
 returns c =
     let n = c .before .count-choices in
     let s = c .skip-marks in
-    let ms = now (c .before .before .before .args .marks) in
-    (
+    let ms = now (c .before .before .before .args .marks) in (
       record { opened = omega (arith, n .ensures .0 .0); whole = s .ensures .0 .0; inside = s .ensures .0 .1 },
       λ vs. ap (λ (to : ℕ). record { choices = n .result .choices; clauses = n .result .clauses; changes = record { from = n .result .next; to = to } }) (s .ensures .1)
           ∙ ap (shapeBy ms) (n .ensures .1 vs),

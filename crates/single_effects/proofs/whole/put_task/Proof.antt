@@ -41,10 +41,12 @@ put-effect-requires c κs =
     let s = w .before .before in
     let l = s .before .before .before .before in
     let st = l .before .before .before .before in
-    let a = st .args in
-    (w .copy-rows .ensures .room, st .pre .0 .1,
+    let a = st .args in (
+      w .copy-rows .ensures .room,
+      st .pre .0 .1,
       effect-there (now (a .out)) (a .c) (st .pre .1 .0) (now (a .marks)) (now (a .values)) (l .loop .from) (l .loop .i) (l .loop .out) (l .loop .k) (here l)
-      (search needs) (search needs) (s .shape-of .result) (s .shape-of .ensures .1 (now (a .values))))
+          (search needs) (search needs) (s .shape-of .result) (s .shape-of .ensures .1 (now (a .values))),
+    )
 
 loop-less : tie.Need-loop-less Inv-loop μ-loop
 loop-less c =
