@@ -34,7 +34,7 @@ extern "C" {
 #define ROUTE_RULES_MAX_PREFERENCES 16
 #define ROUTE_RULES_MAX_ROWS 12000
 #define ROUTE_RULES_MAX_AMOUNT 4294967295 /* a cost, or a soft rule's weight: any 32-bit number; a hard rule's is 0 */
-#define ROUTE_RULES_MAX_STEPS 2048
+#define ROUTE_RULES_MAX_STEPS 2048 /* the steps of a plan; an area of this length is never too short for a source part */
 #define ROUTE_RULES_MAX_DEADLINE 15 /* the steps of within and always-within */
 #define ROUTE_RULES_MAX_COST 8796093020160 /* the cost of a plan: so many steps of the largest amount */
 #define ROUTE_RULES_MAX_CHOICES 64 /* the choices of one effect, of a literal from each clause */
@@ -52,10 +52,10 @@ extern "C" {
 /* An area of this length is never too short for a report. */
 #define ROUTE_RULES_MAX_REPORT 2048
 
-/* That no area of these four lengths is refused by 9 or 14 is proved: never-too-short in crates/plan_text/proofs/Longest.antt,
- * crates/translation/proofs/Longest.antt, crates/spelling/proofs/Longest.antt, crates/single_effects/proofs/Longest.antt and
- * crates/pddl_text/proofs/Longest.antt, and Longest of report; that no accepted file is longer than MAX_FILE: longest in
- * crates/task/proofs/Longest.antt. */
+/* That no area of these five lengths is refused by 9 or 14 is proved: never-too-short in crates/plan_text/proofs/Longest.antt,
+ * crates/source/proofs/Longest.antt, crates/translation/proofs/Longest.antt, crates/spelling/proofs/Longest.antt,
+ * crates/single_effects/proofs/Longest.antt and crates/pddl_text/proofs/Longest.antt, and Longest of report; that no accepted file is
+ * longer than MAX_FILE: longest in crates/task/proofs/Longest.antt. */
 
 /* Refusals, with their place. 1 to 3 are tried in order. Rows then go from the first; the first faulty row decides, 4 before
  * 5 on one row; 6 comes after all rows. 7 to 9 are translate's, 10 and 11 walk's, in that order, after 1 to 6.

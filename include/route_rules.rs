@@ -45,7 +45,7 @@ pub const MAX_ROWS: usize = 12_000;
 /// The greatest cost of an action, and the greatest weight of a soft rule; a hard rule's is 0.
 pub const MAX_AMOUNT: u64 = 4_294_967_295;
 
-/// The most steps of a plan: an area of this length is never too short for a plan that is read.
+/// The most steps of a plan: an area of this length is never too short for a plan that is read, or for a source part.
 pub const MAX_STEPS: usize = 2_048;
 
 /// The most steps of within and always-within.

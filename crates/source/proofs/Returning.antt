@@ -27,7 +27,7 @@ use Rattle.paid.proofs.CostIsMetric.{paid-as-settled}
 use Rattle.source.specs.Source.{below, ofText, outcome, partIn, Returned}
 use Rattle.source.proofs.Sourced.{answered-few}
 
-fewer : (p : ℕ → Bool) (xs : List ℕ) → length (filter p xs) ≤ length xs
+pub fewer : (p : ℕ → Bool) (xs : List ℕ) → length (filter p xs) ≤ length xs
 fewer p [] = omega arith
 fewer p (x ∷ xs) = go (p x) (fewer p xs)
   where

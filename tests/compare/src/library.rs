@@ -6,7 +6,7 @@ mod route_rules;
 pub use route_rules::{
     check, lost, refused, search, settle, walk, walk_text, week, Figures, Found, Lost, Node,
     Refusal, Searched, Sizes, Verdict, Walked, Worth, MAX_CHOICES, MAX_COST, MAX_FOUND, MAX_NODES,
-    MAX_PDDL, MAX_REPORT,
+    MAX_PDDL, MAX_REPORT, MAX_STEPS,
 };
 
 /// Fills an area before it is lent, and stands behind it.

@@ -1,6 +1,6 @@
 //! The way back from a planner: the source part that the library writes, beside the independent implementation's, and what it is worth.
 
-use crate::library::{self, expected, Verdict};
+use crate::library::{self, expected, Verdict, MAX_STEPS};
 use crate::stored::{hold, number};
 use crate::tally::Tally;
 use peer::random::{case, MAX_FILE};
@@ -23,6 +23,9 @@ const ANSWERS: [&str; 14] = [
     "source part",
     "the whole way",
 ];
+
+// The most steps, as callers are told.
+const _: () = assert!(peer::task::MAX_STEPS == MAX_STEPS);
 
 fn same(file: &[u8], text: &[u8], room: usize) -> Result<Option<Vec<u8>>, String> {
     let (out, answer) = library::source(file, text, room);
@@ -69,7 +72,7 @@ pub fn compare(first: u64, count: u64) -> Result<(), String> {
         let room = if seed % 5 == 0 {
             (seed / 5 % 4) as usize
         } else {
-            2_048
+            MAX_STEPS
         };
         match same(&case.file, &text, room).map_err(at)? {
             Some(part) => {
