@@ -1,10 +1,10 @@
 -- Nodes handed over to a lent list.
-use mathlib.Core.Path.{_≡_, refl, sym, _∙_, ap}
+use mathlib.Core.Path.{_≡_, refl, sym, _∙_, ap, subst}
 use mathlib.Core.List.{List, [], _∷_, _++_, map, map-append}
 use Prim.Native.Nat.{ℕ, zero, suc, _/_, _%_, _<_, _≤_}
 use native.Mathlib.Nat.{mod-eq-of-lt}
 use native.Mathlib.Omega.{arith}
-use lib.ListN.{length, length-take, take, drop, replicate}
+use lib.ListN.{length, take, drop, replicate}
 use lib.Seq.{take-at, drop-at}
 use Rattle.lists.specs.Lists.{singleton}
 use Rattle.searching.specs.Search
@@ -12,11 +12,11 @@ use Rattle.searching.specs.Search.{nodeAt}
 use Rattle.node_words.specs.Words.{packedAt, nodesOf}
 use Rattle.node_words.specs.Words
 use Rattle.node_words.proofs.Lists.{nodes-length, node-is}
-use Rattle.searched.specs.Searched.{Searched, searchFile, Lent}
+use Rattle.searched.specs.Searched.{Answer, found, no-plan, full, refused, Searched, searchFile, Lent}
 use Rattle.searched.specs.Claim.{Claim}
 use Rattle.searched.proofs.Claimed.{search-claim}
 use Rattle.searched.proofs.Small.{Small, kept-small}
-use Rattle.finding.specs.Finding.{asSearched, planAfter, Bounded}
+use Rattle.finding.specs.Finding.{asSearched, soughtBy, asSought, planAfter}
 use Rattle.finding.specs.declared.Sought.{Sought}
 use Rattle.finding.specs.declared.Sought.the-variants.{Found, NoPlan, Full, Refused}
 use Rattle.nodes.specs.declared.Node.{Node}
@@ -24,7 +24,7 @@ use Rattle.nodes.specs.Nodes.{asNode, nodeOf, upTo}
 use Rattle.nodes.proofs.Filling.{filled, length-upTo}
 use Rattle.cheapest.specs.LentWords.{nodesIn}
 use Rattle.cheapest.specs.declared.Kept.{Kept}
-use Rattle.cheapest.specs.Kept.{soughtAs, byValue, KeptAs}
+use Rattle.cheapest.specs.Kept.{answer, handedOver, KeptAs}
 
 -- What stands in words is what is kept
 
@@ -34,16 +34,13 @@ kept-is plan words (NoPlan n) = refl
 kept-is plan words (Full n) = refl
 kept-is plan words (Refused r) = refl
 
--- and the answer says how many steps and nodes there are
-sought-is : (plan words : List ℕ) (s : Sought) → length plan ≡ 1023 → Bounded s
-    → s ≡ soughtAs (asSearched plan words s .answer) (length (asSearched plan words s .kept))
-sought-is plan words (Found r n) long (l, h) =
-    let steps : r .steps ≡ length (take (r .steps) plan) = simp length-take (omega arith) in
-    let nodes : n ≡ length (nodesOf words n) = sym (nodes-length words n) in
-    (λ i. Found (record { steps = steps i; cost = r .cost }) (nodes i))
-sought-is plan words (NoPlan n) long h = ap NoPlan (sym (nodes-length words n))
-sought-is plan words (Full n) long h = ap Full (sym (nodes-length words n))
-sought-is plan words (Refused r) long h = refl
+-- The whole value stands for the answer of its search
+
+answer-is : (x : Answer) (n : ℕ) (area : List ℕ) → asSearched (planAfter x area) [] (soughtBy x n) .answer ≡ x
+answer-is (found p c) n area = ap (λ (l : List ℕ). found l c) (take-at p (drop (length p) area) (length p) refl)
+answer-is no-plan n area = refl
+answer-is full n area = refl
+answer-is (refused k i) n area = refl
 
 module _ (b : List ℕ) (limit room : ℕ) (words : List ℕ) (n : ℕ) (e : nodesOf words n ≡ searchFile b limit room .kept) where
   abbrev kept : List Search.Node
@@ -91,26 +88,30 @@ module _ (b : List ℕ) (limit room : ℕ) (words : List ℕ) (n : ℕ) (e : nod
       }
 
 pub handed : (b : List ℕ) (limit : ℕ) (ys zs : List Node) (k : Kept) → KeptAs b limit (length ys) k → zs ≡ filled (nodeOf (k .words)) ys (k .nodes)
-    → (k .searched ≡ byValue (searchFile b limit (length ys))) × Lent asNode (searchFile b limit (length ys) .kept) ys zs
-    × Claim b limit (searchFile b limit (length ys) .answer)
+    → (k .searched ≡ handedOver (searchFile b limit (length ys))) × (answer (k .searched) ≡ searchFile b limit (length ys) .answer)
+    × Lent asNode (searchFile b limit (length ys) .kept) ys zs × Claim b limit (answer (k .searched))
 handed b limit ys zs k K z =
-    (K .answers, lent b limit (length ys) (k .words) (k .nodes) (K .holds) ys zs z, search-claim b limit (length ys))
+    let S = searchFile b limit (length ys) in
+    let e : answer (k .searched) ≡ S .answer = ap answer (K .answers) ∙ answer-is (S .answer) (length (S .kept)) (replicate 1023 0) in (
+      K .answers,
+      e,
+      lent b limit (length ys) (k .words) (k .nodes) (K .holds) ys zs z,
+      subst (Claim b limit) (sym e) (search-claim b limit (length ys)),
+    )
 
--- what `find` has left in words of its own, and in an array of zeros
-pub kept-words : (b : List ℕ) (limit room : ℕ) (words plan : List ℕ) (s : Sought) (n : ℕ) → length words ≡ 4096 → length plan ≡ 1023
-    → n ≡ nodesIn s → asSearched plan words s ≡ searchFile b limit room → plan ≡ planAfter (searchFile b limit room .answer) (replicate 1023 0)
-    → Bounded s → KeptAs b limit room (record { searched = record { sought = s; steps = plan }; nodes = n; words = words })
-kept-words b limit room words plan s n long wide number e steps bounded =
+-- what `find` has left in words of its own
+pub kept-words : (b : List ℕ) (limit room : ℕ) (words plan : List ℕ) (s : Sought) (n : ℕ) → length words ≡ 4096 → n ≡ nodesIn s
+    → asSearched plan words s ≡ searchFile b limit room → s ≡ asSought (searchFile b limit room)
+    → plan ≡ planAfter (searchFile b limit room .answer) (replicate 1023 0)
+    → KeptAs b limit room (record { searched = record { sought = s; steps = plan }; nodes = n; words = words })
+kept-words b limit room words plan s n long number e sought steps =
     record {
       long = long;
       fits = fits b limit room words n holds;
       few = few b limit room words n holds;
-      answers = λ i. record { sought = sought i; steps = steps i };
+      answers = λ z. record { sought = sought z; steps = steps z };
       holds = holds;
     }
   where
     holds : nodesOf words n ≡ searchFile b limit room .kept
     holds = ap (nodesOf words) number ∙ kept-is plan words s ∙ ap (λ (x : Searched). x .kept) e
-
-    sought : s ≡ soughtAs (searchFile b limit room .answer) (length (searchFile b limit room .kept))
-    sought = sought-is plan words s wide bounded ∙ ap (λ (x : Searched). soughtAs (x .answer) (length (x .kept))) e

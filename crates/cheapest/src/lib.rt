@@ -6,12 +6,13 @@ ghost use lib.ListN.{length};
 ghost use Rattle.searched.specs.Searched.{searchFile, Lent};
 ghost use Rattle.searched.specs.Claim.{Claim};
 ghost use Rattle.nodes.specs.Nodes.{asNode};
-ghost use Rattle.cheapest.specs.Kept.{byValue, KeptAs};
+ghost use Rattle.cheapest.specs.Kept.{answer, handedOver, KeptAs};
 use finding::Sought;
 use nodes;
 use nodes::Node;
 
-// What the search comes to, and the steps of a plan found, as many as that says.
+// What the search comes to, and the steps of a plan found, as many as that says. The array is 0 after them, and all of it where none is
+// found.
 pub struct Searched {
     pub sought: Sought,
     pub steps: [u8; 1023],
@@ -42,9 +43,10 @@ fn searched_words<'a>(file: &'a [u8], limit: usize, room: usize) -> Kept
 
 // Searches the task in a file, keeping at most so many nodes. The list then begins with the nodes kept; a refusal leaves it as it was.
 pub fn search<'a, 'b>(file: &'a [u8], limit: usize, nodes: &'b mut [Node]) -> Searched
-    ensures { λ r. ⌜ (r ≡ byValue (searchFile (now (file .entry)) limit (length (now (nodes .entry)))))
+    ensures { λ r. ⌜ (r ≡ handedOver (searchFile (now (file .entry)) limit (length (now (nodes .entry)))))
+        × (answer r ≡ searchFile (now (file .entry)) limit (length (now (nodes .entry))) .answer)
         × Lent asNode (searchFile (now (file .entry)) limit (length (now (nodes .entry))) .kept) (now (nodes .entry)) (now (nodes .exit))
-        × Claim (now (file .entry)) limit (searchFile (now (file .entry)) limit (length (now (nodes .entry))) .answer) ⌝ }
+        × Claim (now (file .entry)) limit (answer r) ⌝ }
 {
     let k = searched_words(file, limit, nodes.len());
     let words = k.words;

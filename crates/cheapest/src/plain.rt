@@ -6,7 +6,7 @@ ghost use lib.ListN.{length, getD, drop};
 ghost use Rattle.searched.specs.Searched.{searchFile};
 ghost use Rattle.searched.specs.Claim.{Claim};
 ghost use Rattle.nodes.specs.Nodes.{upTo};
-ghost use Rattle.finding.specs.Finding.{asSearched, planAfter, Bounded};
+ghost use Rattle.finding.specs.Finding.{asSearched, asSought, planAfter, Bounded};
 ghost use Rattle.cheapest.specs.LentWords.{nodesIn, LentWords};
 use finding::Sought;
 
@@ -38,6 +38,7 @@ fn copy_words(words: &[u64], n: usize, out: &mut [u64])
 // a refusal leaves both as they were.
 pub fn search(file: &[u8], limit: usize, nodes: &mut [u64], plan: &mut [u8; 1023]) -> Sought
     ensures { λ r. ⌜ asSearched (now (plan .exit)) (now (nodes .exit)) r ≡ searchFile (now (file .entry)) limit (length (now (nodes .entry)) / 4) ⌝ }
+    ensures { λ r. ⌜ r ≡ asSought (searchFile (now (file .entry)) limit (length (now (nodes .entry)) / 4)) ⌝ }
     ensures { λ r. ⌜ LentWords (searchFile (now (file .entry)) limit (length (now (nodes .entry)) / 4) .kept) (now (nodes .entry)) (now (nodes .exit)) ⌝ }
     ensures { λ r. ⌜ now (plan .exit) ≡ planAfter (searchFile (now (file .entry)) limit (length (now (nodes .entry)) / 4) .answer) (now (plan .entry)) ⌝ }
     ensures { λ r. ⌜ Claim (now (file .entry)) limit (searchFile (now (file .entry)) limit (length (now (nodes .entry)) / 4) .answer) ⌝ }

@@ -20,6 +20,16 @@ asSearched plan words (NoPlan n) = record { answer = no-plan; kept = nodesOf wor
 asSearched plan words (Full n) = record { answer = full; kept = nodesOf words n }
 asSearched plan words (Refused r) = refusal (r .number) (r .place)
 
+-- the answer of a search that keeps so many nodes, and of a whole search
+abbrev pub soughtBy : Answer → ℕ → Sought
+soughtBy (found p c) n = Found (record { steps = length p; cost = c }) n
+soughtBy no-plan n = NoPlan n
+soughtBy full n = Full n
+soughtBy (refused k i) n = Refused (record { number = k; place = i })
+
+abbrev pub asSought : Searched → Sought
+asSought x = soughtBy (x .answer) (length (x .kept))
+
 -- an area for the plan, after the search: its rest is as it was
 abbrev pub planAfter : Answer → List ℕ → List ℕ
 planAfter (found p c) area = p ++ drop (length p) area

@@ -8,7 +8,7 @@ ghost use Rattle.meaning.specs.Task.{Task};
 ghost use Rattle.searching.specs.Search.{explore};
 ghost use Rattle.searched.specs.Searched.{searched, searchFile};
 ghost use Rattle.finding.specs.declared.Sought.the-variants.{Refused};
-ghost use Rattle.finding.specs.Finding.{asSearched, planAfter, Bounded, Kept, Ending};
+ghost use Rattle.finding.specs.Finding.{asSearched, asSought, planAfter, Bounded, Kept, Ending};
 use exploring::Ended;
 use node_words;
 use origins;
@@ -55,10 +55,12 @@ fn deliver(words: &[u64], e: Ended, plan: &mut [u8]) -> Sought
     }
 }
 
-// Searches the task in a file, for a list with so much room: the nodes kept stand in the words, the plan found in `plan`.
+// Searches the task in a file, for a list with so much room: the nodes kept stand in the words, the plan found in `plan`. What the words
+// hold after the nodes is left free, but for a refusal.
 pub fn find(file: &[u8], limit: usize, room: usize, words: &mut [u64], plan: &mut [u8]) -> Sought
     requires { ⌜ (length (now words) ≡ 4096) × (length (now plan) ≡ 1023) ⌝ }
     ensures { λ r. ⌜ asSearched (now (plan .exit)) (now (words .exit)) r ≡ searchFile (now (file .entry)) limit room ⌝ }
+    ensures { λ r. ⌜ r ≡ asSought (searchFile (now (file .entry)) limit room) ⌝ }
     ensures { λ r. ⌜ now (plan .exit) ≡ planAfter (searchFile (now (file .entry)) limit room .answer) (now (plan .entry)) ⌝ }
     ensures { λ r. ⌜ Bounded r × Kept r (now (words .entry)) (now (words .exit)) ⌝ }
 {

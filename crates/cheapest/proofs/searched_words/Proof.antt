@@ -1,7 +1,3 @@
--- What `find` has left is answered by value, by `kept-words`.
-use mathlib.Core.Path.{_≡_, _∙_}
-use Prim.Native.Nat.{ℕ}
-use lib.ListN.{length, length-replicate}
 use denote.Ref.{now}
 use Rattle.cheapest.proofs.Handed.{kept-words}
 use borrow.Author.Needs.{needs}
@@ -24,9 +20,9 @@ returns : tie.Need-returns
 returns c =
     let f = c .before .before .before in
     let a = f .before .before .before .before .args in
-    let long : length (f .find .last .1 .1 .1 .1 .0) ≡ 1023 = f .find .kept .1 .1 .1 .1 .0 ∙ length-replicate {A = ℕ} 1023 0 in
     kept-words (now (a .file)) (a .limit) (a .room) (f .find .last .1 .1 .1 .0) (f .find .last .1 .1 .1 .1 .0) (f .find .result) (c .nodes-in .result)
-    (f .find .kept .1 .1 .1 .0) long (c .nodes-in .ensures) (f .find .ensures .0) (f .find .ensures .1 .0) (f .find .ensures .1 .1 .0)
+    (f .find .kept .1 .1 .1 .0) (c .nodes-in .ensures) (f .find .ensures .0)
+    (f .find .ensures .1 .0) (f .find .ensures .1 .1 .0)
 
 pub searched-words-spec : {M : Type 1} → statement M
 searched-words-spec =

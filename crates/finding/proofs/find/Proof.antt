@@ -138,7 +138,7 @@ returns-4 c =
     made-answers (searchFile (file d) (b d .args .limit) (b d .args .room)) (explore (taskOf (file d)) (b d .args .limit)) (e .deliver .result)
     (now (b d .args .plan)) (e .deliver .last .1 .1 .0) (now (b d .args .words)) (o .on-rows .last .1 .1 .1 .0)
     (searches (file d) (b d .args .limit) (b d .args .room) (k d .check .result) (k d .check .ensures) (z d) (n d .before .c .given .1) (d .before .if1 .left) (is-allowed d))
-    (e .deliver .ensures .0) (e .deliver .ensures .1 (taskOf (file d)) (b d .args .limit) (ending o))
+    (e .deliver .kept .1 .1 .0 ∙ b d .pre .1) (e .deliver .ensures .0) (e .deliver .ensures .1 (taskOf (file d)) (b d .args .limit) (ending o))
 
 pub find-spec : {M : Type 1} → statement M
 find-spec =

@@ -35,7 +35,7 @@ module _ (f : tie.After-find) where
   answered s e = ap (λ (x : Searched). x .answer) (ap (asSearched steps words) (sym e) ∙ f .find .ensures .0)
 
   bounded : (s : Sought) → f .find .result ≡ s → Bounded s
-  bounded s e = subst Bounded e (f .find .ensures .1 .1 .0)
+  bounded s e = subst Bounded e (f .find .ensures .1 .1 .1 .0)
 
 put-requires : tie.Need-put-requires
 put-requires c κs =

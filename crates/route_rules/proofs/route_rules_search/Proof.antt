@@ -4,7 +4,8 @@ use denote.Ref.{now}
 use Prim.Native.Nat.{_/_}
 use lib.ListN.{length}
 use Rattle.optimal.proofs.Optimal.{optimal-on}
-use Rattle.words.specs.Numbers.{ofSearch}
+use Rattle.searched.specs.Searched.{searchFile}
+use Rattle.words.specs.Numbers.{ofSought}
 use Rattle.words.proofs.Sought.{sought-words}
 use borrow.Author.Needs.{needs}
 use Rattle.route_rules.proofs.route_rules_search.Statement.{statement}
@@ -24,10 +25,10 @@ returns c =
     let k = c .before .before .before .before in
     let a = k .before .before .before .before .before .args in
     let s = k .search in (
-      c .put-sought .ensures ∙ sought-words (s .last .1 .1 .1 .0) (s .last .1 .1 .0) (s .result) (s .ensures .1 .1 .1 .1 .1) (s .ensures .1 .1 .1 .1 .0) ∙ ap ofSearch (s .ensures .0),
+      c .put-sought .ensures ∙ ap ofSought (s .ensures .1 .0) ∙ sought-words (searchFile (now (a .file)) (a .limit) (length (now (a .nodes)) / 4)),
       (
-        s .ensures .1 .0,
-        (s .ensures .1 .1 .0, (s .ensures .1 .1 .1 .0, optimal-on (now (a .file)) (a .limit) (length (now (a .nodes)) / 4))),
+        s .ensures .1 .1 .0,
+        (s .ensures .1 .1 .1 .0, (s .ensures .1 .1 .1 .1 .0, optimal-on (now (a .file)) (a .limit) (length (now (a .nodes)) / 4))),
       ),
     )
 

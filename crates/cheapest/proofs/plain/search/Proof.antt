@@ -83,10 +83,13 @@ returns c =
     let e′ : after ≡ filled (λ (i : ℕ). getD (words k) i 0) (list k) (4 * nodesIn s) = e ∙ ap (λ (m : ℕ). filled (λ (i : ℕ). getD (words k) i 0) (list k) (4 * m)) (k .nodes-in .ensures) in (
       answer-copied (plan k) (words k) (list k) after s e′ ∙ answers k,
       (
-        lent-words (file k) (limit k) (length (list k) / 4) (words k) (list k) after (n k) (holds k) e,
+        k .before .before .find .ensures .1 .0,
         (
-          k .before .before .find .ensures .1 .0,
-          (search-claim (file k) (limit k) (length (list k) / 4), (k .before .before .find .ensures .1 .1 .0, long k)),
+          lent-words (file k) (limit k) (length (list k) / 4) (words k) (list k) after (n k) (holds k) e,
+          (
+            k .before .before .find .ensures .1 .1 .0,
+            (search-claim (file k) (limit k) (length (list k) / 4), (k .before .before .find .ensures .1 .1 .1 .0, long k)),
+          ),
         ),
       ),
     )
