@@ -1,6 +1,6 @@
 -- Each plan of a week is judged as judge does, and the first faulty one is what its name says.
-use mathlib.Core.Path.{_≡_, refl}
-use mathlib.Core.Bool.{Bool, true, false, not, cond, _&&_, _||_}
+use mathlib.Core.Path.{_≡_, refl, sym, _∙_}
+use mathlib.Core.Bool.{Bool, true, false, not, cond, _&&_, _||_, true≢false}
 use mathlib.Core.List.{List, [], _∷_}
 use Prim.Native.Nat.{ℕ, _<_}
 use native.Mathlib.Omega.{arith}
@@ -11,7 +11,7 @@ use Rattle.lists.specs.Lists.{all, any, takeUntil}
 use Rattle.task.specs.File.{Sizes, taskOf}
 use Rattle.task.specs.Check
 use Rattle.task.specs.Check.{check}
-use Rattle.meaning.specs.Verdict.{verdict}
+use Rattle.meaning.specs.Verdict.{Verdict, verdict}
 use Rattle.lists.proofs.Tests.{as-T, noneOf, and-both}
 use Rattle.plan.specs.Judged.{given, refused, judged, stepsKnown}
 use Rattle.figures.specs.Week.{isLong, hasUnknown, isFaulty, faultNumber}
@@ -54,6 +54,16 @@ judged-as b z h p = rw (h, at-most (length p) 2048, all-below (z .actions) p) (b
     by true unknown = refl
     by false true = refl
     by false false = refl
+
+-- so the verdict of a judged plan is the plan's, and it is not faulty
+pub judged-only : (b : List ℕ) (z : Sizes) → check b ≡ Check.accepted z → (p : List ℕ) (v : Verdict) → judged b p ≡ given v
+    → (isFaulty (z .actions) p ≡ false) × (verdict (taskOf b) p ≡ v)
+judged-only b z h p v e = go (isFaulty (z .actions) p) (sym (judged-as b z h p) ∙ e)
+  where
+    go : (x : Bool) → cond x (refused (faultNumber p) (faultPlace (z .actions) p)) (given (verdict (taskOf b) p)) ≡ given v
+        → (x ≡ false) × (verdict (taskOf b) p ≡ v)
+    go true q = absurd (true≢false (cc q))
+    go false q = (refl, cc q)
 
 pub not-long : (A : ℕ) (p : List ℕ) → T (not (isFaulty A p)) → T (leb (length p) 2048)
 not-long A p t = go (isLong p) refl t

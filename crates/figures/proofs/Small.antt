@@ -1,5 +1,5 @@
 -- No number of the tally outgrows its type.
-use mathlib.Core.Path.{_≡_, refl, sym, ap, subst, _∙_}
+use mathlib.Core.Path.{_≡_, refl, ap, subst, _∙_}
 use mathlib.Core.Bool.{Bool, true, false, cond}
 use mathlib.Core.List.{List, [], _∷_}
 use Prim.Native.Nat.{ℕ, suc, _+_, _*_, _≤_}
@@ -15,20 +15,19 @@ use Rattle.meaning.specs.Meaning.{metric}
 use Rattle.task.specs.Check
 use Rattle.task.specs.Check.{check}
 use Rattle.task.specs.Limits.{MAX-AMOUNT}
-use Rattle.meaning.specs.Verdict.{solved, stopped, goal-missed, rule-missed, verdict}
+use Rattle.meaning.specs.Verdict.{solved, stopped, goal-missed, rule-missed}
 use Rattle.lists.proofs.Tests.{tests, all-implies, and-both}
 use Rattle.meaning.proofs.Verdict.{solved-only}
 use Rattle.plan.specs.Judged
 use Rattle.plan.specs.Judged.{Judged, judged}
-use Rattle.figures.specs.Week.{isFaulty, faultNumber}
 use Rattle.figures.specs.Pass.{Tally, noPlans, raised, counted, Turn, on, ends, turned, AtMost, MOST, Small}
-use Rattle.figures.proofs.Judging.{faultPlace, judged-as, not-long}
+use Rattle.figures.proofs.Judging.{judged-only, not-long}
 use Rattle.figures.proofs.Solving.{accepted-limited, metric-most}
 
 more : (i c : ℕ) → T (leb c i) → T (leb c (i + 1))
 more i c t = le→leb c (i + 1) (omega (arith, leb→le c i t))
 
-length-raised : (met : ℕ → Bool) (k : ℕ) (cs : List ℕ) → length (raised met k cs) ≡ length cs
+pub length-raised : (met : ℕ → Bool) (k : ℕ) (cs : List ℕ) → length (raised met k cs) ≡ length cs
 length-raised met k [] = refl
 length-raised met k (c ∷ cs) = ap suc (length-raised met (k + 1) cs)
 
@@ -71,19 +70,10 @@ module _ (most : ℕ) where
 -- a metric that is counted
 pub metric-small : (b : List ℕ) (z : Sizes) → check b ≡ Check.accepted z → (p : List ℕ) (c m : ℕ) (u : ℤ) (s : ℕ → Bool)
     → judged b p ≡ Judged.given (solved c m u s) → m ≤ MOST
-metric-small b z h p c m u s e = go (isFaulty A p) refl (sym (judged-as b z h p) ∙ e)
-  where
-    A : ℕ
-    A = z .actions
-
-    go : (x : Bool) → isFaulty A p ≡ x
-        → cond x (Judged.refused (faultNumber p) (faultPlace A p)) (Judged.given (verdict (taskOf b) p)) ≡ Judged.given (solved c m u s)
-        → m ≤ MOST
-    go true q r = let no : _≡_ {A = ℕ} 0 1 = cc in omega arith
-    go false q r =
-        let v : verdict (taskOf b) p ≡ solved c m u s = cc in
-        let short : length p ≤ 2048 = leb→le (length p) 2048 (not-long A p (rw q tt)) in
-        omega (arith, metric-most (taskOf b) MAX-AMOUNT (accepted-limited b z h) p short, solved-only (taskOf b) p c m u s v .1)
+metric-small b z h p c m u s e =
+    let known = judged-only b z h p (solved c m u s) e in
+    let short : length p ≤ 2048 = leb→le (length p) 2048 (not-long (z .actions) p (rw (known .0) tt)) in
+    omega (arith, metric-most (taskOf b) MAX-AMOUNT (accepted-limited b z h) p short, solved-only (taskOf b) p c m u s (known .1) .1)
 
 abbrev tallyIn : Tally → Turn → Tally
 tallyIn d (on a) = a

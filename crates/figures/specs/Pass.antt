@@ -2,7 +2,7 @@
 use mathlib.Core.Path.{_≡_}
 use mathlib.Core.Bool.{Bool, cond, _||_}
 use mathlib.Core.List.{List, [], _∷_}
-use Prim.Native.Nat.{ℕ, _+_, _*_, _/_, _%_, _≤_}
+use Prim.Native.Nat.{ℕ, _+_, _*_, _-_, _/_, _%_, _≤_}
 use lib.Dec.{T, eqb, ltb, leb}
 use lib.ListN.{length, take, drop, replicate}
 use Rattle.lists.specs.Lists.{all}
@@ -102,3 +102,13 @@ pub record Small (most i : ℕ) (a : Tally) : Type 0 where
   pub sum : a .total ≤ i * most
   pub counts : AtMost i (a .meetings)
   pub sixteen : length (a .meetings) ≡ 16
+
+-- What is counted, of P preferences: no preference from P on, and none where no plan solves
+pub record Counting (P : ℕ) (a : Tally) : Type 0 where
+  pub sixteen : length (a .meetings) ≡ 16
+  pub beyond : drop P (a .meetings) ≡ replicate (16 - P) 0
+  pub unsolved : a .solving ≡ 0 → a .meetings ≡ replicate 16 0
+
+abbrev pub CountingIn : ℕ → Turn → Type 0
+CountingIn P (on a) = Counting P a
+CountingIn P (ends n k) = Unit {0}

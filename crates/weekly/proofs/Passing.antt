@@ -10,9 +10,10 @@ use Rattle.task.specs.Check.{check}
 use Rattle.plan.specs.Judged.{judged}
 use Rattle.figures.specs.Plans.{count}
 use Rattle.figures.specs.Week.{Answer}
-use Rattle.figures.specs.Pass.{Tally, noPlans, Turn, on, turned, passOn, closing, passAt, MOST, Small}
+use Rattle.figures.specs.Pass.{Tally, noPlans, Turn, on, turned, passOn, closing, passAt, MOST, Small, Counting, CountingIn}
 use Rattle.figures.proofs.Loop.{planAt, pass-next, pass-end}
 use Rattle.figures.proofs.Small.{small-first, small-turned}
+use Rattle.figures.proofs.Uncounted.{counting-first, counting-turned}
 use Rattle.weekly.specs.Answers.{asTally, turnAs}
 use Rattle.weekly.specs.declared.tally.Totals.{Totals}
 use Rattle.weekly.specs.declared.tally.Taken.{Taken}
@@ -23,6 +24,7 @@ use Rattle.task.specs.declared.Refusal.{Refusal}
 pub record Passing (b f : List ℕ) (P : ℕ) (a : Tally) (i : ℕ) : Type 0 where
   pub left : i ≤ count f
   pub small : Small MOST i a
+  pub counting : Counting P a
   pub same : passAt b f P a i ≡ passAt b f P noPlans 0
 
 abbrev none : Totals
@@ -33,6 +35,7 @@ begun b f P cs e =
     record {
       left = omega arith;
       small = subst (λ (l : List ℕ). Small MOST 0 (asTally none l)) (sym e) (small-first MOST);
+      counting = subst (λ (l : List ℕ). Counting P (asTally none l)) (sym e) (counting-first P);
       same = ap (λ (l : List ℕ). passAt b f P (asTally none l) 0) e;
     }
 
@@ -50,17 +53,21 @@ module _ (b f : List ℕ) (P : ℕ) (a : Tally) (i : ℕ) (s : Passing b f P a i
 
     -- a refused plan ends the pass
     pub refused-at : (r : Taken) (cs : List ℕ) → turnAs r cs ≡ turned i a (judged b p) → (g : Refusal) → r ≡ Refused g
-        → closing P (turnAs r cs) ≡ passAt b f P noPlans 0
-    refused-at r cs e g q =
-        ap (λ (r : Taken). closing P (turnAs r cs)) q ∙ ap (λ (r : Taken). passOn rest (turnAs r cs)) (sym q) ∙ next (turnAs r cs) e
+        → (closing P (turnAs r cs) ≡ passAt b f P noPlans 0) × CountingIn P (turnAs r cs)
+    refused-at r cs e g q = (
+      ap (λ (r : Taken). closing P (turnAs r cs)) q ∙ ap (λ (r : Taken). passOn rest (turnAs r cs)) (sym q) ∙ next (turnAs r cs) e,
+      subst (λ (r : Taken). CountingIn P (turnAs r cs)) (sym q) tt,
+    )
 
     -- any other is taken in
-    pub taken-on : (z : Sizes) → check b ≡ Check.accepted z → (r : Taken) (cs : List ℕ) → turnAs r cs ≡ turned i a (judged b p)
+    pub taken-on : (z : Sizes) → check b ≡ Check.accepted z → z .preferences ≡ P → (r : Taken) (cs : List ℕ) → turnAs r cs ≡ turned i a (judged b p)
         → (t : Totals) → r ≡ On t → Passing b f P (asTally t cs) (i + 1)
-    taken-on z c r cs e t q =
+    taken-on z c n r cs e t q =
         let turn : on (asTally t cs) ≡ turned i a (judged b p) = ap (λ (r : Taken). turnAs r cs) (sym q) ∙ e in
+        let before : Counting (z .preferences) a = subst (λ (P : ℕ). Counting P a) (sym n) (s .counting) in
         record {
           left = omega arith;
           small = small-turned b z c p i a (asTally t cs) (s .small) (sym turn);
+          counting = subst (λ (P : ℕ). Counting P (asTally t cs)) n (counting-turned b z c p i a (asTally t cs) before (sym turn));
           same = next (on (asTally t cs)) turn;
         }

@@ -1,7 +1,7 @@
 -- What the values of `week` stand for.
-use mathlib.Core.List.{List}
-use Prim.Native.Nat.{ℕ}
-use lib.ListN.{take}
+use mathlib.Core.List.{List, [], _++_}
+use Prim.Native.Nat.{ℕ, _-_}
+use lib.ListN.{length, take, replicate}
 use Rattle.figures.specs.Plans
 use Rattle.figures.specs.Figures.{none-solves, solve}
 use Rattle.figures.specs.Week.{Answer, given, refused}
@@ -41,3 +41,33 @@ figuresAs (F.Refused f) counts = refused (f .number) (f .place)
 
 abbrev pub reckonedAs : Reckoned → Answer
 reckonedAs r = figuresAs (r .figures) (r .meeting)
+
+-- The whole value for an answer
+
+-- it has as many preferences as there are counts
+abbrev pub asFigures : Answer → Figures
+asFigures (given none-solves) = F.NoneSolves
+asFigures (given (solve n a)) =
+    F.Solve (record {
+      solving = n;
+      least = a .lowest;
+      greatest = a .highest;
+      sum = a .total;
+      mean = a .quotient;
+      remainder = a .remainder;
+      preferences = length (a .meetings);
+    })
+asFigures (refused n i) = F.Refused (record { number = n; place = i })
+
+-- none where no plan solves, and none in a refusal
+abbrev pub countsIn : Answer → List ℕ
+countsIn (given none-solves) = []
+countsIn (given (solve n a)) = a .meetings
+countsIn (refused n i) = []
+
+-- with zeros after them, 16 in all
+abbrev pub padded : List ℕ → List ℕ
+padded cs = cs ++ replicate (16 - length cs) 0
+
+abbrev pub asReckoned : Answer → Reckoned
+asReckoned x = record { figures = asFigures x; meeting = padded (countsIn x) }

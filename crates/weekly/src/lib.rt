@@ -5,15 +5,15 @@ mod tally;
 ghost use mathlib.Core.Path.{_≡_};
 ghost use mathlib.Core.Bool.{true};
 ghost use mathlib.Core.List.{List};
-ghost use Prim.Native.Nat.{ℕ};
-ghost use lib.ListN.{replicate};
+ghost use Prim.Native.Nat.{ℕ, _≤_};
+ghost use lib.ListN.{length, replicate};
 ghost use Rattle.task.specs.Check.{accepted, check};
 ghost use Rattle.task.specs.Answers.{asSizes};
 ghost use Rattle.figures.specs.Plans.{readable};
 ghost use Rattle.figures.specs.Week.{given, refused, weekOf};
-ghost use Rattle.figures.specs.Pass.{noPlans, closed, closing, passAt};
+ghost use Rattle.figures.specs.Pass.{noPlans, closed, closing, passAt, CountingIn};
 ghost use Rattle.figures.specs.Promised.{Promised};
-ghost use Rattle.weekly.specs.Answers.{asTally, turnAs, figuresAs, reckonedAs};
+ghost use Rattle.weekly.specs.Answers.{asTally, turnAs, reckonedAs, asFigures, asReckoned};
 use tally::Taken;
 use tally::Totals;
 use task::Checked;
@@ -39,14 +39,14 @@ pub enum Figures {
     Refused(Refusal),
 }
 
-// A week's answer. Where plans solve, entry k of `meeting` is how many of them meet preference k; it says nothing where none does.
+// A week's answer. Where plans solve, entry k of `meeting` is how many of them meet preference k; every other entry is 0.
 pub struct Reckoned {
     pub figures: Figures,
     pub meeting: [u64; 16],
 }
 
 fn refuse(f: Refusal) -> Reckoned
-    ensures { λ r. ⌜ reckonedAs r ≡ refused (f .number) (f .place) ⌝ }
+    ensures { λ r. ⌜ r ≡ asReckoned (refused (f .number) (f .place)) ⌝ }
 {
     Reckoned {
         figures: Figures::Refused(f),
@@ -56,7 +56,7 @@ fn refuse(f: Refusal) -> Reckoned
 
 // The figures, from the totals over all plans.
 fn figures_of(preferences: usize, t: Totals) -> Figures
-    ensures { λ r. ⌜ ((l : List ℕ) → figuresAs r l ≡ given (closed preferences (asTally t l))) ⌝ }
+    ensures { λ r. ⌜ ((l : List ℕ) → preferences ≤ length l → r ≡ asFigures (given (closed preferences (asTally t l)))) ⌝ }
 {
     let n = t.solving;
     if n == 0 {
@@ -79,6 +79,7 @@ fn pass(file: &[u8], z: Sizes, plans: &[u8], meeting: &mut [u64; 16]) -> Taken
     ensures { λ r.
         let passed = passAt (now (file .entry)) (now (plans .entry)) (z .preferences) noPlans 0 in
         ⌜ closing (z .preferences) (turnAs r (now (meeting .exit))) ≡ passed ⌝ }
+    ensures { λ r. ⌜ CountingIn (z .preferences) (turnAs r (now (meeting .exit))) ⌝ }
 {
     let n = plans::count(plans);
     let first = 2 + 4 * n;
@@ -106,6 +107,7 @@ fn pass(file: &[u8], z: Sizes, plans: &[u8], meeting: &mut [u64; 16]) -> Taken
 // The figures of a week's plans on the task in a file, which is checked once.
 pub fn week(file: &[u8], plans: &[u8]) -> Reckoned
     ensures { λ r. ⌜ reckonedAs r ≡ weekOf (now (file .entry)) (now (plans .entry)) ⌝ }
+    ensures { λ r. ⌜ r ≡ asReckoned (weekOf (now (file .entry)) (now (plans .entry))) ⌝ }
     ensures { λ r. ⌜ Promised (now (file .entry)) (now (plans .entry)) (reckonedAs r) ⌝ }
 {
     let c = task::check(file);

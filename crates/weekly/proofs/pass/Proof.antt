@@ -1,6 +1,6 @@
 -- Each turn takes in one plan of the file, by `Passing`.
 use borrow.Author.Needs.{needs}
-use mathlib.Core.Path.{_≡_, ap}
+use mathlib.Core.Path.{_≡_, refl, ap}
 use Prim.Native.Nat.{_+_, _*_, _-_, _≤_}
 use native.Mathlib.Omega.{arith}
 use denote.Ref.{now}
@@ -104,16 +104,18 @@ loop-again c =
     let b = k .before .before .before in
     let a = b .args in
     taken-on (now (a .file)) (now (a .plans)) (a .z .preferences) (asTally (l .loop .t) (l .loop .meeting)) (l .loop .i) (l .loop .inv)
-    (omega (arith, e .before .loop-test .taken, few k)) _ (lent e) (asSizes (a .z)) (b .pre .0) (p .take-plan .result) _ (p .take-plan .ensures)
+    (omega (arith, e .before .loop-test .taken, few k)) _ (lent e) (asSizes (a .z)) (b .pre .0) refl (p .take-plan .result) _ (p .take-plan .ensures)
     (n .taken .given .0 .0) (n .taken .given .1)
 
 returns-2 : tie.Need-returns-2 Inv-loop μ-loop
 returns-2 c =
     let l = c .before in
     let k = l .before in
-    let a = k .before .before .before .args in
-    passed (now (a .file)) (now (a .plans)) (a .z .preferences) (asTally (l .loop .t) (l .loop .meeting)) (l .loop .i) (l .loop .inv)
-    (omega (arith, c .loop-test .left, few k))
+    let a = k .before .before .before .args in (
+      passed (now (a .file)) (now (a .plans)) (a .z .preferences) (asTally (l .loop .t) (l .loop .meeting)) (l .loop .i) (l .loop .inv)
+          (omega (arith, c .loop-test .left, few k)),
+      l .loop .inv .counting,
+    )
 
 pub pass-spec : {M : Type 1} → statement M
 pass-spec =

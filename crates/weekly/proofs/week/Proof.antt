@@ -8,7 +8,8 @@ use Rattle.task.specs.Check
 use Rattle.task.specs.Check.{check}
 use Rattle.task.specs.Answers.{answer as checked, asSizes}
 use Rattle.figures.specs.Plans.{readable}
-use Rattle.weekly.proofs.Weeks.{kept, turned-down, unreadable, of-pass}
+use Rattle.weekly.specs.Answers.{asReckoned}
+use Rattle.weekly.proofs.Weeks.{kept, turned-down, unreadable, of-pass, of-totals}
 use Rattle.weekly.proofs.week.Statement.{statement}
 use Rattle.weekly.proofs.week.Tie as tie
 
@@ -26,8 +27,8 @@ returns c =
     let a = k .before .before .before .args in
     kept (now (a .file)) (now (a .plans)) _
     (c .refuse .ensures
-    ∙ turned-down (now (a .file)) (now (a .plans)) (k .check .result) (k .check .ensures) (t .enum-told .given .0 .0) (t .enum-told .given .1)
-    (c .before .refusal-of .result) (c .before .refusal-of .ensures))
+    ∙ ap asReckoned (turned-down (now (a .file)) (now (a .plans)) (k .check .result) (k .check .ensures) (t .enum-told .given .0 .0) (t .enum-told .given .1)
+    (c .before .refusal-of .result) (c .before .refusal-of .ensures)))
 
 returns-2 : tie.Need-returns-2
 returns-2 c =
@@ -36,8 +37,8 @@ returns-2 c =
     let a = n .before .before .before .before .before .before .args in
     kept (now (a .file)) (now (a .plans)) _
     (c .refuse2 .ensures
-    ∙ unreadable (now (a .file)) (now (a .plans)) (asSizes (n .before .c .given .0 .0)) (accepted n)
-    (sym (r .is-readable .ensures) ∙ not-true _ (c .before .if1 .taken)))
+    ∙ ap asReckoned (unreadable (now (a .file)) (now (a .plans)) (asSizes (n .before .c .given .0 .0)) (accepted n)
+    (sym (r .is-readable .ensures) ∙ not-true _ (c .before .if1 .taken))))
 
 pass-requires : tie.Need-pass-requires
 pass-requires c κs = let e = c .before in (accepted (e .before .before), read e, refl)
@@ -50,21 +51,21 @@ returns-3 c =
     let n = e .before .before in
     let a = n .before .before .before .before .before .before .args in
     kept (now (a .file)) (now (a .plans)) _
-    (c .figures-of .ensures _
-    ∙ of-pass (now (a .file)) (now (a .plans)) (asSizes (n .before .c .given .0 .0)) (accepted n) (read e) (p .pass .result) _ (p .pass .ensures) _
-    (t .taken .given .1))
+    (of-totals (now (a .file)) (now (a .plans)) (asSizes (n .before .c .given .0 .0)) (accepted n) (read e) (p .pass .result) (p .pass .last .1 .1 .1 .0) (p .pass .ensures .0)
+    (p .pass .ensures .1) _ (t .taken .given .1) (c .figures-of .result) (c .figures-of .ensures))
 
 returns-4 : tie.Need-returns-4
 returns-4 c =
-    let t = c .before .before in
+    let k = c .before in
+    let t = k .before in
     let p = t .before .before in
     let e = p .before .before in
     let n = e .before .before in
     let a = n .before .before .before .before .before .before .args in
     kept (now (a .file)) (now (a .plans)) _
     (c .refuse3 .ensures
-    ∙ of-pass (now (a .file)) (now (a .plans)) (asSizes (n .before .c .given .0 .0)) (accepted n) (read e) (p .pass .result) _ (p .pass .ensures) _
-    (t .taken2 .given .1))
+    ∙ ap asReckoned (of-pass (now (a .file)) (now (a .plans)) (asSizes (n .before .c .given .0 .0)) (accepted n) (read e) (p .pass .result) _
+    (p .pass .ensures .0) _ (t .taken2 .given .1)))
 
 pub week-spec : {M : Type 1} → statement M
 week-spec =
