@@ -38,6 +38,7 @@ use Rattle.singling.specs.Wide.{firstWide}
 use Rattle.singling.specs.Outcome.{rowsFitted as singledRowsFitted, outcomeBy as singledBy, outcome as singled}
 use Rattle.plan_lines.specs.PlanText.{textOf, Read, plan, faulty, readPlan}
 use Rattle.plan_text.specs.Outcomes.{planFitted, readBy, readOutcome, writeOutcome, refusedAfter, textWalkedBy, textWalked}
+use Rattle.source.specs.Source.{below, translatedActions, ofKnown, ofText, outcomeBy as sourcedBy, outcome as sourced}
 use Rattle.pddl_text.specs.Pddl.{domainText, problemText}
 use Rattle.pddl_text.specs.Outcomes
 use Rattle.pddl_text.specs.Outcomes.{outcomeBy as textsBy, outcome as texts}
@@ -251,6 +252,23 @@ text-done b t = go (readPlan t)
     go (plan p) = walked-done b p
     go (faulty i) = after (check b) i (check-done b)
 
+source-done : (b t : List ℕ) (room : ℕ) → OutcomeDone (sourced b t room)
+unfolding sourced measured
+source-done b t room = go (outcome b 60008) (translate-done b 60008)
+  where
+    known : (z : Sizes) (p : List ℕ) → OutcomeDone (ofKnown z room p)
+    known z p =
+        outcome-else (all (λ (k : ℕ). ltb k (translatedActions z)) p) (fitted (length (below (z .actions) p)) room) 11 (stepsKnown (translatedActions z) p)
+        (fitted-done (length (below (z .actions) p)) room) refl
+
+    text : (z : Sizes) (r : Read) → OutcomeDone (ofText z room r)
+    text z (plan p) = outcome-else (leb (length p) 2048) (ofKnown z room p) 10 0 (known z p) refl
+    text z (faulty i) = refl
+
+    go : (o : Outcome) → OutcomeDone o → OutcomeDone (sourcedBy room (readPlan t) (measuredBy b o))
+    go (Outcome.refused n i) e = e
+    go (written n) e = text (sizes b) (readPlan t)
+
 report-done : (b p : List ℕ) (room : ℕ) → OutcomeDone (reportOutcome b p room)
 unfolding reportOutcome
 report-done b p room = go (judged b p) (judged-numbered b p)
@@ -358,6 +376,7 @@ pub record ZeroMeansDone (b p t f : List ℕ) (cost : ℕ) (met : ℕ → Bool) 
   pub reading : returnsZero (ofOutcome (readOutcome t room)) ≡ isWritten (readOutcome t room)
   pub writing : returnsZero (ofOutcome (writeOutcome p room)) ≡ isWritten (writeOutcome p room)
   pub walking-text : returnsZero (ofWalk (textWalked b t)) ≡ isGiven (textWalked b t)
+  pub sourcing : returnsZero (ofOutcome (sourced b t room)) ≡ isWritten (sourced b t room)
   pub writing-pddl : returnsZero (ofTexts (texts b room more)) ≡ areWritten (texts b room more)
   pub reckoning : returnsZero (ofWeek (weekOf b f)) ≡ areFigures (weekOf b f)
   pub searching : returnsZero (ofSearch (searchFile b more room)) ≡ isSearched (searchFile b more room .answer)
@@ -376,6 +395,7 @@ zero-means-done b p t f cost met room more =
       reading = read-done t room;
       writing = write-done p room;
       walking-text = text-done b t;
+      sourcing = source-done b t room;
       writing-pddl = texts-done b room more;
       reckoning = week-done b f;
       searching = search-done b more room;
