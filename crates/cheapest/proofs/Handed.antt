@@ -24,7 +24,7 @@ use Rattle.nodes.specs.Nodes.{asNode, nodeOf, upTo}
 use Rattle.nodes.proofs.Filling.{filled, length-upTo}
 use Rattle.cheapest.specs.LentWords.{nodesIn}
 use Rattle.cheapest.specs.declared.Kept.{Kept}
-use Rattle.cheapest.specs.Kept.{answer, handedOver, KeptAs}
+use Rattle.cheapest.specs.Kept.{answer, byValue, KeptAs}
 
 -- What stands in words is what is kept
 
@@ -88,7 +88,7 @@ module _ (b : List ℕ) (limit room : ℕ) (words : List ℕ) (n : ℕ) (e : nod
       }
 
 pub handed : (b : List ℕ) (limit : ℕ) (ys zs : List Node) (k : Kept) → KeptAs b limit (length ys) k → zs ≡ filled (nodeOf (k .words)) ys (k .nodes)
-    → (k .searched ≡ handedOver (searchFile b limit (length ys))) × (answer (k .searched) ≡ searchFile b limit (length ys) .answer)
+    → (k .searched ≡ byValue (searchFile b limit (length ys))) × (answer (k .searched) ≡ searchFile b limit (length ys) .answer)
     × Lent asNode (searchFile b limit (length ys) .kept) ys zs × Claim b limit (answer (k .searched))
 handed b limit ys zs k K z =
     let S = searchFile b limit (length ys) in

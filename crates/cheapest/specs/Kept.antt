@@ -14,13 +14,13 @@ abbrev pub answer : Searched → Answer
 answer x = asSearched (x .steps) [] (x .sought) .answer
 
 -- the whole value for a search: how many nodes it keeps, and in the array zeros after the plan found, or zeros alone
-abbrev pub handedOver : Searched.Searched → Searched
-handedOver x = record { sought = asSought x; steps = planAfter (x .answer) (replicate 1023 0) }
+abbrev pub byValue : Searched.Searched → Searched
+byValue x = record { sought = asSought x; steps = planAfter (x .answer) (replicate 1023 0) }
 
 -- the words of the nodes kept, for a list with so much room
 pub record KeptAs (b : List ℕ) (limit room : ℕ) (k : Kept) : Type 0 where
   pub long : length (k .words) ≡ 4096
   pub fits : k .nodes ≤ room
   pub few : k .nodes ≤ 1024
-  pub answers : k .searched ≡ handedOver (searchFile b limit room)
+  pub answers : k .searched ≡ byValue (searchFile b limit room)
   pub holds : nodesOf (k .words) (k .nodes) ≡ searchFile b limit room .kept

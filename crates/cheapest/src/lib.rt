@@ -6,7 +6,7 @@ ghost use lib.ListN.{length};
 ghost use Rattle.searched.specs.Searched.{searchFile, Lent};
 ghost use Rattle.searched.specs.Claim.{Claim};
 ghost use Rattle.nodes.specs.Nodes.{asNode};
-ghost use Rattle.cheapest.specs.Kept.{answer, handedOver, KeptAs};
+ghost use Rattle.cheapest.specs.Kept.{answer, byValue, KeptAs};
 use finding::Sought;
 use nodes;
 use nodes::Node;
@@ -43,7 +43,7 @@ fn searched_words<'a>(file: &'a [u8], limit: usize, room: usize) -> Kept
 
 // Searches the task in a file, keeping at most so many nodes. The list then begins with the nodes kept; a refusal leaves it as it was.
 pub fn search<'a, 'b>(file: &'a [u8], limit: usize, nodes: &'b mut [Node]) -> Searched
-    ensures { λ r. ⌜ (r ≡ handedOver (searchFile (now (file .entry)) limit (length (now (nodes .entry)))))
+    ensures { λ r. ⌜ (r ≡ byValue (searchFile (now (file .entry)) limit (length (now (nodes .entry)))))
         × (answer r ≡ searchFile (now (file .entry)) limit (length (now (nodes .entry))) .answer)
         × Lent asNode (searchFile (now (file .entry)) limit (length (now (nodes .entry))) .kept) (now (nodes .entry)) (now (nodes .exit))
         × Claim (now (file .entry)) limit (answer r) ⌝ }
