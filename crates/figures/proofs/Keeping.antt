@@ -44,6 +44,8 @@ sound-amounts P x xs =
       rest = mod-lt s (omega arith);
       not-below = le-div-iff-mul-le {k = n} {x = low} {y = s} (omega arith) .1 (rw (mul-comm low n) enough);
       not-above = div-le-of-le-mul n {m = s} {n = high} most;
+      at-least = enough;
+      at-most = most;
     }
 
 pub sound : (P : ℕ) (vs : List Verdict) → SoundIn P (figures P vs)

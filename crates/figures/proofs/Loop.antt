@@ -89,7 +89,7 @@ module _ (f : List ℕ) (r : readable f ≡ true) where
       let room : 2 + 4 * count f ≤ length f = leb→le (2 + 4 * count f) (length f) (search tests) in
       omega (arith, length-drop (2 + 4 * count f) f)
 
-  -- as code lends it: from its first step in the file to the one behind its last
+  -- as code lends it: from its first step in the file to the one after its last
   pub plan-lent : (i from to : ℕ) → from ≡ 2 + 4 * count f + entryAt f i .start → to ≡ from + entryAt f i .steps
       → take (to - from) (drop from f) ≡ planAt f i
   plan-lent i from to p q =

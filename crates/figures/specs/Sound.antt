@@ -16,6 +16,9 @@ pub record Sound (P n : ℕ) (a : Amounts) : Type 0 where
   pub rest : a .remainder < n
   pub not-below : a .lowest ≤ a .quotient
   pub not-above : a .quotient ≤ a .highest
+  -- the same of the mean with its remainder
+  pub at-least : n * a .lowest ≤ a .total
+  pub at-most : a .total ≤ n * a .highest
 
 abbrev pub SoundIn : ℕ → Figures → Type 0
 SoundIn P none-solves = Unit {0}

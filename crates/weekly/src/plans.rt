@@ -18,7 +18,7 @@ pub struct Entry {
     pub steps: usize,
 }
 
-// Byte i, or 0 behind the end.
+// Byte i, or 0 after the end.
 fn byte_at(plans: &[u8], i: usize) -> u8
     ensures { λ r. ⌜ r ≡ getD (now (plans .entry)) i 0 ⌝ }
 {

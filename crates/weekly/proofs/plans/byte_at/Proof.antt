@@ -1,4 +1,4 @@
--- Behind the end of a list stands the default.
+-- After the end of a list stands the default.
 use borrow.Author.Needs.{needs}
 use mathlib.Core.Path.{sym}
 use denote.Ref.{now}
