@@ -1,4 +1,4 @@
--- The first counts are read as they are, and none behind them.
+-- The first counts are read as they are, and none after them.
 use borrow.Author.Needs.{needs}
 use mathlib.Core.Path.{sym}
 use native.Mathlib.Omega.{arith}
