@@ -33,11 +33,11 @@ facts = map (map (λ (l : Literal). l .fact))
 abbrev two : Condition
 two = holding (0 ∷ 1 ∷ []) ∷ holding (2 ∷ 3 ∷ []) ∷ []
 
-right-order : facts (choices two) ≡ (0 ∷ 2 ∷ []) ∷ (0 ∷ 3 ∷ []) ∷ (1 ∷ 2 ∷ []) ∷ (1 ∷ 3 ∷ []) ∷ []
+pub right-order : facts (choices two) ≡ (0 ∷ 2 ∷ []) ∷ (0 ∷ 3 ∷ []) ∷ (1 ∷ 2 ∷ []) ∷ (1 ∷ 3 ∷ []) ∷ []
 right-order = refl
 
 -- the second choice has another literal of the first clause
-wrong-order : facts (fastest two) ≡ (0 ∷ 2 ∷ []) ∷ (1 ∷ 2 ∷ []) ∷ (0 ∷ 3 ∷ []) ∷ (1 ∷ 3 ∷ []) ∷ []
+pub wrong-order : facts (fastest two) ≡ (0 ∷ 2 ∷ []) ∷ (1 ∷ 2 ∷ []) ∷ (0 ∷ 3 ∷ []) ∷ (1 ∷ 3 ∷ []) ∷ []
 wrong-order = refl
 
 -- Effects that lead elsewhere
@@ -65,11 +65,11 @@ firstOnly [] = []
 firstOnly (x ∷ xs) = x ∷ map undeleted xs
 
 -- where fact 3 holds, fact 1 stays
-deletes-once : (after (with 3) (by (λ (x : Effect). firstOnly (singledEffect x))) 1 ≡ true) × (after (with 3) itself 1 ≡ false)
+pub deletes-once : (after (with 3) (by (λ (x : Effect). firstOnly (singledEffect x))) 1 ≡ true) × (after (with 3) itself 1 ≡ false)
 deletes-once = (refl, refl)
 
 -- where fact 2 holds, fact 0 is not added without the first choice
-choice-left-out : (after (with 2) (by (λ (x : Effect). drop 1 (singledEffect x))) 0 ≡ false) × (after (with 2) itself 0 ≡ true)
+pub choice-left-out : (after (with 2) (by (λ (x : Effect). drop 1 (singledEffect x))) 0 ≡ false) × (after (with 2) itself 0 ≡ true)
 choice-left-out = (refl, refl)
 
 -- The last effect with too many choices
@@ -89,7 +89,7 @@ abbrev both : List Row
 both = taskRows (yard (wide ∷ wide ∷ []))
 
 -- row 32 is its place, and row 9 is one already
-last-place : (lastWide 0 both ≡ some 32) × (wideAt both 9 ≡ true) × (firstWide 0 both ≡ some 9)
+pub last-place : (lastWide 0 both ≡ some 32) × (wideAt both 9 ≡ true) × (firstWide 0 both ≡ some 9)
 last-place = (refl, refl, refl)
 
 -- 8 before 17
@@ -131,7 +131,7 @@ module _ (x : Effect) (i : ℕ) (h : 12000 < choiceCount (x .condition) * rowsOf
 abbrev huge : Effect
 huge = effect (pairs ++ pairs ++ two)
 
-eight-for-huge : (room : ℕ)
+pub eight-for-huge : (room : ℕ)
     → (eightFirst (new huge 9 (lit< tt)) room (firstWide 0 (taskRows (yard (huge ∷ [])))) ≡ refused 8 0)
     × (rowsFitted (new huge 9 (lit< tt)) room (firstWide 0 (taskRows (yard (huge ∷ [])))) ≡ refused 17 9)
 eight-for-huge = eight-first huge 9 (lit< tt) refl
