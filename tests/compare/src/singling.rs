@@ -308,14 +308,14 @@ pub fn edges() -> Result<(), String> {
             Err((17, place as u64)),
         )?;
     }
-    // As many rows as there can be: each of 631 effects has 19 rows, and 64 times 13 of them after.
+    // As many rows as there can be: each of 623 effects has 19 rows, and 64 times 13 of them after.
     let most = vec![
         Effect {
             condition: vec![clause(2); 6],
             adds: vec![],
             deletes: vec![]
         };
-        620
+        623
     ];
     edge(
         "half a million rows",

@@ -162,7 +162,7 @@ fn greatest() -> Task {
     }
 }
 
-/// 64 plans of 2,048 steps, all the same bytes, each a byte on from the one before, and one that stops among them.
+/// 64 plans of 2,048 steps: of the same bytes, each a byte on from the one before, and all stopped by their last step.
 fn longest(file: &[u8]) -> Result<(), String> {
     let metric = 2_048 * u64::from(MAX_AMOUNT) + 8 * u64::from(MAX_AMOUNT);
     let meeting = std::array::from_fn(|k| if k % 2 == 0 { 64 } else { 0 });
