@@ -1,25 +1,17 @@
 -- The text of a plan with its cost, and what a search answers of it.
 use mathlib.Core.Path.{_≡_, sym, _∙_, ap}
-use mathlib.Core.List.{List, [], _∷_, _++_}
-use Prim.Native.Nat.{ℕ, suc, _+_, _<_}
+use mathlib.Core.List.{List, _++_}
+use Prim.Native.Nat.{ℕ, _+_}
 use native.Mathlib.Omega.{arith}
-use lib.Dec.{T}
-use lib.ListN.{length, getD}
-use borrow.Author.Tests.{lt-ltb}
+use lib.ListN.{length}
 use Rattle.text.specs.Area.{Wrote, Filled}
 use Rattle.text.specs.Ascii.{ascii}
 use Rattle.text.specs.Text.{decimal}
 use Rattle.text.proofs.Writing.{then, from-start}
 use Rattle.plan_lines.specs.PlanText.{textOf}
-use Rattle.plan_lines.proofs.Returned.{bytes}
 use Rattle.searched.specs.Searched
 use Rattle.searched.specs.Searched.{Answer}
 use Rattle.planned.specs.Planned.{plannedText, written, outcomeOf, areaAfter}
-
--- a slice of bytes
-pub all-bytes : (p : List ℕ) → ((j : ℕ) → getD p j 0 < 256) → T (bytes p)
-all-bytes [] h = tt
-all-bytes (n ∷ p) h = rw (lt-ltb n 256 (h 0)) (all-bytes p (λ j. h (suc j)))
 
 -- the steps, and then the cost
 pub with-cost : (p : List ℕ) (c : ℕ) (area mid out : List ℕ) (j k : ℕ) → Filled area (textOf p) j mid

@@ -2,17 +2,14 @@
 use borrow.Author.Needs.{needs}
 use native.Mathlib.Omega.{arith}
 use denote.Ref.{now}
-use Rattle.plan_lines.proofs.Returned.{text-length}
-use Rattle.planned.proofs.Written.{all-bytes, with-cost}
+use Rattle.planned.proofs.Written.{with-cost}
 use Rattle.planned.proofs.put.Statement.{statement}
 use Rattle.planned.proofs.put.Tie as tie
 
 put-number-requires : tie.Need-put-number-requires
 put-number-requires c κs =
     let k = c .before .before .before .before .before in
-    let s = k .before .before .before in
-    let b = s .before in
-    omega (arith, k .put-plan .ensures .size, text-length (now (b .args .plan)) (all-bytes (now (b .args .plan)) (λ j. omega (arith, s .shared-slice-known .given j))), b .pre)
+    omega (arith, k .put-plan .ensures .1, k .before .before .before .before .pre)
 
 returns : tie.Need-returns
 returns c =
@@ -20,7 +17,7 @@ returns c =
     let k = n .before .before .before .before .before .before in
     let a = k .before .before .before .before .args in
     with-cost (now (a .plan)) (a .cost) (now (a .out)) (k .put-plan .last .1 .0) (n .put-number .last .0) (k .put-plan .result) (n .put-number .result)
-    (k .put-plan .ensures) (n .put-number .ensures .0)
+    (k .put-plan .ensures .0) (n .put-number .ensures .0)
 
 pub put-spec : {M : Type 1} → statement M
 put-spec =
