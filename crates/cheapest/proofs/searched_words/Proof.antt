@@ -1,3 +1,4 @@
+-- What `find` has left is answered by value, by `kept-words`.
 use denote.Ref.{now}
 use Rattle.cheapest.proofs.Handed.{kept-words}
 use borrow.Author.Needs.{needs}

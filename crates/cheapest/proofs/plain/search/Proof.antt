@@ -1,3 +1,4 @@
+-- What `find` answers, with the nodes copied from its words to the list, by `Copied`.
 use mathlib.Core.Path.{_≡_, _∙_, ap}
 use mathlib.Core.List.{List}
 use Prim.Native.Nat.{ℕ, _*_, _/_, _≤_}
