@@ -5,6 +5,8 @@ use Prim.Native.Nat.{ℕ}
 use lib.Dec.{leb, ltb}
 use lib.ListN.{length, getD}
 use Rattle.lists.specs.Lists.{any, takeUntil}
+use Rattle.task.specs.Limits.{MAX-STEPS}
+use Rattle.task.specs.Refused.{LONG-PLAN, STEP, PLANS}
 use Rattle.task.specs.File.{Sizes, taskOf}
 use Rattle.task.specs.Check
 use Rattle.task.specs.Check.{check}
@@ -19,7 +21,7 @@ pub data Answer : Type 0 where
 
 -- over 2,048 steps
 abbrev pub isLong : List ℕ → Bool
-isLong p = ltb 2048 (length p)
+isLong p = ltb MAX-STEPS (length p)
 
 -- with a step that is not below A
 abbrev pub hasUnknown : ℕ → List ℕ → Bool
@@ -34,7 +36,7 @@ firstFaulty A ps = length (takeUntil (isFaulty A) ps)
 
 -- 10 before 11 on one plan
 abbrev pub faultNumber : List ℕ → ℕ
-faultNumber p = cond (isLong p) 10 11
+faultNumber p = cond (isLong p) LONG-PLAN STEP
 
 -- the plans of a task in b, of sizes z
 abbrev pub ofPlans : List ℕ → Sizes → List (List ℕ) → Answer
@@ -46,7 +48,7 @@ ofPlans b z ps =
 
 abbrev pub weekBy : List ℕ → List ℕ → Check.Answer → Answer
 weekBy b f (Check.refused n i) = refused n i
-weekBy b f (Check.accepted z) = cond (readable f) (ofPlans b z (plans f)) (refused 18 0)
+weekBy b f (Check.accepted z) = cond (readable f) (ofPlans b z (plans f)) (refused PLANS 0)
 
 -- a task file and a plans file
 unfoldable pub weekOf : List ℕ → List ℕ → Answer

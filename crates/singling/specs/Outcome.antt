@@ -4,6 +4,8 @@ use mathlib.Core.List.{List}
 use mathlib.Core.Option.{Option, none, some}
 use Prim.Native.Nat.{ℕ, _+_, _*_}
 use lib.Dec.{leb}
+use Rattle.task.specs.Limits.{MAX-ROWS}
+use Rattle.task.specs.Refused.{TRANSLATION-ROWS, CHOICES}
 use Rattle.task.specs.File.{rows}
 use Rattle.task.specs.Check
 use Rattle.task.specs.Check.{Answer, check}
@@ -13,8 +15,8 @@ use Rattle.singling.specs.Wide.{firstWide}
 
 -- n rows for an area of so many bytes, where no effect is too wide
 abbrev pub rowsFitted : ℕ → ℕ → Option ℕ → Outcome
-rowsFitted n room (some i) = refused 17 i
-rowsFitted n room none = cond (leb n 12000) (fitted (8 + 5 * n) room) (refused 8 0)
+rowsFitted n room (some i) = refused CHOICES i
+rowsFitted n room none = cond (leb n MAX-ROWS) (fitted (8 + 5 * n) room) (refused TRANSLATION-ROWS 0)
 
 abbrev pub outcomeBy : List ℕ → ℕ → Answer → Outcome
 outcomeBy b room (Check.refused n i) = refused n i
