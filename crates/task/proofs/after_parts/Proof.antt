@@ -42,7 +42,7 @@ plain : (c : tie.Else1 Inv-loop μ-loop)
     → let l = c .before .before .before .before .before in
     let a = l .before .before .before .before .args in
     let m = getD (now (a .marks)) (l .loop .i) 0 in
-    T (between EFFECT DELETE m && leadsAlike (l .before .widest .result) (l .loop .context) m
+    T (between EFFECT DELETE m && leadsAlike (l .before .widest-from .result) (l .loop .context) m
     && valueAllowed (a .z .facts) (a .w .floor) (row m (valueAt (now (a .values)) (l .loop .i))))
 plain c = as-T (sym (rw (c .before .before .value-at .ensures) at (c .before .is-plain .ensures)) ∙ not-false _ (c .if1 .left))
 
@@ -56,10 +56,10 @@ loop-again c =
       rows-left = search needs;
       begun = search needs;
       numbered-below =
-          part-below (a .z) (now (a .marks)) (now (a .values)) (a .w) i n (l .before .widest .result) (c .next .result) (search needs)
+          part-below (a .z) (now (a .marks)) (now (a .values)) (a .w) i n (l .before .widest-from .result) (c .next .result) (search needs)
           (c .next .ensures) (plain (c .before));
       same =
-          sym (one-part (a .z) (now (a .marks)) (now (a .values)) (a .w) i n (l .before .widest .result) (c .next .result) (search needs)
+          sym (one-part (a .z) (now (a .marks)) (now (a .values)) (a .w) i n (l .before .widest-from .result) (c .next .result) (search needs)
           (c .next .ensures) (plain (c .before)))
           ∙ l .loop .inv .same;
     }
