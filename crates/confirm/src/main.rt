@@ -1,5 +1,5 @@
 // Program confirm: finds what the plan in the file `planned`, which a planner printed for the translation of the task in the file `task`,
-// comes to: program judge's lines about its source part, and what the planner paid.
+// comes to: program judge's lines about its source part, and what the planner paid, held to the metric in them.
 use files::Content;
 use libc::STDOUT_FILENO;
 use outcome::Outcome;
@@ -19,21 +19,22 @@ fn say_report(task: &[u8], plan: &[u8]) {
     }
 }
 
-// Prints what the planner paid.
-fn say_paid(cost: u64) {
-    let mut out = [0u8; 32];
-    let n = text::put_number(&mut out, 0, b"paid ", cost, b"\n");
+// Prints what the planner paid for a plan, and where that is not its metric, what it is worth.
+fn say_paid(task: &[u8], plan: &[u8], cost: u64) {
+    let mut out = [0u8; 64];
+    let n = paid_line::put_paid(task, plan, cost, &mut out);
     io::write_all(STDOUT_FILENO, text::front(&out, n));
 }
 
-// Prints what is said of a list that solves the translation at a cost: the report on its source part, whose metric is that cost.
+// Prints what is said of a list that solves the translation at a cost: the report on its source part, and that cost, which by
+// paid-in-full of paid_line is its metric.
 fn confirm(task: &[u8], planned: &[u8], cost: u64) {
     let mut plan = [0u8; 2048];
     let part = source::source(task, planned, &mut plan);
     match part {
         Outcome::Written(n) => {
             say_report(task, text::front(&plan, n));
-            say_paid(cost);
+            say_paid(task, text::front(&plan, n), cost);
         }
         Outcome::Refused(f) => files::say_refused(f),
     }
