@@ -21,6 +21,7 @@ belt = file(BELT, F=2)
 solution = b'(a0)\n(a2)\n(a4)\n(a5)\n; cost = 8\n'
 five_lines = 'solved steps 1 cost 3\n0 always 5 missed\n1 sometime 7 met\nmetric 8 utility 4\npaid 8\n'
 longest = file(goal(12000))
+dear = file('GOAL ACTION 4294967295 always 4294967295 CLAUSE HOLDS 0')
 hard = file('GOAL ACTION 1 EFFECT ADD 0 hard-sometime CLAUSE HOLDS 0')
 
 
@@ -32,8 +33,11 @@ def text(*steps):
 CASES = [
     ('the belt', dict(task=belt, planned=solution), five_lines),
     ('a comment between', dict(task=belt, planned=b'; a\n(a0)\n; b\n(a2)\n(a4)\n(a5)\n'), five_lines),
+    ('a comment with another price', dict(task=belt, planned=text(0, 2, 4, 5) + b'; cost = 7\n'), five_lines),
     ('a longer way', dict(task=belt, planned=text(1, 0, 2, 4, 5)),
      'solved steps 2 cost 4\n0 always 5 missed\n1 sometime 7 met\nmetric 9 utility 3\npaid 9\n'),
+    ('the greatest costs', dict(task=dear, planned=text(*[0] * 2046, 1, 3)),
+     'solved steps 2046 cost 8787503085570\n0 always 4294967295 missed\nmetric 8791798052865 utility -8787503085570\npaid 8791798052865\n'),
     ('no closing', dict(task=belt, planned=text(0, 2)), 'goal missed\n'),
     ('no end', dict(task=belt, planned=text(0)), 'goal missed\n'),
     ('a rule forgone that is met', dict(task=belt, planned=text(0, 2, 4, 6)), 'stopped 3\n'),
