@@ -5,7 +5,7 @@ use Prim.Native.Nat.{ℕ, suc, _+_, _/_, _%_, _^_, _<_, _≤_}
 use native.Mathlib.Nat.{add-zero, zero-add}
 use native.Mathlib.Numerals.{add-one}
 use native.Mathlib.Omega.{arith}
-use lib.ListN.{length, getD, take, drop, set, length-append, take-append-drop}
+use lib.ListN.{length, getD, take, drop, set, length-append}
 use lib.Seq.{sets, sets-eq, length-sets, set-out, take-suc, take-all, take-at, length-take-le}
 use Rattle.text.specs.Text.{digit, decimal}
 use Rattle.text.specs.Area.{written, Wrote, Filled}
@@ -91,22 +91,8 @@ module _ (b : List ℕ) (at : ℕ) where
       one-byte-more word out (set out (at + i) x) i (at + i) (at + i + 1) h (record { behind = omega (arith, n); area = e })
       (stored out (at + i) x (set out (at + i) x) refl) .area
 
-  -- all of it, its first k bytes where the area ends after them, or nothing
-  pub whole-word : (word out : List ℕ) → out ≡ written (take (length word) word) at b → Wrote b at word (at + length word) out
-  whole-word word out e = record { behind = refl; area = e ∙ ap (λ (l : List ℕ). written l at b) (take-all (length word) word (omega arith)) }
-
-  pub cut-word : (word out : List ℕ) (k : ℕ) → k ≤ length word → length b ≤ at + k → out ≡ written (take k word) at b → Wrote b at word (at + length word) out
-  cut-word word out k h l e =
-      let n : length (take k word) ≡ k = length-take-le k word h in
-      let m : length (written (take k word) at b) ≤ at + length (take k word) = omega (arith, n, length-written (take k word) b at) in
-      record {
-        behind = refl;
-        area = e ∙ sym (written-out (drop k word) (written (take k word) at b) (at + length (take k word)) m)
-            ∙ sym (written-append (take k word) (drop k word) b at) ∙ ap (λ (x : List ℕ). written x at b) (take-append-drop k word);
-      }
-
-  pub no-room : (word : List ℕ) → length b ≤ at → Wrote b at word (at + length word) b
-  no-room word h = record { behind = refl; area = sym (written-out word b at h) }
+  pub all-bytes : (word out : List ℕ) (i k : ℕ) → length word ≤ i → Wrote b at (take i word) k out → Wrote b at word k out
+  all-bytes word out i k h v = rw (take-all i word h) at v
 
 -- A number: its last digit after the others
 

@@ -26,16 +26,31 @@ pub fn put_byte(out: &mut [u8], at: usize, byte: u8) -> usize
     at + 1
 }
 
-// Copies the first bytes of a word, for which there is room.
-fn copy_bytes(out: &mut [u8], at: usize, word: &[u8], many: usize)
-    requires { ⌜ (many ≤ length (now word)) × (at + many ≤ length (now out)) ⌝ }
-    ensures { λ r. ⌜ now (out .exit) ≡ written (take many (now (word .entry))) at (now (out .entry)) ⌝ }
+// Copies a word, for which there is room.
+fn copy_bytes(out: &mut [u8], at: usize, word: &[u8])
+    requires { ⌜ at + length (now word) ≤ length (now out) ⌝ }
+    ensures { λ r. ⌜ now (out .exit) ≡ written (now (word .entry)) at (now (out .entry)) ⌝ }
 {
     let mut i = 0;
-    while i < many {
+    while i < word.len() {
         out[at + i] = word[i];
         i += 1;
     }
+}
+
+// Writes the bytes of a word one by one, those that fit. It goes through the whole word: in a caller whose word is written out
+// the turns are then known, and the compiler needs no copy of the word in memory.
+fn put_each(out: &mut [u8], at: usize, word: &[u8]) -> usize
+    requires { ⌜ at + length (now word) < 2 ^ 64 ⌝ }
+    ensures { λ r. ⌜ Wrote (now (out .entry)) at (now (word .entry)) r (now (out .exit)) ⌝ }
+{
+    let mut k = at;
+    let mut i = 0;
+    while i < word.len() {
+        k = put_byte(&mut *out, k, word[i]);
+        i += 1;
+    }
+    k
 }
 
 // Writes the bytes of a word: all at once where there is room, else those that fit.
@@ -43,17 +58,12 @@ pub fn put_bytes(out: &mut [u8], at: usize, word: &[u8]) -> usize
     requires { ⌜ at + length (now word) < 2 ^ 64 ⌝ }
     ensures { λ r. ⌜ Wrote (now (out .entry)) at (now (word .entry)) r (now (out .exit)) ⌝ }
 {
-    let size = out.len();
     let end = at + word.len();
-    if end <= size {
-        copy_bytes(&mut *out, at, word, word.len());
+    if end <= out.len() {
+        copy_bytes(&mut *out, at, word);
         return end;
     }
-    if at < size {
-        copy_bytes(&mut *out, at, word, size - at);
-        return end;
-    }
-    end
+    put_each(out, at, word)
 }
 
 // Writes a number below 100 in decimal.
@@ -69,7 +79,7 @@ fn put_two(out: &mut [u8], at: usize, n: u32) -> usize
     }
 }
 
-// Writes a number below 1,000 in decimal: most have no more digits, and need no recursion.
+// Writes a number below 1,000 in decimal.
 fn put_three(out: &mut [u8], at: usize, n: u32) -> usize
     requires { ⌜ (at + 20 < 2 ^ 64) × (n < 1000) ⌝ }
     ensures { λ r. ⌜ Wrote (now (out .entry)) at (decimal n) r (now (out .exit)) ⌝ }
@@ -82,8 +92,8 @@ fn put_three(out: &mut [u8], at: usize, n: u32) -> usize
     }
 }
 
-// Writes a number in decimal.
-pub fn put_decimal(out: &mut [u8], at: usize, n: u64) -> usize
+// Writes a number in decimal, digit after digit by recursion.
+fn put_large(out: &mut [u8], at: usize, n: u64) -> usize
     requires { ⌜ at + 20 < 2 ^ 64 ⌝ }
     ensures { λ r. ⌜ Wrote (now (out .entry)) at (decimal n) r (now (out .exit)) ⌝ }
     ensures { λ r. ⌜ r ≤ at + 20 ⌝ }
@@ -91,8 +101,22 @@ pub fn put_decimal(out: &mut [u8], at: usize, n: u64) -> usize
     if n < 1000 {
         put_three(out, at, n as u32)
     } else {
-        let k = put_decimal(&mut *out, at, n / 10);
+        let k = put_large(&mut *out, at, n / 10);
         put_byte(out, k, b'0' + (n % 10) as u8)
+    }
+}
+
+// Writes a number in decimal. Most have three digits at most, and room: the compiler puts that case into the caller, without the
+// tests of put_byte.
+pub fn put_decimal(out: &mut [u8], at: usize, n: u64) -> usize
+    requires { ⌜ at + 20 < 2 ^ 64 ⌝ }
+    ensures { λ r. ⌜ Wrote (now (out .entry)) at (decimal n) r (now (out .exit)) ⌝ }
+    ensures { λ r. ⌜ r ≤ at + 20 ⌝ }
+{
+    if (n < 1000) & (at + 3 <= out.len()) {
+        put_three(out, at, n as u32)
+    } else {
+        put_large(out, at, n)
     }
 }
 
