@@ -5,13 +5,15 @@ ghost use lib.ListN.{length};
 ghost use Rattle.text.specs.Area.{Wrote, Filled};
 ghost use Rattle.plan_lines.specs.PlanText.{stepLine, textOf};
 
-// Writes the line of a step.
+// Writes the line of a step. Its pieces are not put_number's, which is too large to be put into its callers.
 fn put_step(out: &mut [u8], at: usize, step: u8) -> usize
     requires { ⌜ at + 30 < 2 ^ 64 ⌝ }
     ensures { λ r. ⌜ Wrote (now (out .entry)) at (stepLine step ++ (10 ∷ [])) r (now (out .exit)) ⌝ }
     ensures { λ r. ⌜ r ≤ at + 7 ⌝ }
 {
-    text::put_number(out, at, b"(a", step as u64, b")\n")
+    let a = text::put_bytes(&mut *out, at, b"(a");
+    let b = text::put_decimal(&mut *out, a, step as u64);
+    text::put_bytes(&mut *out, b, b")\n")
 }
 
 // Writes a line for each step, of 7 bytes at most.
