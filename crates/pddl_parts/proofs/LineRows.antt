@@ -17,7 +17,7 @@ use Rattle.text.specs.Ascii.{ascii}
 use Rattle.text.specs.Text.{decimal}
 use Rattle.text.specs.Area.{Wrote}
 use Rattle.text.proofs.Writing.{then}
-use Rattle.pddl_parts.specs.Pddl.{spaced, conditionText, effectText, actionLine}
+use Rattle.pddl_parts.specs.Pddl.{spaced, conditionText, effectText, headText, costText, actionLine}
 use Rattle.pddl_parts.specs.Pieces.{condition, effects, action}
 use Rattle.pddl_parts.specs.Puts.{stretch, Spells, Puts}
 use Rattle.pddl_parts.specs.declared.conditions.Emitted.{Emitted}
@@ -72,10 +72,10 @@ module _ (ms vs : List ℕ) (from : ℕ) where
 -- A line, from what was written of its parts
 module _ (number : ℕ) (ms vs : List ℕ) (from : ℕ) (within : from < length ms)
     {b o₁ o₂ o₃ o₄ o₅ : List ℕ} {at k₁ k₃ k₅ cost : ℕ} {c d : Emitted}
-    (w₁ : Wrote b at (ascii "(:action a" ++ (decimal number ++ ascii " :parameters () :precondition ")) k₁ o₁)
+    (w₁ : Wrote b at (headText number) k₁ o₁)
     (precondition : Puts condition (stretch ms vs (from + 1)) o₁ k₁ c o₂)
     (price : cost ≡ valueAt vs from)
-    (w₃ : Wrote o₂ (c .at) (ascii " :effect (and (increase (total-cost) " ++ (decimal cost ++ ascii ")")) k₃ o₃)
+    (w₃ : Wrote o₂ (c .at) (costText cost) k₃ o₃)
     (changes : Puts effects (stretch ms vs (c .next)) o₃ k₃ d o₄)
     (w₅ : Wrote o₄ (d .at) (ascii "))\n") k₅ o₅) where
   by-parts : (a : Action) (xs : List Row) → drop from (paired ms vs) ≡ actionRows a ++ xs → Stops (between 2 7) xs
@@ -87,11 +87,8 @@ module _ (number : ℕ) (ms vs : List ℕ) (from : ℕ) (within : from < length 
       let (w₄, last) = changes .puts (a .effects) xs (from-effects ms vs from a xs spelled (c .next) after) s in
       let paid : cost ≡ a .cost = price ∙ value-at ms vs from within spelled in
       let rest : List ℕ = spaced effectText (a .effects) ++ ascii "))\n" in
-      let whole : (ascii "(:action a" ++ (decimal number ++ ascii " :parameters () :precondition "))
-      ++ (conditionText (a .precondition) ++ ((ascii " :effect (and (increase (total-cost) " ++ (decimal cost ++ ascii ")")) ++ rest))
-      ≡ actionLine number a =
-      ap (λ (n : ℕ). (ascii "(:action a" ++ (decimal number ++ ascii " :parameters () :precondition "))
-      ++ (conditionText (a .precondition) ++ ((ascii " :effect (and (increase (total-cost) " ++ (decimal n ++ ascii ")")) ++ rest))) paid
+      let whole : headText number ++ (conditionText (a .precondition) ++ (costText cost ++ rest)) ≡ actionLine number a =
+      ap (λ (n : ℕ). headText number ++ (conditionText (a .precondition) ++ (costText n ++ rest))) paid
       ∙ grouped (ascii "(:action a") (decimal number) (ascii " :parameters () :precondition ") (conditionText (a .precondition))
       (ascii " :effect (and (increase (total-cost) ") (decimal (a .cost)) (ascii ")") rest in
       (subst (λ (t : List ℕ). Wrote b at t k₅ o₅) whole (then w₁ (then w₂ (then w₃ (then w₄ w₅)))), omega (arith, last, after, length-append pre es))

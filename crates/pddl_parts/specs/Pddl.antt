@@ -46,6 +46,14 @@ changesText e = ascii "(and" ++ (spaced factText (e .adds) ++ (spaced notText (e
 abbrev pub effectText : Effect → List ℕ
 effectText e = ascii "(when " ++ (conditionText (e .condition) ++ (ascii " " ++ (changesText e ++ ascii ")")))
 
+-- the line of action k, up to its precondition
+abbrev pub headText : ℕ → List ℕ
+headText k = ascii "(:action a" ++ (decimal k ++ ascii " :parameters () :precondition ")
+
+-- what opens the effects of an action that costs n
+abbrev pub costText : ℕ → List ℕ
+costText n = ascii " :effect (and (increase (total-cost) " ++ (decimal n ++ ascii ")")
+
 -- the line of action k
 abbrev pub actionLine : ℕ → Action → List ℕ
 actionLine k a =

@@ -1,6 +1,8 @@
 // Actions as PDDL, written as the rows are read.
-ghost use Prim.Native.Nat.{_+_, _*_, _-_, _≤_, _<_};
+ghost use Prim.Native.Nat.{_+_, _*_, _-_, _^_, _≤_, _<_};
 ghost use lib.ListN.{length};
+ghost use Rattle.text.specs.Area.{Wrote};
+ghost use Rattle.pddl_parts.specs.Pddl.{headText, costText};
 ghost use Rattle.pddl_parts.specs.Pieces.{effect, effects, action, actions};
 ghost use Rattle.pddl_parts.specs.Puts.{stretch, Reading, Spells, Puts};
 use super::conditions;
@@ -50,6 +52,28 @@ fn put_effects(out: &mut [u8], at: usize, marks: &[u8], values: &[u8], from: usi
     Emitted { at: k, next: i }
 }
 
+// Writes the line of action `number` up to its precondition.
+fn put_head(out: &mut [u8], at: usize, number: usize) -> usize
+    requires { ⌜ at + 60 < 2 ^ 64 ⌝ }
+    ensures { λ r. ⌜ Wrote (now (out .entry)) at (headText number) r (now (out .exit)) ⌝ }
+    ensures { λ r. ⌜ r ≤ at + 60 ⌝ }
+{
+    let a = text::put_bytes(&mut *out, at, b"(:action a");
+    let b = text::put_decimal(&mut *out, a, number as u64);
+    text::put_bytes(&mut *out, b, b" :parameters () :precondition ")
+}
+
+// Writes what an action costs, which opens its effects.
+fn put_cost(out: &mut [u8], at: usize, cost: u32) -> usize
+    requires { ⌜ at + 58 < 2 ^ 64 ⌝ }
+    ensures { λ r. ⌜ Wrote (now (out .entry)) at (costText cost) r (now (out .exit)) ⌝ }
+    ensures { λ r. ⌜ r ≤ at + 58 ⌝ }
+{
+    let a = text::put_bytes(&mut *out, at, b" :effect (and (increase (total-cost) ");
+    let b = text::put_decimal(&mut *out, a, cost as u64);
+    text::put_byte(&mut *out, b, b')')
+}
+
 // Writes the line of action `number`, which row `from` opens.
 fn put_action(
     out: &mut [u8],
@@ -64,21 +88,9 @@ fn put_action(
     ensures { λ r. ⌜ (from < r .next) × (r .next ≤ length (now (marks .entry))) × (r .at ≤ at + 160 * (r .next - from)) ⌝ }
 {
     let cost = rows::value_at(values, from);
-    let k = text::put_number(
-        &mut *out,
-        at,
-        b"(:action a",
-        number as u64,
-        b" :parameters () :precondition ",
-    );
+    let k = put_head(&mut *out, at, number);
     let c = conditions::put_condition(&mut *out, k, marks, values, from + 1);
-    let k = text::put_number(
-        &mut *out,
-        c.at,
-        b" :effect (and (increase (total-cost) ",
-        cost as u64,
-        b")",
-    );
+    let k = put_cost(&mut *out, c.at, cost);
     let s = put_effects(&mut *out, k, marks, values, c.next);
     let k = text::put_bytes(&mut *out, s.at, b"))\n");
     Emitted {

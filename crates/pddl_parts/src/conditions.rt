@@ -4,7 +4,7 @@ ghost use Prim.Native.Nat.{_+_, _*_, _-_, _^_, _≤_, _<_};
 ghost use lib.ListN.{length};
 ghost use Rattle.task.specs.TaskRows.{row};
 ghost use Rattle.text.specs.Area.{Wrote};
-ghost use Rattle.pddl_parts.specs.Pddl.{factText};
+ghost use Rattle.pddl_parts.specs.Pddl.{factText, notText};
 ghost use Rattle.pddl_parts.specs.Rows.{rowText, markAt, listAt};
 ghost use Rattle.pddl_parts.specs.Pieces.{clause, condition};
 ghost use Rattle.pddl_parts.specs.Puts.{stretch, Reading, Spells, Puts};
@@ -17,13 +17,26 @@ pub struct Emitted {
     pub next: usize,
 }
 
-// Writes a fact.
+// Writes a fact. Its pieces are not put_number's, which is too large to be put into its callers.
 pub fn put_fact(out: &mut [u8], at: usize, n: u32) -> usize
     requires { ⌜ at + 23 < 2 ^ 64 ⌝ }
     ensures { λ r. ⌜ Wrote (now (out .entry)) at (factText n) r (now (out .exit)) ⌝ }
     ensures { λ r. ⌜ r ≤ at + 23 ⌝ }
 {
-    text::put_number(out, at, b"(f", n as u64, b")")
+    let a = text::put_bytes(&mut *out, at, b"(f");
+    let b = text::put_decimal(&mut *out, a, n as u64);
+    text::put_byte(&mut *out, b, b')')
+}
+
+// Writes that a fact does not hold.
+fn put_denied(out: &mut [u8], at: usize, n: u32) -> usize
+    requires { ⌜ at + 29 < 2 ^ 64 ⌝ }
+    ensures { λ r. ⌜ Wrote (now (out .entry)) at (notText n) r (now (out .exit)) ⌝ }
+    ensures { λ r. ⌜ r ≤ at + 29 ⌝ }
+{
+    let a = text::put_bytes(&mut *out, at, b"(not (f");
+    let b = text::put_decimal(&mut *out, a, n as u64);
+    text::put_bytes(&mut *out, b, b"))")
 }
 
 // Writes the fact that a row names, or that it does not hold.
@@ -33,7 +46,7 @@ fn put_row(out: &mut [u8], at: usize, mark: u8, value: u32) -> usize
     ensures { λ r. ⌜ r ≤ at + 29 ⌝ }
 {
     if (mark == marks::LACKS) | (mark == marks::DELETE) {
-        text::put_number(&mut *out, at, b"(not (f", value as u64, b"))")
+        put_denied(&mut *out, at, value)
     } else {
         put_fact(&mut *out, at, value)
     }

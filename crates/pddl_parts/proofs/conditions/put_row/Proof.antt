@@ -1,15 +1,12 @@
 -- Each branch writes the text that `rowText` has for its test.
-use native.Mathlib.Omega.{arith}
 use borrow.Author.Needs.{needs}
-use Rattle.pddl_parts.proofs.Listing.{not-wrote}
 use Rattle.pddl_parts.proofs.conditions.put_row.Statement.{statement}
 use Rattle.pddl_parts.proofs.conditions.put_row.Tie as tie
 
 returns : tie.Need-returns
 returns c =
     let n = c .before .before in
-    let g = n .before .before .before .before in
-    rw (g .if1 .taken) (not-wrote (g .before .before .args .value) (n .put-number .ensures .0), omega (arith, n .put-number .ensures .1))
+    rw (n .before .before .if1 .taken) (n .put-denied .ensures .0, search needs)
 
 returns-2 : tie.Need-returns-2
 returns-2 c =
@@ -19,6 +16,4 @@ returns-2 c =
 pub put-row-spec : {M : Type 1} → statement M
 put-row-spec =
     tie.close
-    (tie.spec
-    (λ c. search needs) (λ c. search needs) (λ c κs. search needs) (λ c κs. search needs) (λ c. search needs) returns
-    (λ c. search needs) returns-2)
+    (tie.spec (λ c κs. search needs) (λ c κs. search needs) (λ c. search needs) returns (λ c. search needs) returns-2)
