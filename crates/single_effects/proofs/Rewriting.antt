@@ -1,29 +1,32 @@
--- The rows of the new task, written piece by piece: rows between effects are copied when the next effect comes.
+-- The rows of the new task, written piece by piece: rows between effects, and effects with one choice, are copied when the next effect with
+-- several comes.
 use mathlib.Core.Path.{_≡_, sym, ap, _∙_, subst}
-use mathlib.Core.List.{List, [], _∷_, _++_, append-assoc}
+use mathlib.Core.List.{List, [], _∷_, _++_, append-assoc, append-nil}
 use Prim.Native.Nat.{ℕ, _+_, _≤_, _<_}
 use native.Mathlib.Omega.{arith}
 use lib.Dec.{T, nltb→le}
-use lib.ListN.{length, drop, getD}
-use Rattle.lists.specs.Lists.{all}
+use lib.ListN.{length, drop, getD, length-append, length-drop}
+use Rattle.lists.specs.Lists.{all, concatMap}
 use Rattle.meaning.specs.Task.{Effect, Task}
 use Rattle.task.specs.Marks.{EFFECT}
-use Rattle.task.specs.TaskRows.{Row, taskRows}
+use Rattle.task.specs.TaskRows.{Row, effectRows, taskRows}
 use Rattle.task.specs.File.{paired}
 use Rattle.lists.proofs.Tests.{tests}
+use Rattle.task.proofs.Bytes.{length-paired}
 use Rattle.task.proofs.Positions.{drop-next}
 use Rattle.layout.specs.Sides.{stretch}
 use Rattle.writer.specs.Writer.{Room, Wrote}
 use Rattle.writer.specs.declared.Cursor.{Cursor}
 use Rattle.writer.proofs.Putting.{Onward, Kept, then, as-rows, kept-none, kept-on, no-row}
 use Rattle.singling.specs.Singled.{choiceCount, singled}
+use Rattle.singling.proofs.Twice.{effect-stays}
 use Rattle.single_effects.specs.Shapes.{shapeAt, InOrder}
 use Rattle.single_effects.specs.Effects.{EffectAt}
 use Rattle.single_effects.specs.Whole.{NoEffects, Narrow}
 use Rattle.single_effects.specs.declared.shapes.Shape.{Shape}
 use Rattle.single_effects.proofs.EffectShape.{left-found, effect-found}
 use Rattle.single_effects.proofs.Pieces.{Piece, plain, effect, rowsOf, newEffects, newRowsOf, Sound, narrowPiece, taskPieces, task-pieces, new-pieces, task-sound, task-narrow}
-use Rattle.single_effects.proofs.Walking.{effect-here, plain-here, stretch-on, nothing-new, all-left}
+use Rattle.single_effects.proofs.Walking.{effect-here, plain-here, stretch-on, stretch-more, nothing-new, all-left}
 
 -- the rows from `from` to row i are still to be copied, and after them come the pieces that are left
 pub record Rewriting (b : List ℕ) (c : Cursor) (t : Task) (ms vs : List ℕ) (from i : ℕ) (out : List ℕ) (k : Cursor) : Type 0 where
@@ -122,4 +125,39 @@ module _ (b : List ℕ) (c : Cursor) (t : Task) (ms vs : List ℕ) (from i : ℕ
                 so-far = kept-on (kept-on (R .so-far) p w₁) q (w₂ e E);
                 onward = λ x o w. R .onward x o (as-rows more (then (then w₁ (w₂ e E))
                     (as-rows (ap (λ (xs : List Row). xs ++ newRowsOf qs) (no-row ms vs (r .changes .to) (r .changes .to) (omega arith))) w)));
+              }
+
+      -- it has one choice, and is copied with the rows before it
+      pub rewriting-along : InOrder ms i r → r .choices ≡ 1 → Rewriting b c t ms vs from (r .changes .to) out k
+      rewriting-along ord one = build first
+        where
+          build : (e : Effect) × (qs : List Piece) × First e qs → Rewriting b c t ms vs from (r .changes .to) out k
+          build (e, qs, (g, E)) =
+              let s : Sound (effect e ∷ qs) = subst Sound g (R .sound) in
+              let n : T (all narrowPiece (effect e ∷ qs)) = subst (λ (ps : List Piece). T (all narrowPiece ps)) g (R .narrow) in
+              let done : List Row = stretch ms vs from i in
+              let here : drop i (paired ms vs) ≡ effectRows e ++ rowsOf qs = R .there ∙ ap rowsOf g in
+              let left : drop (r .changes .to) (paired ms vs) ≡ rowsOf qs = left-found ms vs i e (rowsOf qs) here (s .0) r f in
+              let end : r .changes .to ≡ i + length (effectRows e) =
+              omega (
+                arith, ap length here, ap length left, length-append (effectRows e) (rowsOf qs), length-drop i (paired ms vs),
+                length-drop (r .changes .to) (paired ms vs), length-paired ms vs, ord .opened, ord .whole, ord .inside,
+              ) in
+              let stays : newEffects e ≡ effectRows e =
+              ap (concatMap effectRows) (effect-stays e (sym (E .choices) ∙ one)) ∙ append-nil (effectRows e) in
+              let more : stretch ms vs from (r .changes .to) ++ newRowsOf qs ≡ done ++ newRowsOf (R .left) =
+              ap (λ (xs : List Row). xs ++ newRowsOf qs)
+              (stretch-more ms vs from i (r .changes .to) (effectRows e) (rowsOf qs) (R .order) (R .inside) here end)
+              ∙ append-assoc done (effectRows e) (newRowsOf qs)
+              ∙ ap (λ (xs : List Row). done ++ (xs ++ newRowsOf qs)) (sym stays)
+              ∙ sym (ap (λ (ps : List Piece). done ++ newRowsOf ps) g) in
+              record {
+                order = omega (arith, R .order, ord .opened, ord .whole);
+                inside = ord .inside;
+                left = qs;
+                there = left;
+                sound = s .1;
+                narrow = search tests;
+                so-far = R .so-far;
+                onward = λ x o w. R .onward x o (as-rows more w);
               }

@@ -1,12 +1,12 @@
 -- The pieces that are left from a row on: at an EFFECT row an effect comes first, at any other a row alone.
 use mathlib.Core.Path.{_≡_, refl, sym, ap, _∙_}
 use mathlib.Core.Bool.{true, false, true≢false}
-use mathlib.Core.List.{List, [], _∷_, _++_}
+use mathlib.Core.List.{List, [], _∷_, _++_, append-assoc}
 use Prim.Native.Nat.{ℕ, suc, _+_, _-_, _≤_, _<_}
 use native.Mathlib.Omega.{arith}
 use lib.Dec.{eqb}
-use lib.ListN.{length, drop, take, getD, length-drop, take-append-drop}
-use lib.Seq.{take-suc, getD-drop, take-all, drop-drop}
+use lib.ListN.{length, drop, take, getD, length-append, length-take, length-drop, take-append-drop}
+use lib.Seq.{take-suc, getD-drop, take-all, take-append-seam, drop-drop}
 use borrow.Author.Tests.{eq-eqb, ne-eqb}
 use Rattle.task.specs.Marks.{EFFECT, CLAUSE, HOLDS, LACKS, DELETE}
 use Rattle.meaning.specs.Task.{Effect}
@@ -64,6 +64,21 @@ stretch-on ms vs from i x xs h l e =
     ∙ take-suc (drop from rows) (i - from) x (omega (arith, length-drop from rows, length-paired ms vs))
     ∙ ap (λ (y : Row). stretch ms vs from i ++ (y ∷ []))
     (getD-drop from rows (i - from) x ∙ ap (λ (k : ℕ). getD rows k x) m ∙ sym (getD-drop i rows 0 x) ∙ ap (λ (ys : List Row). getD ys 0 x) e)
+
+-- so many rows more
+pub stretch-more : (ms vs : List ℕ) (from i j : ℕ) (xs rest : List Row) → from ≤ i → i ≤ length ms → drop i (paired ms vs) ≡ xs ++ rest
+    → j ≡ i + length xs → stretch ms vs from j ≡ stretch ms vs from i ++ xs
+stretch-more ms vs from i j xs rest h l e q =
+    let rows : List Row = paired ms vs in
+    let done : List Row = stretch ms vs from i in
+    let n : from + (i - from) ≡ i = omega arith in
+    let all : drop from rows ≡ (done ++ xs) ++ rest =
+    sym (take-append-drop (i - from) (drop from rows))
+    ∙ ap (λ (ys : List Row). done ++ ys) (drop-drop (i - from) from rows ∙ ap (λ (k : ℕ). drop k rows) n ∙ e)
+    ∙ sym (append-assoc done xs rest) in
+    let long : j - from ≡ length (done ++ xs) =
+    omega (arith, length-append done xs, length-take (i - from) (drop from rows), length-drop from rows, length-paired ms vs) in
+    ap (λ (k : ℕ). take k (drop from rows)) long ∙ ap (take (length (done ++ xs))) all ∙ take-append-seam (done ++ xs) rest
 
 -- without an effect nothing is new
 pub nothing-new : (ms vs : List ℕ) (i : ℕ) (ps : List Piece) → drop i (paired ms vs) ≡ rowsOf ps → NoEffects ms i (length ms) → newRowsOf ps ≡ rowsOf ps

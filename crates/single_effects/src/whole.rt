@@ -17,7 +17,8 @@ use task::marks;
 use task::refused;
 use writer::Cursor;
 
-// Writes the rows of the new task: each effect by its choices, and the rows between effects as they stand. None begins from row `last` on.
+// Writes the rows of the new task: each effect with several choices by these, and the rows between such effects as they stand, since an
+// effect with one choice stays as it is. None begins from row `last` on.
 fn put_task(out: &mut [u8], c: Cursor, marks: &[u8], values: &[u8], last: usize) -> Cursor
     requires { ⌜ Room c (now out) × Rows (now marks) (now values) × (last ≤ length (now marks)) × NoEffects (now marks) last (length (now marks)) ⌝ }
     requires { ⌜ ((t : Task) × Narrow (now marks) (now values) t) ⌝ }
@@ -30,10 +31,14 @@ fn put_task(out: &mut [u8], c: Cursor, marks: &[u8], values: &[u8], last: usize)
     while i < last {
         if marks[i] == marks::EFFECT {
             let s = shapes::shape_of(marks, i);
-            k = writer::copy_rows(&mut *out, k, marks, values, Span { from, to: i });
-            k = choosing::put_effect(&mut *out, k, marks, values, i, s);
-            i = s.changes.to;
-            from = i;
+            if s.choices == 1 {
+                i = s.changes.to;
+            } else {
+                k = writer::copy_rows(&mut *out, k, marks, values, Span { from, to: i });
+                k = choosing::put_effect(&mut *out, k, marks, values, i, s);
+                i = s.changes.to;
+                from = i;
+            }
         } else {
             i += 1;
         }

@@ -6,7 +6,7 @@ use native.Mathlib.Omega.{arith}
 use denote.Ref.{now}
 use Rattle.meaning.specs.Task.{Task}
 use Rattle.single_effects.specs.Whole.{Narrow}
-use Rattle.single_effects.proofs.Rewriting.{Rewriting, rewriting-begins, rewritten, rewriting-on, effect-there, rewriting-past}
+use Rattle.single_effects.proofs.Rewriting.{Rewriting, rewriting-begins, rewritten, rewriting-on, rewriting-along, effect-there, rewriting-past}
 use Rattle.single_effects.proofs.whole.put_task.Statement.{statement}
 use Rattle.single_effects.proofs.whole.put_task.Tie as tie
 
@@ -31,14 +31,14 @@ shape-of-requires c κs = search needs
 
 copy-rows-requires : tie.Need-copy-rows-requires Inv-loop μ-loop
 copy-rows-requires c κs =
-    let l = c .before .before .before .before .before in
+    let l = c .before .before .before .before .before .before .before in
     let st = l .before .before .before .before in
     (here l .so-far .room, st .pre .0 .1, here l .inside)
 
 put-effect-requires : tie.Need-put-effect-requires Inv-loop μ-loop
 put-effect-requires c κs =
     let w = c .before .before .before in
-    let s = w .before .before in
+    let s = w .before .before .before .before in
     let l = s .before .before .before .before in
     let st = l .before .before .before .before in
     let a = st .args in (
@@ -48,17 +48,34 @@ put-effect-requires c κs =
           (search needs) (search needs) (s .shape-of .result) (s .shape-of .ensures .1 (now (a .values))),
     )
 
+-- an effect of one choice is left to be copied
+
 loop-less : tie.Need-loop-less Inv-loop μ-loop
 loop-less c =
-    let s = c .before .before .before .before .before .before .before .before in
-    let o = s .shape-of .ensures .0 in
+    let o = c .before .before .shape-of .ensures .0 in
     omega (arith, o .opened, o .whole, o .inside)
 
 loop-again : tie.Need-loop-again Inv-loop μ-loop
 loop-again c = λ t N.
+    let s = c .before .before in
+    let l = s .before .before .before .before in
+    let a = l .before .before .before .before .args in
+    rewriting-along (now (a .out)) (a .c) t (now (a .marks)) (now (a .values)) (l .loop .from) (l .loop .i) (l .loop .out) (l .loop .k) (l .loop .inv t N)
+    (search needs) (search needs) (s .shape-of .result) (s .shape-of .ensures .1 (now (a .values))) (s .shape-of .ensures .0) (c .if2 .taken)
+
+-- any other is written by its choices
+
+loop-less-2 : tie.Need-loop-less-2 Inv-loop μ-loop
+loop-less-2 c =
+    let s = c .before .before .before .before .before .before .before .before .before .before in
+    let o = s .shape-of .ensures .0 in
+    omega (arith, o .opened, o .whole, o .inside)
+
+loop-again-2 : tie.Need-loop-again-2 Inv-loop μ-loop
+loop-again-2 c = λ t N.
     let p = c .before .before in
     let w = p .before .before .before .before in
-    let s = w .before .before in
+    let s = w .before .before .before .before in
     let l = s .before .before .before .before in
     let st = l .before .before .before .before in
     let a = st .args in
@@ -67,8 +84,8 @@ loop-again c = λ t N.
     (w .copy-rows .last .0) (w .copy-rows .result) (w .copy-rows .kept .0) (w .copy-rows .ensures)
     (p .put-effect .last .0) (p .put-effect .result) (p .put-effect .kept .0) (p .put-effect .ensures)
 
-loop-again-2 : tie.Need-loop-again-2 Inv-loop μ-loop
-loop-again-2 c = λ t N.
+loop-again-3 : tie.Need-loop-again-3 Inv-loop μ-loop
+loop-again-3 c = λ t N.
     let l = c .before .before .before in
     let a = l .before .before .before .before .args in
     rewriting-on (now (a .out)) (a .c) t (now (a .marks)) (now (a .values)) (l .loop .from) (l .loop .i) (l .loop .out) (l .loop .k) (l .loop .inv t N)
@@ -99,5 +116,5 @@ pub put-task-spec : {M : Type 1} → statement M
 put-task-spec =
     tie.close
     (tie.spec
-    Inv-loop μ-loop loop-holds (λ c. search needs) shape-of-requires copy-rows-requires put-effect-requires loop-less loop-again
-    (λ c. search needs) (λ c. search needs) loop-again-2 copy-rows-requires-2 same-length returns)
+    Inv-loop μ-loop loop-holds (λ c. search needs) shape-of-requires loop-less loop-again copy-rows-requires put-effect-requires
+    loop-less-2 loop-again-2 (λ c. search needs) (λ c. search needs) loop-again-3 copy-rows-requires-2 same-length returns)
