@@ -1,16 +1,17 @@
 -- The first effect with too many choices, sought piece by piece.
 use mathlib.Core.Path.{_≡_, refl, sym, ap, _∙_, subst}
-use mathlib.Core.Bool.{cond}
+use mathlib.Core.Bool.{Bool, true, false, not, cond, _&&_}
 use mathlib.Core.List.{List, [], _∷_, _++_}
 use mathlib.Core.Option.{some}
-use Prim.Native.Nat.{ℕ, _+_, _≤_, _<_}
+use Prim.Native.Nat.{ℕ, zero, suc, _+_, _-_, _≤_, _<_}
 use mathlib.Core.Logic.{_⊎_, inl, inr}
 use native.Mathlib.Nat.{eq-or-lt-of-le}
 use native.Mathlib.Numerals.{add-one}
 use native.Mathlib.Omega.{arith}
-use lib.Dec.{ltb}
+use lib.Dec.{T, eqb, leb, ltb, leb→le}
 use lib.ListN.{length, drop, getD}
-use borrow.Author.Tests.{lt-ltb, le-ltb}
+use borrow.Author.Tests.{lt-ltb, le-ltb, leb-false, eq-eqb}
+use Rattle.lists.proofs.Tests.{tests, as-T, as-false, not-both}
 use Rattle.meaning.specs.Task.{Effect, Task}
 use Rattle.task.specs.Marks.{EFFECT}
 use Rattle.task.specs.TaskRows.{Row, taskRows, effectRows}
@@ -96,7 +97,37 @@ module _ (ms vs : List ℕ) (t : Task) (i : ℕ) (S : Seeking ms vs t i) where
                 same = rw (le-ltb 64 (r .choices) h) at by-choices e qs q;
               }
 
--- a row that opens no effect
+-- so many rows that open no effect
+pub seeking-through : (ms vs : List ℕ) (t : Task) (n i j : ℕ) → i + n ≡ j → j ≤ length ms → NoEffects ms i j → Seeking ms vs t i → Seeking ms vs t j
+seeking-through ms vs t zero i j e h other S = let q : i ≡ j = omega arith in subst (Seeking ms vs t) q S
+seeking-through ms vs t (suc n) i j e h other S =
+    seeking-through ms vs t n (i + 1) j (omega arith) h (λ m a b. other m (omega arith) b)
+    (seeking-on ms vs t i S (omega arith) (other i (omega arith) (omega arith)))
+
+-- Rows that open no effect
+
+pub no-both : (ms : List ℕ) (a b c : ℕ) → NoEffects ms a b → NoEffects ms b c → NoEffects ms a c
+no-both ms a b c f g m l h = go (leb b m) refl
+  where
+    go : (k : Bool) → leb b m ≡ k → getD ms m 0 ≡ EFFECT → ⊥
+    go true e = g m (leb→le b m (as-T e)) h
+    go false e = f m l (leb-false b m e)
+
+pub no-four : (ms : List ℕ) (i : ℕ)
+    → T (not (eqb (getD ms i 0) EFFECT) && not (eqb (getD ms (i + 1) 0) EFFECT) && not (eqb (getD ms (i + 2) 0) EFFECT) && not (eqb (getD ms (i + 3) 0) EFFECT))
+    → NoEffects ms i (i + 4)
+no-four ms i t m a b = go (m - i) (omega arith) (omega arith)
+  where
+    other : (x : ℕ) → T (not (eqb x EFFECT)) → x ≡ EFFECT → ⊥
+    other x h q = not-both (eq-eqb x EFFECT q) (as-false (eqb x EFFECT) h)
+
+    go : (d : ℕ) → m ≡ i + d → d < 4 → getD ms m 0 ≡ EFFECT → ⊥
+    go zero e h = let q : m ≡ i = omega arith in rw q (other (getD ms i 0) (search tests))
+    go (suc zero) e h = rw e (other (getD ms (i + 1) 0) (search tests))
+    go (suc (suc zero)) e h = rw e (other (getD ms (i + 2) 0) (search tests))
+    go (suc (suc (suc zero))) e h = rw e (other (getD ms (i + 3) 0) (search tests))
+    go (suc (suc (suc (suc d)))) e h = absurd (omega arith)
+
 pub no-more : (ms : List ℕ) (last i : ℕ) → NoEffects ms last i → (getD ms i 0 ≡ EFFECT → ⊥) → NoEffects ms last (i + 1)
 no-more ms last i h n m a b q = let l : m ≤ i = omega arith in go (eq-or-lt-of-le l)
   where

@@ -1,7 +1,8 @@
 // Effects with too many choices.
 ghost use mathlib.Core.Path.{_≡_};
 ghost use mathlib.Core.List.{List};
-ghost use Prim.Native.Nat.{ℕ, _≤_};
+ghost use mathlib.Core.Bool.{true};
+ghost use Prim.Native.Nat.{ℕ, _+_, _≤_};
 ghost use lib.ListN.{length};
 ghost use Rattle.meaning.specs.Task.{Task};
 ghost use Rattle.task.specs.TaskRows.{taskRows};
@@ -19,6 +20,33 @@ pub const MAX_CHOICES: usize = 64;
 pub struct Found {
     pub wide: usize,
     pub last: usize,
+}
+
+// Whether none of four rows from row i on opens an effect.
+fn four_others(marks: &[u8], i: usize) -> bool
+    requires { ⌜ (i + 4 ≤ length (now marks)) × (length (now marks) ≤ MAX-ROWS) ⌝ }
+    ensures { λ r. ⌜ (r ≡ true → NoEffects (now (marks .entry)) i (i + 4)) ⌝ }
+{
+    (marks[i] != marks::EFFECT)
+        & (marks[i + 1] != marks::EFFECT)
+        & (marks[i + 2] != marks::EFFECT)
+        & (marks[i + 3] != marks::EFFECT)
+}
+
+// Passes rows that open no effect, eight at a time.
+fn past_others(marks: &[u8], from: usize) -> usize
+    requires { ⌜ (from ≤ length (now marks)) × (length (now marks) ≤ MAX-ROWS) ⌝ }
+    ensures { λ r. ⌜ (from ≤ r) × (r ≤ length (now (marks .entry))) ⌝ }
+    ensures { λ r. ⌜ NoEffects (now (marks .entry)) from r ⌝ }
+{
+    let mut i = from;
+    while i + 8 <= marks.len() {
+        if !(four_others(marks, i) & four_others(marks, i + 4)) {
+            return i;
+        }
+        i += 8;
+    }
+    i
 }
 
 // Goes through the effects.
@@ -40,7 +68,7 @@ pub fn find_wide(marks: &[u8]) -> Found
             i = s.changes.to;
             last = i;
         } else {
-            i += 1;
+            i = past_others(marks, i + 1);
         }
     }
     Found { wide: i, last }

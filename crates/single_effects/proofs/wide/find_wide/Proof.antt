@@ -2,7 +2,7 @@
 use borrow.Author.Needs.{needs}
 use mathlib.Core.Path.{_≡_}
 use mathlib.Core.List.{List}
-use Prim.Native.Nat.{ℕ, _-_, _≤_, _<_}
+use Prim.Native.Nat.{ℕ, _+_, _-_, _≤_, _<_}
 use native.Mathlib.Omega.{arith}
 use denote.Ref.{now}
 use lib.ListN.{length}
@@ -10,7 +10,7 @@ use Rattle.meaning.specs.Task.{Task}
 use Rattle.task.specs.TaskRows.{taskRows}
 use Rattle.task.specs.File.{paired}
 use Rattle.single_effects.specs.Whole.{NoEffects}
-use Rattle.single_effects.proofs.Seeking.{Seeking, seeking-begins, none-found, seeking-on, found-here, seeking-past, no-more}
+use Rattle.single_effects.proofs.Seeking.{Seeking, seeking-begins, none-found, seeking-on, seeking-through, found-here, seeking-past, no-both, no-more}
 use Rattle.single_effects.proofs.wide.find_wide.Statement.{statement}
 use Rattle.single_effects.proofs.wide.find_wide.Tie as tie
 
@@ -49,13 +49,21 @@ loop-again c =
       λ m f g q. omega arith,
     )
 
+loop-less-2 : tie.Need-loop-less-2 Inv-loop μ-loop
+loop-less-2 c = omega (arith, c .past-others .ensures .0 .0)
+
 loop-again-2 : tie.Need-loop-again-2 Inv-loop μ-loop
 loop-again-2 c =
-    let l = c .before .before .before in
-    let a = l .before .before .args in (
-      λ vs t e. seeking-on (now (a .marks)) vs t (l .loop .i) (l .loop .inv .0 vs t e) (search needs) (search needs),
+    let l = c .before .before .before .before in
+    let a = l .before .before .args in
+    let ms = now (a .marks) in
+    let i = l .loop .i in
+    let r = c .past-others .result in
+    let others : NoEffects ms (i + 1) r = c .past-others .ensures .1 in (
+      λ vs t e. seeking-through ms vs t (r - (i + 1)) (i + 1) r (omega (arith, c .past-others .ensures .0 .0)) (c .past-others .ensures .0 .1) others
+          (seeking-on ms vs t i (l .loop .inv .0 vs t e) (search needs) (search needs)),
       l .loop .inv .1,
-      no-more (now (a .marks)) (l .loop .last) (l .loop .i) (l .loop .inv .2) (search needs),
+      no-both ms (l .loop .last) (i + 1) r (no-more ms (l .loop .last) i (l .loop .inv .2) (search needs)) others,
     )
 
 returns-2 : tie.Need-returns-2 Inv-loop μ-loop
@@ -72,4 +80,4 @@ find-wide-spec =
     tie.close
     (tie.spec
     Inv-loop μ-loop loop-holds (λ c. search needs) (λ c κs. search needs) returns loop-less loop-again (λ c. search needs)
-    (λ c. search needs) loop-again-2 returns-2)
+    (λ c κs. search needs) loop-less-2 loop-again-2 returns-2)
