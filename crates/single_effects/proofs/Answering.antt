@@ -171,10 +171,13 @@ module _ (b area : List ℕ) (x : Checked) (e : checked x ≡ check b) where
         same-sizes : singledSizes (asSizes z) (singledRows b) ≡ sizesOf (singled (taskOf b))
         same-sizes = ap (λ (y : File.Sizes). singledSizes y (singledRows b)) (sym (spelling .sized)) ∙ sym (singled-sizes (taskOf b))
 
-        file-is : fileOfRows (z .facts) (z .actions) (z .preferences) (taskRows (singled (taskOf b))) ≡ singledFile b
+        abbrev fileOfTask : Task → List ℕ
+        fileOfTask t = fileOfRows (z .facts) (z .actions) (z .preferences) (taskRows (singled t))
+
+        file-is : fileOfTask (taskOf b) ≡ singledFile b
         file-is = λ i. fileOfRows (same-sizes i .facts) (same-sizes i .actions) (same-sizes i .preferences) (taskRows (singled (taskOf b)))
 
-        pub put : (r : Outcome) (out : List ℕ) → ((t : Task) → Narrow ms vs t → Fitted (z .facts) (z .actions) (z .preferences) (taskRows (singled t)) area r out)
+        pub put : (r : Outcome) (out : List ℕ) → ((t : Task) → Narrow ms vs t → Fitted (length (taskRows (singled t))) (fileOfTask t) area r out)
             → Promised b area r out
         put r out fits =
             let f = fits (taskOf b) narrow in

@@ -17,18 +17,21 @@ use Rattle.spelling.proofs.Fitting
 use Rattle.single_effects.specs.Whole.{Fitted}
 
 module _ (F A P : ℕ) (xs : List Row) (b : List ℕ) (n : ℕ) (counted : n ≡ rowAfter 0 (length xs)) where
-  pub too-many : (r : Outcome) → answer r ≡ refused 8 0 → 12000 < n → Fitted F A P xs b r b
+  abbrev file : List ℕ
+  file = fileOfRows F A P xs
+
+  pub too-many : (r : Outcome) → answer r ≡ refused 8 0 → 12000 < n → Fitted (length xs) file b r b
   too-many r e h =
-      record { answering = e ∙ Translating.too-many (length xs) n (length b) counted h; area = sym (ap (areaAfter (fileOfRows F A P xs) b) e) }
+      record { answering = e ∙ Translating.too-many (length xs) n (length b) counted h; area = sym (ap (areaAfter file b) e) }
 
   module _ (few : n ≤ 12000) where
-    pub no-room : (r : Outcome) → answer r ≡ refused 9 0 → length b < 8 + 5 * n → Fitted F A P xs b r b
+    pub no-room : (r : Outcome) → answer r ≡ refused 9 0 → length b < 8 + 5 * n → Fitted (length xs) file b r b
     no-room r e h =
-        record { answering = e ∙ Translating.no-room (length xs) n (length b) counted few h; area = sym (ap (areaAfter (fileOfRows F A P xs) b) e) }
+        record { answering = e ∙ Translating.no-room (length xs) n (length b) counted few h; area = sym (ap (areaAfter file b) e) }
 
     -- the sizes were written, and then the rows
     pub put : (mid out : List ℕ) (k : Cursor) → 8 + 5 * n ≤ length b → mid ≡ sets b 0 (header F A P n)
-        → Wrote mid (record { rows = n; next = 0 }) xs k out → (r : Outcome) → answer r ≡ written (8 + 5 * n) → Fitted F A P xs b r out
+        → Wrote mid (record { rows = n; next = 0 }) xs k out → (r : Outcome) → answer r ≡ written (8 + 5 * n) → Fitted (length xs) file b r out
     put mid out k room sized w r e =
         let all-few : length xs ≤ 12000 = omega (arith, counted) in
         record {

@@ -8,8 +8,8 @@ use lib.Dec.{T, ltb}
 use lib.ListN.{length, getD}
 use Rattle.meaning.specs.Task.{Task}
 use Rattle.task.specs.Marks.{EFFECT}
-use Rattle.task.specs.TaskRows.{Row, taskRows}
-use Rattle.task.specs.File.{paired, fileOfRows}
+use Rattle.task.specs.TaskRows.{taskRows}
+use Rattle.task.specs.File.{paired}
 use Rattle.outcome.specs.Outcome.{areaAfter}
 use Rattle.outcome.specs.Answers.{answer}
 use Rattle.outcome.specs.declared.Outcome
@@ -29,7 +29,7 @@ pub record Narrow (ms vs : List ℕ) (t : Task) : Type 0 where
   pub spelled : paired ms vs ≡ taskRows t
   pub narrow : T (allNarrow t)
 
--- r is due for the file of the rows xs and an area as long as b, and the area holds what r says
-pub record Fitted (F A P : ℕ) (xs : List Row) (b : List ℕ) (r : Outcome.Outcome) (out : List ℕ) : Type 0 where
-  pub answering : answer r ≡ rowsFitted (length xs) (length b) none
-  pub area : out ≡ areaAfter (fileOfRows F A P xs) b (answer r)
+-- r is due for the file, of n rows, and an area as long as b, and the area holds what r says
+pub record Fitted (n : ℕ) (file b : List ℕ) (r : Outcome.Outcome) (out : List ℕ) : Type 0 where
+  pub answering : answer r ≡ rowsFitted n (length b) none
+  pub area : out ≡ areaAfter file b (answer r)

@@ -4,6 +4,7 @@ ghost use Prim.Native.Nat.{_≤_};
 ghost use lib.ListN.{length};
 ghost use Rattle.meaning.specs.Task.{Task};
 ghost use Rattle.task.specs.TaskRows.{taskRows};
+ghost use Rattle.task.specs.File.{fileOfRows};
 ghost use Rattle.task.specs.Rows.{Rows};
 ghost use Rattle.writer.specs.Writer.{rowAfter, Room, Wrote};
 ghost use Rattle.singling.specs.Singled.{singled};
@@ -72,7 +73,8 @@ pub fn put_file(
     requires { ⌜ Rows (now marks) (now values) × (last ≤ length (now marks)) × NoEffects (now marks) last (length (now marks)) ⌝ }
     requires { ⌜ ((t : Task) × Narrow (now marks) (now values) t) ⌝ }
     ensures { λ r. ⌜ ((t : Task) → Narrow (now (marks .entry)) (now (values .entry)) t
-        → Fitted facts actions preferences (taskRows (singled t)) (now (out .entry)) r (now (out .exit))) ⌝ }
+        → let rows = taskRows (singled t) in
+        Fitted (length rows) (fileOfRows facts actions preferences rows) (now (out .entry)) r (now (out .exit))) ⌝ }
 {
     let n = count_rows(marks, values, last);
     if limits::MAX_ROWS < n {

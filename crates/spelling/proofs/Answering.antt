@@ -1,5 +1,5 @@
 -- A task file spelled, from what check answers.
-use mathlib.Core.Path.{_≡_, refl, sym, ap, _∙_}
+use mathlib.Core.Path.{_≡_, refl, sym, ap, _∙_, subst}
 use mathlib.Core.List.{List}
 use Prim.Native.Nat.{ℕ, _+_, _*_, _-_, _≤_}
 use native.Mathlib.Omega.{arith}
@@ -14,6 +14,7 @@ use Rattle.task.specs.declared.Sizes.{Sizes}
 use Rattle.task.specs.declared.Refusal.{Refusal}
 use Rattle.task.specs.declared.Checked.{Checked}
 use Rattle.task.specs.declared.Checked.the-variants.{Accepted, Refused}
+use Rattle.task.proofs.Bytes.{file-length}
 use Rattle.task.proofs.Spelled.{Spelling, accepted-spelling}
 use Rattle.task.proofs.Checking.{within as limits}
 use Rattle.task.proofs.Answered.{passed-on, parts-spell}
@@ -74,11 +75,15 @@ module _ (b area : List ℕ) (x : Checked) (e : checked x ≡ check b) where
     file-is : fileOfRows (z .facts) (z .actions) (z .preferences) (spelledRows rows) ≡ respelled b
     file-is = λ i. fileOfRows (same-sizes i .facts) (same-sizes i .actions) (same-sizes i .preferences) (rows-are i)
 
-    due : fitted (8 + 5 * length (spelledRows rows)) (length area) ≡ outcome b (length area)
+    due : fitted (length (respelled b)) (length area) ≡ outcome b (length area)
     unfolding outcome
-    due = ap (λ (xs : List Row). fitted (8 + 5 * length xs) (length area)) rows-are ∙ sym (ap (outcomeBy b (length area)) accepted)
+    due =
+        let t = canonical (taskOf b) in
+        ap (λ (n : ℕ). fitted n (length area)) (file-length (t .facts) (length (t .actions)) (length (t .preferences)) (taskRows t))
+        ∙ sym (ap (outcomeBy b (length area)) accepted)
 
-    pub put : (r : Outcome.Outcome) (out : List ℕ) → Fitted (z .facts) (z .actions) (z .preferences) (spelledRows rows) area r out → Promised r out
+    pub put : (r : Outcome.Outcome) (out : List ℕ) → Fitted (fileOfRows (z .facts) (z .actions) (z .preferences) (spelledRows rows)) area r out → Promised r out
     put r out f =
-        let right : answer r ≡ outcome b (length area) = f .answering ∙ due in
-        (right, f .area ∙ λ i. areaAfter (file-is i) area (right i))
+        let g : Fitted (respelled b) area r out = subst (λ (l : List ℕ). Fitted l area r out) file-is f in
+        let right : answer r ≡ outcome b (length area) = g .answering ∙ due in
+        (right, g .area ∙ ap (areaAfter (respelled b) area) right)

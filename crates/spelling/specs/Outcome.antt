@@ -3,8 +3,6 @@ use mathlib.Core.Path.{_≡_}
 use mathlib.Core.List.{List}
 use Prim.Native.Nat.{ℕ, _+_, _*_}
 use lib.ListN.{length}
-use Rattle.task.specs.TaskRows.{Row}
-use Rattle.task.specs.File.{fileOfRows}
 use Rattle.task.specs.Check
 use Rattle.task.specs.Check.{Answer, check}
 use Rattle.outcome.specs.Outcome.{Outcome, refused, fitted, areaAfter}
@@ -19,7 +17,7 @@ outcomeBy b room (Check.accepted z) = fitted (8 + 5 * respelledRows b) room
 unfoldable pub outcome : List ℕ → ℕ → Outcome
 outcome b room = outcomeBy b room (check b)
 
--- r is due for the file of the rows xs and an area as long as b, and the area holds what r says
-pub record Fitted (F A P : ℕ) (xs : List Row) (b : List ℕ) (r : Outcome.Outcome) (out : List ℕ) : Type 0 where
-  pub answering : answer r ≡ fitted (8 + 5 * length xs) (length b)
-  pub area : out ≡ areaAfter (fileOfRows F A P xs) b (answer r)
+-- r is due for the file and an area as long as b, and the area holds what r says
+pub record Fitted (file b : List ℕ) (r : Outcome.Outcome) (out : List ℕ) : Type 0 where
+  pub answering : answer r ≡ fitted (length file) (length b)
+  pub area : out ≡ areaAfter file b (answer r)

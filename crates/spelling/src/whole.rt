@@ -1,7 +1,7 @@
 // The whole spelling.
 ghost use Prim.Native.Nat.{_+_, _*_, _≤_};
 ghost use lib.ListN.{length};
-ghost use Rattle.task.specs.File.{paired};
+ghost use Rattle.task.specs.File.{paired, fileOfRows};
 ghost use Rattle.task.specs.Rows.{Rows};
 ghost use Rattle.writer.specs.Writer.{Room, Wrote};
 ghost use Rattle.spelling.specs.Spelled.{spelledRows, Shorter};
@@ -51,7 +51,7 @@ fn put_through(
     requires { ⌜ Shorter (now marks) (now values) × (8 + 5 * length (now marks) ≤ length (now own)) ⌝ }
     ensures { λ r.
         let rows = spelledRows (paired (now (marks .entry)) (now (values .entry))) in
-        ⌜ Fitted facts actions preferences rows (now (out .entry)) r (now (out .exit)) ⌝ }
+        ⌜ Fitted (fileOfRows facts actions preferences rows) (now (out .entry)) r (now (out .exit)) ⌝ }
 {
     let room = marks.len();
     let c = Cursor {
@@ -84,7 +84,7 @@ fn put_small(
     requires { ⌜ Shorter (now marks) (now values) × (length (now marks) ≤ 64) ⌝ }
     ensures { λ r.
         let rows = spelledRows (paired (now (marks .entry)) (now (values .entry))) in
-        ⌜ Fitted facts actions preferences rows (now (out .entry)) r (now (out .exit)) ⌝ }
+        ⌜ Fitted (fileOfRows facts actions preferences rows) (now (out .entry)) r (now (out .exit)) ⌝ }
 {
     let mut own: [u8; 328] = [0; 328];
     put_through(
@@ -110,7 +110,7 @@ fn put_medium(
     requires { ⌜ Shorter (now marks) (now values) × (length (now marks) ≤ 1024) ⌝ }
     ensures { λ r.
         let rows = spelledRows (paired (now (marks .entry)) (now (values .entry))) in
-        ⌜ Fitted facts actions preferences rows (now (out .entry)) r (now (out .exit)) ⌝ }
+        ⌜ Fitted (fileOfRows facts actions preferences rows) (now (out .entry)) r (now (out .exit)) ⌝ }
 {
     let mut own: [u8; 5128] = [0; 5128];
     put_through(
@@ -136,7 +136,7 @@ fn put_large(
     requires { ⌜ Shorter (now marks) (now values) ⌝ }
     ensures { λ r.
         let rows = spelledRows (paired (now (marks .entry)) (now (values .entry))) in
-        ⌜ Fitted facts actions preferences rows (now (out .entry)) r (now (out .exit)) ⌝ }
+        ⌜ Fitted (fileOfRows facts actions preferences rows) (now (out .entry)) r (now (out .exit)) ⌝ }
 {
     let mut own: [u8; 60008] = [0; 60008];
     put_through(
@@ -162,7 +162,7 @@ pub fn put_file(
     requires { ⌜ Shorter (now marks) (now values) ⌝ }
     ensures { λ r.
         let rows = spelledRows (paired (now (marks .entry)) (now (values .entry))) in
-        ⌜ Fitted facts actions preferences rows (now (out .entry)) r (now (out .exit)) ⌝ }
+        ⌜ Fitted (fileOfRows facts actions preferences rows) (now (out .entry)) r (now (out .exit)) ⌝ }
 {
     if marks.len() <= 64 {
         return put_small(&mut *out, marks, values, facts, actions, preferences);
