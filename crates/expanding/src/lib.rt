@@ -2,8 +2,12 @@
 ghost use mathlib.Core.Path.{_≡_};
 ghost use mathlib.Core.Bool.{Bool};
 ghost use Prim.Native.Nat.{ℕ, _+_, _*_, _<_};
+ghost use lib.ListN.{length};
 ghost use Rattle.meaning.specs.Task.{Task};
-ghost use Rattle.expanding.specs.Expanding.{Trying, Tried, Expanding, Expanded};
+ghost use Rattle.task.specs.Rows.{Rows};
+ghost use Rattle.plan.specs.Steps.{ActionAt, SomeAction};
+ghost use Rattle.meeting.specs.Meeting.{nodesIn};
+ghost use Rattle.expanding.specs.Expanding.{Listed, Trying, Tried, Expanding, Expanded};
 use leading;
 use leading::Led;
 use meeting;
@@ -43,10 +47,13 @@ fn try_action(
     table: &mut [u16],
     tree: &mut [u16],
 ) -> usize
-    requires { ⌜ ((t : Task) × (k : ℕ) × (taken : ℕ → Bool) × Trying (now marks) (now values) trial x (now words) (now table) (now tree) t k taken) ⌝ }
-    ensures { λ r. ⌜ ((t : Task) (k : ℕ) (taken : ℕ → Bool)
-        → Trying (now (marks .entry)) (now (values .entry)) trial x (now (words .entry)) (now (table .entry)) (now (tree .entry)) t k taken
-        → Tried trial x (now (words .entry)) (now (table .entry)) (now (tree .entry)) (now (words .exit)) (now (table .exit)) (now (tree .exit)) t k taken r) ⌝ }
+    requires { ⌜ Rows (now marks) (now values) × (trial .from < length (now marks)) × SomeAction (now marks) (now values) (trial .from) ⌝ }
+    requires { ⌜ ((taken : ℕ → Bool) × Trying (trial .limit) x (nodesIn (now words) (now table) (now tree) (trial .nodes) taken)) ⌝ }
+    ensures { λ r.
+        let before = nodesIn (now (words .entry)) (now (table .entry)) (now (tree .entry)) (trial .nodes) in
+        let after = nodesIn (now (words .exit)) (now (table .exit)) (now (tree .exit)) r in
+        ⌜ ((t : Task) (k : ℕ) (taken : ℕ → Bool) → ActionAt (now (marks .entry)) (now (values .entry)) (trial .from) t k
+        → Trying (trial .limit) x (before taken) → Tried trial x (before taken) (after taken) t k) ⌝ }
 {
     let led = leading::lead(marks, values, trial.from, x, trial.link);
     let Led::To(y) = led else {
@@ -73,10 +80,13 @@ pub fn expand(
     table: &mut [u16],
     tree: &mut [u16],
 ) -> usize
-    requires { ⌜ ((t : Task) × (taken : ℕ → Bool) × Expanding (now marks) (now values) (now starts) turn (now words) (now table) (now tree) t taken) ⌝ }
-    ensures { λ r. ⌜ ((t : Task) (taken : ℕ → Bool)
-        → Expanding (now (marks .entry)) (now (values .entry)) (now (starts .entry)) turn (now (words .entry)) (now (table .entry)) (now (tree .entry)) t taken
-        → Expanded (now (words .entry)) turn (now (words .exit)) (now (table .exit)) (now (tree .exit)) t taken r) ⌝ }
+    requires { ⌜ ((t : Task) × (taken : ℕ → Bool) × Listed (now marks) (now values) (now starts) t
+        × Expanding turn (nodesIn (now words) (now table) (now tree) (turn .nodes) taken) t) ⌝ }
+    ensures { λ r.
+        let before = nodesIn (now (words .entry)) (now (table .entry)) (now (tree .entry)) (turn .nodes) in
+        let after = nodesIn (now (words .exit)) (now (table .exit)) (now (tree .exit)) r in
+        ⌜ ((t : Task) (taken : ℕ → Bool) → Listed (now (marks .entry)) (now (values .entry)) (now (starts .entry)) t
+        → Expanding turn (before taken) t → Expanded turn (before taken) (after taken) t) ⌝ }
 {
     let place = turn.place;
     let limit = turn.limit;

@@ -8,6 +8,7 @@ ghost use Rattle.state.specs.Member.{member};
 ghost use Rattle.reading.specs.Conditions.{begin, evaluateAt};
 ghost use Rattle.searching.specs.Search;
 ghost use Rattle.node_words.specs.Words.{packedAt, stateOf};
+ghost use Rattle.expanding.specs.Expanding.{Listed};
 ghost use Rattle.exploring.specs.Exploring.{Opened, asAnswer};
 use expanding;
 use expanding::Turn;
@@ -48,9 +49,10 @@ pub fn explore(
     table: &mut [u16],
     tree: &mut [u16],
 ) -> Ended
-    requires { ⌜ ((t : Task) × Opened (now marks) (now values) (now starts) goal limit (now words) (now table) (now tree) t) ⌝ }
-    ensures { λ r. ⌜ ((t : Task) → Opened (now (marks .entry)) (now (values .entry)) (now (starts .entry)) goal limit
-        (now (words .entry)) (now (table .entry)) (now (tree .entry)) t → asAnswer (now (words .exit)) r ≡ Search.explore t limit) ⌝ }
+    requires { ⌜ (1 ≤ limit) × (limit ≤ 1024) ⌝ }
+    requires { ⌜ ((t : Task) × Listed (now marks) (now values) (now starts) t × Opened goal (now words) (now table) (now tree) t) ⌝ }
+    ensures { λ r. ⌜ ((t : Task) → Listed (now (marks .entry)) (now (values .entry)) (now (starts .entry)) t
+        → Opened goal (now (words .entry)) (now (table .entry)) (now (tree .entry)) t → asAnswer (now (words .exit)) r ≡ Search.explore t limit) ⌝ }
 {
     let mut n = 1;
     let mut m = 0;

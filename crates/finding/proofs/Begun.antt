@@ -6,10 +6,11 @@ use mathlib.Core.List.{List, []}
 use Prim.Native.Nat.{ℕ, zero, suc, _+_, _*_, _≤_}
 use native.Mathlib.Nat.{not-suc-le-zero}
 use native.Mathlib.Omega.{arith}
+use lib.Dec.{T}
 use lib.ListN.{length, getD, replicate, length-replicate}
 use borrow.Author.Tests.{le-leb, le-ltb}
 use Rattle.lists.specs.Lists.{singleton}
-use Rattle.meaning.specs.Task.{Task}
+use Rattle.meaning.specs.Task.{Task, wellFormed}
 use Rattle.meaning.specs.Meaning.{opening}
 use Rattle.state.specs.Member.{member}
 use Rattle.state.specs.declared.State.{State}
@@ -21,8 +22,7 @@ use Rattle.node_words.specs.declared.Packed.{Packed}
 use Rattle.node_words.proofs.Lists.{nodes-length}
 use Rattle.state_table.specs.Table.{taken}
 use Rattle.tournament.specs.Tournament.{cheaper}
-use Rattle.meeting.specs.Meeting.{Held, roomed, keptAs, MetAs}
-use Rattle.expanding.specs.Expanding.{Listed}
+use Rattle.meeting.specs.Meeting.{Nodes, nodesIn, listOf, Held, roomed, keptAs, MetAs}
 use Rattle.exploring.specs.Exploring.{Opened}
 
 -- Nothing is held
@@ -39,7 +39,8 @@ none-taken : (n : ℕ) → taken (zeros n) ≡ 0
 none-taken zero = refl
 none-taken (suc n) = none-taken n
 
-pub held-none : (words table tree : List ℕ) (f : ℕ → Bool) → length words ≡ 4096 → table ≡ zeros 2048 → tree ≡ zeros 2048 → Held words table tree 0 f
+pub held-none : (words table tree : List ℕ) (f : ℕ → Bool) → length words ≡ 4096 → table ≡ zeros 2048 → tree ≡ zeros 2048
+    → Held (nodesIn words table tree 0 f)
 held-none words table tree f long t0 r0 =
     record {
       long = long;
@@ -68,36 +69,37 @@ held-none words table tree f long t0 r0 =
 
 -- The opening node is met
 
-module _ (ms vs starts : List ℕ) (goal limit : ℕ) (words later table tree : List ℕ) (t : Task) (s : State) (r : ℕ) (L : Listed ms vs starts t)
-    (some : 1 ≤ limit) (few : limit ≤ 1024) (at : goal ≡ length (t .start) + 1) (opens : member s ≡ opening t)
-    (M : MetAs words later table tree 0 limit (record { low = s .low; high = s .high; cost = 0; link = 0 }) (λ i. false) r) where
-  abbrev x : Packed
-  x = record { low = s .low; high = s .high; cost = 0; link = 0 }
+-- the words of the node, by its state
+abbrev firstOf : State → Packed
+firstOf s = record { low = s .low; high = s .high; cost = 0; link = 0 }
 
-  first-node : asNode x ≡ openingNode t
+module _ (t : Task) (formed : T (wellFormed t)) {goal : ℕ} (at : goal ≡ length (t .start) + 1) (s : State) (opens : member s ≡ opening t)
+    {words table0 tree0 later table tree : List ℕ} {r limit : ℕ} (some : 1 ≤ limit)
+    (M : MetAs (nodesIn words table0 tree0 0 (λ i. false)) (nodesIn later table tree r (λ i. false)) limit (firstOf s)) where
+  abbrev new : Nodes
+  new = nodesIn later table tree r (λ i. false)
+
+  first-node : asNode (firstOf s) ≡ openingNode t
   first-node i = record { state = opens i; cost = 0; origin = 0; action = 0 }
 
   below : Below (t .facts) (member s)
-  below = subst (Below (t .facts)) (sym opens) (opening-below t (L .spells .formed))
+  below = subst (Below (t .facts)) (sym opens) (opening-below t formed)
 
-  kept : _≡_ {A = Kept} (keptAs later limit r) (record { nodes = singleton (asNode x); full = false })
+  kept : _≡_ {A = Kept} (keptAs limit new) (record { nodes = singleton (asNode (firstOf s)); full = false })
   kept =
       M .keeps (t .facts) (λ p h. absurd (not-suc-le-zero h)) below
-      ∙ ap (λ (b : Bool). cond b (record { nodes = singleton (asNode x); full = false }) (record { nodes = []; full = true })) (le-leb 1 limit some)
+      ∙ ap (λ (b : Bool). cond b (record { nodes = singleton (asNode (firstOf s)); full = false }) (record { nodes = []; full = true })) (le-leb 1 limit some)
 
-  nodes : nodesOf later (roomed limit r) ≡ singleton (asNode x)
+  nodes : listOf (roomed limit new) ≡ singleton (asNode (firstOf s))
   nodes = ap (λ (K : Kept). K .nodes) kept
 
-  one : roomed limit r ≡ 1
-  one = sym (nodes-length later (roomed limit r)) ∙ ap length nodes
+  one : roomed limit new .count ≡ 1
+  one = sym (nodes-length later (roomed limit new .count)) ∙ ap length nodes
 
-  pub opened : Opened ms vs starts goal limit later table tree t
+  pub opened : Opened goal later table tree t
   opened =
       record {
-        listed = L;
-        some = some;
-        limited = few;
         goal-at = at;
-        held = subst (λ (n : ℕ). Held later table tree n (λ i. false)) one (M .holds);
+        held = subst (λ (n : ℕ). Held (nodesIn later table tree n (λ i. false))) one (M .holds);
         first = ap (nodesOf later) (sym one) ∙ nodes ∙ ap singleton first-node;
       }

@@ -7,12 +7,27 @@ use Prim.Native.Nat.{ℕ, _^_, _≤_, _<_}
 use lib.Dec.{leb, ltb}
 use lib.ListN.{length}
 use Rattle.state.specs.Member.{member}
-use Rattle.searching.specs.Search.{Kept, meet, fit}
+use Rattle.searching.specs.Search.{Node, Kept, meet, fit}
 use Rattle.searching.specs.Places.{Below}
 use Rattle.node_words.specs.Words.{packedAt, stateOf, asNode, nodesOf, Written}
 use Rattle.node_words.specs.declared.Packed.{Packed}
 use Rattle.state_table.specs.Table.{Tabled}
 use Rattle.tournament.specs.Tournament.{costAt, Nowhere, Played}
+
+-- the nodes of a search: words, table and tree as its code holds them, how many there are, and which places have been taken
+pub record Nodes : Type 0 where
+  pub words : List ℕ
+  pub table : List ℕ
+  pub tree : List ℕ
+  pub count : ℕ
+  pub taken : ℕ → Bool
+
+abbrev pub nodesIn : List ℕ → List ℕ → List ℕ → ℕ → (ℕ → Bool) → Nodes
+nodesIn words table tree n taken = record { words = words; table = table; tree = tree; count = n; taken = taken }
+
+-- what they stand for
+abbrev pub listOf : Nodes → List Node
+listOf s = nodesOf (s .words) (s .count)
 
 -- a strictly cheaper way x was put in at place p; a way that is not changes nothing
 abbrev pub Lowered : List ℕ → List ℕ → ℕ → Packed → Type 0
@@ -26,28 +41,29 @@ openBelow n taken q = ltb q n && not (taken q)
 abbrev pub Narrow : Packed → Type 0
 Narrow x = (x .low < 2 ^ 64) × (x .high < 2 ^ 64)
 
--- words, table and tree have the first n nodes
-pub record Held (words table tree : List ℕ) (n : ℕ) (taken : ℕ → Bool) : Type 0 where
-  pub long : length words ≡ 4096
-  pub tabled : Tabled table words n
-  pub played : Played tree words (openBelow n taken) Nowhere
-  pub narrow : (p : ℕ) → p < n → Narrow (packedAt words p)
+-- words, table and tree have the nodes
+pub record Held (s : Nodes) : Type 0 where
+  pub long : length (s .words) ≡ 4096
+  pub tabled : Tabled (s .table) (s .words) (s .count)
+  pub played : Played (s .tree) (s .words) (openBelow (s .count) (s .taken)) Nowhere
+  pub narrow : (p : ℕ) → p < s .count → Narrow (packedAt (s .words) p)
 
--- of so many nodes, those that have room
-abbrev pub roomed : ℕ → ℕ → ℕ
-roomed limit r = cond (leb r limit) r limit
+-- of the nodes that were wanted, those that have room
+abbrev pub roomed : ℕ → Nodes → Nodes
+roomed limit s = nodesIn (s .words) (s .table) (s .tree) (cond (leb (s .count) limit) (s .count) limit) (s .taken)
 
--- what is kept, where r nodes were wanted
-abbrev pub keptAs : List ℕ → ℕ → ℕ → Kept
-keptAs words limit r = record { nodes = nodesOf words (roomed limit r); full = not (leb r limit) }
+-- what is kept of them
+abbrev pub keptAs : ℕ → Nodes → Kept
+keptAs limit s = record { nodes = listOf (roomed limit s); full = not (leb (s .count) limit) }
 
 -- the nodes name facts below F only
-abbrev pub AllBelow : ℕ → List ℕ → ℕ → Type 0
-AllBelow F words n = (p : ℕ) → p < n → Below F (member (stateOf (packedAt words p)))
+abbrev pub AllBelow : ℕ → Nodes → Type 0
+AllBelow F s = (p : ℕ) → p < s .count → Below F (member (stateOf (packedAt (s .words) p)))
 
--- x is met
-pub record MetAs (words later table tree : List ℕ) (n limit : ℕ) (x : Packed) (taken : ℕ → Bool) (r : ℕ) : Type 0 where
-  pub holds : Held later table tree (roomed limit r) taken
-  pub more : n ≤ roomed limit r
-  pub below : (F : ℕ) → AllBelow F words n → Below F (member (stateOf x)) → AllBelow F later (roomed limit r)
-  pub keeps : (F : ℕ) → AllBelow F words n → Below F (member (stateOf x)) → keptAs later limit r ≡ fit limit (nodesOf words n) (meet F (nodesOf words n) (asNode x))
+-- x is met; where it is new and has no room, `after` counts it all the same
+pub record MetAs (before after : Nodes) (limit : ℕ) (x : Packed) : Type 0 where
+  pub holds : Held (roomed limit after)
+  pub same-taken : after .taken ≡ before .taken
+  pub more : before .count ≤ roomed limit after .count
+  pub below : (F : ℕ) → AllBelow F before → Below F (member (stateOf x)) → AllBelow F (roomed limit after)
+  pub keeps : (F : ℕ) → AllBelow F before → Below F (member (stateOf x)) → keptAs limit after ≡ fit limit (listOf before) (meet F (listOf before) (asNode x))

@@ -5,7 +5,7 @@ ghost use Prim.Native.Nat.{ℕ, suc, _≤_, _<_};
 ghost use lib.ListN.{length, set};
 ghost use Rattle.node_words.specs.Words.{Written};
 ghost use Rattle.tournament.specs.Tournament.{Nowhere, Played, withLeaf};
-ghost use Rattle.meeting.specs.Meeting.{Lowered, Held, MetAs};
+ghost use Rattle.meeting.specs.Meeting.{nodesIn, Lowered, Held, MetAs};
 use node_words;
 use node_words::Packed;
 use state_table;
@@ -45,9 +45,11 @@ pub fn meet(
     limit: usize,
     x: Packed,
 ) -> usize
-    requires { ⌜ (n ≤ limit) × (limit ≤ 1024) × ((taken : ℕ → Bool) × Held (now words) (now table) (now tree) n taken) ⌝ }
-    ensures { λ r. ⌜ ((taken : ℕ → Bool) → Held (now (words .entry)) (now (table .entry)) (now (tree .entry)) n taken → taken n ≡ false
-        → MetAs (now (words .entry)) (now (words .exit)) (now (table .exit)) (now (tree .exit)) n limit x taken r) ⌝ }
+    requires { ⌜ (n ≤ limit) × (limit ≤ 1024) × ((taken : ℕ → Bool) × Held (nodesIn (now words) (now table) (now tree) n taken)) ⌝ }
+    ensures { λ r.
+        let before = nodesIn (now (words .entry)) (now (table .entry)) (now (tree .entry)) n in
+        let after = nodesIn (now (words .exit)) (now (table .exit)) (now (tree .exit)) r in
+        ⌜ ((taken : ℕ → Bool) → Held (before taken) → taken n ≡ false → MetAs (before taken) (after taken) limit x) ⌝ }
 {
     let slot = state_table::probe(&*table, &*words, x.low, x.high);
     let entry = table[slot] as usize;

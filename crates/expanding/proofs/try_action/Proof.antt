@@ -7,41 +7,34 @@ use Rattle.expanding.proofs.try_action.Statement.{statement}
 use Rattle.expanding.proofs.try_action.Tie as tie
 
 returns : tie.Need-returns
-returns c = λ t k taken T.
+returns c = λ t k taken A T.
     let d = c .before .before in
     let a = d .before .before .before .before .before .before .args in
-    inl (record {
-      not-applying = subst (LedAs t k (a .x) (a .trial .link)) (c .enum-told .given .1) (d .lead .ensures t k (T .opens));
-      count = refl;
-      same-words = refl;
-      same-table = refl;
-      same-tree = refl;
-    })
+    inl (subst (LedAs t k (a .x) (a .trial .link)) (c .enum-told .given .1) (d .lead .ensures t k A), refl)
 
 returns-2 : tie.Need-returns-2
-returns-2 c = λ t k taken T.
+returns-2 c = λ t k taken A T.
     let m = c .before .before .before .before .before .before in
     let e = m .before .before .before .before .before in
     let d = e .before .before in
     let a = d .before .before .before .before .before .before .args in
     inr (
       e .led .given .0 .0,
-      subst (LedAs t k (a .x) (a .trial .link)) (e .led .given .1) (d .lead .ensures t k (T .opens)),
+      subst (LedAs t k (a .x) (a .trial .link)) (e .led .given .1) (d .lead .ensures t k A),
       m .meet .ensures taken (T .held) (T .fresh),
     )
 
 lead-requires : tie.Need-lead-requires
 lead-requires c κs =
     let b = c .before .before .before .before .before in
-    let T = b .pre .3 in
-    ((T .rows, T .inside, T .ample), (b .pre .0, b .pre .1, T .opens))
+    ((b .pre .0 .0, b .pre .0 .1, b .pre .1 .1 .ample), b .pre .0 .2)
 
 meet-requires : tie.Need-meet-requires
 meet-requires c κs =
     let e = c .before .before .before .before in
     let b = e .before .before .before .before .before .before .before .before in
-    let T = b .pre .3 in
-    (T .room, T .limited, (b .pre .2, T .held))
+    let T = b .pre .1 .1 in
+    (T .room, T .limited, (b .pre .1 .0, T .held))
 
 pub try-action-spec : {M : Type 1} → statement M
 try-action-spec =

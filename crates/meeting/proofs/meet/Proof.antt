@@ -1,13 +1,12 @@
 -- By the entry of the state's slot: `met-known`, `met-full` and `met-new`.
 use borrow.Author.Needs.{needs}
-use mathlib.Core.Path.{_≡_, sym, subst}
-use mathlib.Core.List.{List}
-use Prim.Native.Nat.{ℕ, _+_, _-_}
+use mathlib.Core.Path.{_≡_}
+use Prim.Native.Nat.{_+_, _-_}
 use native.Mathlib.Omega.{arith}
 use denote.Ref.{now}
 use Rattle.node_words.specs.Words.{stateOf}
 use Rattle.state_table.specs.Table.{entryAt, Probed}
-use Rattle.meeting.specs.Meeting.{openBelow, Narrow, MetAs}
+use Rattle.meeting.specs.Meeting.{openBelow, Narrow}
 use Rattle.meeting.proofs.Meeting.{met-known, met-full, met-new, found-at, found-none}
 use Rattle.meeting.proofs.meet.Statement.{statement}
 use Rattle.meeting.proofs.meet.Tie as tie
@@ -61,7 +60,7 @@ returns c = λ taken H fresh.
     let a = b .args in
     let e = entryAt (now (a .table)) (p .probe .result) in
     let f = found-at (now (a .words)) (a .n) (stateOf (a .x)) e (t .if1 .taken) (probed p .finds) in
-    met-known (now (a .words)) (now (a .table)) (now (a .tree)) (a .n) (a .limit) taken H (search needs) (a .x) (narrow b)
+    met-known (a .limit) H (search needs) (a .x) (narrow b)
     (l .lower .last .0) (l .lower .last .1 .0) (e - 1) (f .0) (f .1) (l .lower .ensures .0) (l .lower .ensures .1 (openBelow (a .n) taken) (H .played))
 
 returns-2 : tie.Need-returns-2
@@ -70,7 +69,7 @@ returns-2 c = λ taken H fresh.
     let p = e .before .before in
     let b = p .before .before .before .before .before .before in
     let a = b .args in
-    met-full (now (a .words)) (now (a .table)) (now (a .tree)) (a .n) (a .limit) taken H (search needs) (a .x) (narrow b)
+    met-full (a .limit) H (search needs) (a .x) (narrow b)
     (found-none (now (a .words)) (a .n) (stateOf (a .x)) (entryAt (now (a .table)) (p .probe .result)) (search needs) (probed p .finds))
     (a .n + 1) (search needs) (omega arith)
 
@@ -89,12 +88,10 @@ returns-3 c = λ taken H fresh.
     let b = p .before .before .before .before .before .before in
     let a = b .args in
     let empty : entryAt (now (a .table)) (p .probe .result) ≡ 0 = search needs in
-    subst (λ (t : List ℕ). MetAs (now (a .words)) (l .add .last .0) t (l .add .last .1 .1 .0) (a .n) (a .limit) (a .x) taken (a .n + 1))
-    (sym (l .add .ensures .0 .1))
-    (met-new (now (a .words)) (now (a .table)) (now (a .tree)) (a .n) (a .limit) taken H (search needs) (a .x) (narrow b)
+    met-new (a .limit) H (search needs) (a .x) (narrow b)
     (found-none (now (a .words)) (a .n) (stateOf (a .x)) (entryAt (now (a .table)) (p .probe .result)) empty (probed p .finds))
-    (a .n + 1) (p .probe .result) (l .add .last .0) (l .add .last .1 .1 .0) (omega arith) (search needs) (search needs) (probed p .within) empty (probed p .way)
-    (l .add .ensures .0 .0) (l .add .ensures .1 (openBelow (a .n) taken) (H .played)) fresh)
+    (a .n + 1) (p .probe .result) (l .add .last .0) (l .add .last .1 .0) (l .add .last .1 .1 .0) (omega arith) (search needs) (search needs) (probed p .within) empty
+    (probed p .way) (l .add .ensures .0 .0) (l .add .ensures .0 .1) (l .add .ensures .1 (openBelow (a .n) taken) (H .played)) fresh
 
 pub meet-spec : {M : Type 1} → statement M
 meet-spec =

@@ -60,30 +60,27 @@ meet-requires c κs =
 -- the opening node has been met
 begun : (m : tie.After-meet) → let n = m .before .before .before .before .before in
     let o = n .before .before .before .before in
-    let b = o .before .before .before .before in
-    (t : Task) → Spells (now (b .args .marks)) (now (b .args .values)) t
-    → Opened (now (b .args .marks)) (now (b .args .values)) (starts n) (o .opening .result .next + 1) (b .args .limit)
-    (m .meet .last .0) (m .meet .last .1 .0) (m .meet .last .1 .1 .0) t
+    (t : Task) → Spells (now (b n .args .marks)) (now (b n .args .values)) t
+    → Opened (o .opening .result .next + 1) (m .meet .last .0) (m .meet .last .1 .0) (m .meet .last .1 .1 .0) t
 begun m t R =
     let n = m .before .before .before .before .before in
     let o = n .before .before .before .before in
-    let b = o .before .before .before .before in
-    let read = o .opening .ensures ∙ opening-read t (now (b .args .marks)) (now (b .args .values)) R in
-    opened (now (b .args .marks)) (now (b .args .values)) (starts n) (o .opening .result .next + 1) (b .args .limit)
-    (now (b .args .words)) (m .meet .last .0) (m .meet .last .1 .0) (m .meet .last .1 .1 .0) t (o .opening .result .state) (m .meet .result)
-    (listed n t R) (b .pre .1 .0) (b .pre .1 .1) (ap (λ (r : Result). r .next + 1) read) (ap (λ (r : Result). r .state) read)
-    (m .meet .ensures (λ i. false) (held-none (now (b .args .words)) _ _ (λ i. false) (b .pre .1 .2) refl refl) refl)
+    let read = o .opening .ensures ∙ opening-read t (now (b n .args .marks)) (now (b n .args .values)) R in
+    opened t (R .formed) (ap (λ (r : Result). r .next + 1) read) (o .opening .result .state) (ap (λ (r : Result). r .state) read) (b n .pre .1 .0)
+    (m .meet .ensures (λ i. false) (held-none (now (b n .args .words)) _ _ (λ i. false) (b n .pre .1 .2) refl refl) refl)
 
 explore-requires : tie.Need-explore-requires
 explore-requires c κs =
     let m = c .before .before .before .before .before .before .before .before .before in
-    let b = b (m .before .before .before .before .before) in
-    (b .pre .0 .1 .0, begun m (b .pre .0 .1 .0) (b .pre .0 .1 .1))
+    let n = m .before .before .before .before .before in
+    let p = b n .pre in
+    ((p .1 .0, p .1 .1), (p .0 .1 .0, listed n (p .0 .1 .0) (p .0 .1 .1), begun m (p .0 .1 .0) (p .0 .1 .1)))
 
 returns : tie.Need-returns
 returns c = λ t R.
     let x = c .before .before .before .before in
-    x .explore .ensures t (begun (x .before .before .before .before .before .before .before .before .before .before) t R)
+    let m = x .before .before .before .before .before .before .before .before .before .before in
+    x .explore .ensures t (listed (m .before .before .before .before .before) t R) (begun m t R)
 
 pub on-rows-spec : {M : Type 1} → statement M
 on-rows-spec =
