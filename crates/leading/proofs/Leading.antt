@@ -41,7 +41,7 @@ module _ (ms vs : List ℕ) (i : ℕ) (t : Task) (k : ℕ) (A : ActionAt ms vs i
   its-effects = subst (λ (x : Evaluated). EffectsAt ms vs (x .next) (actionAt t k)) (sym whole) (effects-there t ms vs (A .spells) k (A .known))
 
   pub led-to : e .holds ≡ true → (a : Changed) → Changes σ ms vs (e .next) a → (c link : ℕ) → i < length ms → c ≡ x .cost + valueAt vs i
-      → LedTo t k x link (record { low = a .state .low; high = a .state .high; cost = c; link = link })
+      → LedTo t k x link (record { low = a .low; high = a .high; cost = c; link = link })
   led-to h a moved c link within cost =
       record {
         applying = sym applying ∙ h;

@@ -34,10 +34,9 @@ pub fn lead(marks: &[u8], values: &[u8], from: usize, x: Packed, link: u64) -> L
         return Led::None;
     }
     let next = effects::after(marks, values, pre.next, s);
-    let state = next.state;
     Led::To(Packed {
-        low: state.low,
-        high: state.high,
+        low: next.low,
+        high: next.high,
         cost: x.cost + (rows::value_at(values, from) as u64),
         link,
     })

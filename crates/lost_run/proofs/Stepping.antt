@@ -6,7 +6,7 @@ use Rattle.meaning.specs.Task.{Task}
 use Rattle.meaning.specs.Meaning.{applies}
 use Rattle.state.specs.Member.{member}
 use Rattle.plan.specs.Steps
-use Rattle.plan.specs.Steps.{StepTaken, StepAnswer}
+use Rattle.plan.specs.Steps.{stateOf, StepTaken, StepAnswer}
 use Rattle.plan.specs.declared.steps.Position.{Position}
 use Rattle.plan.specs.declared.steps.Moved.{Moved}
 use Rattle.plan.specs.declared.steps.Moved.the-variants.{To, Stopped}
@@ -15,11 +15,11 @@ use Rattle.lost_run.specs.declared.taking.Place.{Place}
 
 -- the position of a plan at p; literals are not counted
 abbrev pub positionOf : Place → Position
-positionOf p = record { state = p .state; cost = p .cost; looked = 0 }
+positionOf p = record { low = p .state .low; high = p .state .high; cost = p .cost; looked = 0 }
 
 module _ (p : Place) (x : Moved) where
   abbrev pub to : Position → Place
-  to y = record { state = y .state; cost = y .cost; running = p .running; closed = p .closed }
+  to y = record { state = stateOf y; cost = y .cost; running = p .running; closed = p .closed }
 
   pub little : (y : Position) → x ≡ To y → Steps.Little (positionOf p) x → y .cost < p .cost + 4294967296
   little y e h = subst (Steps.Little (positionOf p)) e h .0

@@ -41,14 +41,18 @@ fn step(marks: &[u8], values: &[u8], from: usize, p: Place) -> Taken
         values,
         from,
         steps::Position {
-            state,
+            low: state.low,
+            high: state.high,
             cost: p.cost,
             looked: 0,
         },
     );
     match moved {
         steps::Moved::To(q) => {
-            let next = q.state;
+            let next = State {
+                low: q.low,
+                high: q.high,
+            };
             Taken::To(Place {
                 state: next,
                 cost: q.cost,

@@ -25,7 +25,7 @@ use Rattle.monitors.specs.Monitors.{ForPreferences, Watched}
 use Rattle.plan.specs.Walked.{Walk, solved, goal-missed, rule-missed, given}
 use Rattle.layout.specs.Counting.{countAt}
 use Rattle.monitors.specs.Met.{Met, noneMet, found, asFound}
-use Rattle.plan.specs.Steps.{isAccepting, isSafe, solvedBy, lastVerdict, End}
+use Rattle.plan.specs.Steps.{stateOf, isAccepting, isSafe, solvedBy, lastVerdict, End}
 use Rattle.monitors.specs.declared.met.Found.{Found}
 use Rattle.plan.specs.declared.steps.Places.{Places}
 use Rattle.plan.specs.declared.steps.Position.{Position}
@@ -33,10 +33,10 @@ use Rattle.plan.proofs.TaskRead.{preferences-there, goal-read}
 use Rattle.monitors.proofs.Meeting.{met-is, kept-is, number-is}
 
 module _ (ms vs : List ℕ) (x : Places) (l : List ℕ) (t : Task) (μ : Preference → Monitor) (E : End ms vs x l t μ) (p : Position)
-    (e : Evaluated) (read : e ≡ evaluateAt (member (p .state)) begin ms vs (x .goal))
-    (l′ : List ℕ) (n : ℕ) (watched : ForPreferences ms vs (x .preferences) (Watched true (member (p .state)) l l′ n)) where
+    (e : Evaluated) (read : e ≡ evaluateAt (member (stateOf p)) begin ms vs (x .goal))
+    (l′ : List ℕ) (n : ℕ) (watched : ForPreferences ms vs (x .preferences) (Watched true (member (stateOf p)) l l′ n)) where
   abbrev σ : Facts
-  σ = member (p .state)
+  σ = member (stateOf p)
 
   whole : e ≡ readAs σ (t .goal) (length (t .start) + 1 + length (conditionRows (t .goal)))
   whole = read ∙ ap (evaluateAt σ begin ms vs) (E .placed .goal) ∙ goal-read t ms vs (E .placed .spells) σ

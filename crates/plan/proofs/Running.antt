@@ -23,7 +23,7 @@ use Rattle.monitor.specs.Packed.{monitorAt}
 use Rattle.monitors.specs.Monitors.{MOST-LOOKED, PreferencesFrom, Watched}
 use Rattle.plan.specs.Walked.{Walk, solved, stopped, goal-missed, rule-missed, given, withoutAmounts}
 use Rattle.layout.specs.Actions.{AllBelow}
-use Rattle.plan.specs.Steps.{StepTaken, StepAnswer, solvedBy, lastVerdict, MonitorsAre, walkedOn, Start}
+use Rattle.plan.specs.Steps.{stateOf, StepTaken, StepAnswer, solvedBy, lastVerdict, MonitorsAre, walkedOn, Start}
 use Rattle.plan.specs.declared.steps.Places.{Places}
 use Rattle.plan.specs.declared.steps.Position.{Position}
 use Rattle.plan.specs.declared.steps.Moved.the-variants.{Stopped}
@@ -85,8 +85,8 @@ from-the-opening t p =
 pub record Stands (t : Task) (plan : List ℕ) (p : Position) (l : List ℕ) (i : ℕ) : Type 0 where
   pub monitors : Preference → Monitor
   pub are : MonitorsAre t l monitors
-  pub same : verdictFrom t (member (p .state)) monitors (p .cost) i (drop i plan) ≡ withoutAmounts (verdict t plan)
-  pub looks : p .looked + lookedFrom t (member (p .state)) (drop i plan) ≡ literals t plan
+  pub same : verdictFrom t (member (stateOf p)) monitors (p .cost) i (drop i plan) ≡ withoutAmounts (verdict t plan)
+  pub looks : p .looked + lookedFrom t (member (stateOf p)) (drop i plan) ≡ literals t plan
 
 -- what holds before step i
 pub record Running (ms vs : List ℕ) (x : Places) (starts : List ℕ) (s : State) (plan : List ℕ) (p : Position) (l : List ℕ) (i : ℕ) : Type 0 where
@@ -107,7 +107,7 @@ known n plan all-known i h k read =
     subst⁻¹ (λ (j : ℕ). j < n) read (ltb→lt (getD plan i 0) n (all-at (λ (j : ℕ). ltb j n) plan i 0 all-known h))
 
 module _ (t : Task) (plan : List ℕ) where
-  pub begins : (p : Position) (l : List ℕ) → member (p .state) ≡ opening t → ((k : ℕ) → monitorAt l k ≡ fresh) → p .cost ≡ 0 → p .looked ≡ 0 → Stands t plan p l 0
+  pub begins : (p : Position) (l : List ℕ) → member (stateOf p) ≡ opening t → ((k : ℕ) → monitorAt l k ≡ fresh) → p .cost ≡ 0 → p .looked ≡ 0 → Stands t plan p l 0
   unfolding literals
   begins p l s m c n = record {
     monitors = λ q. fresh;
@@ -118,7 +118,7 @@ module _ (t : Task) (plan : List ℕ) where
 
   module _ (p : Position) (l : List ℕ) (i : ℕ) (s : Stands t plan p l i) where
     abbrev σ : Facts
-    σ = member (p .state)
+    σ = member (stateOf p)
 
     pub ends : length plan ≤ i → given (lastVerdict t σ (s .monitors) (p .cost)) (p .looked + lookedFrom t σ []) ≡ walkedOn t plan
     ends h =
@@ -144,9 +144,9 @@ module _ (t : Task) (plan : List ℕ) where
       looks-here = ap (λ (ks : List ℕ). p .looked + lookedFrom t σ ks) left ∙ s .looks
 
       -- the state has been seen, with m literals looked at
-      module _ (p′ : Position) (same-state : p′ .state ≡ p .state) (same-cost : p′ .cost ≡ p .cost) (m : ℕ) (more : p′ .looked ≡ p .looked + m)
+      module _ (p′ : Position) (same-state : stateOf p′ ≡ stateOf p) (same-cost : p′ .cost ≡ p .cost) (m : ℕ) (more : p′ .looked ≡ p .looked + m)
           (l′ : List ℕ) (seen-by-all : Watched false σ l l′ m (t .preferences)) where
-        same-facts : member (p′ .state) ≡ σ
+        same-facts : member (stateOf p′) ≡ σ
         same-facts = ap member same-state
 
         pub stops : (n : ℕ) → StepAnswer t k p′ (Stopped n) → given (stopped i) n ≡ walkedOn t plan
@@ -161,11 +161,11 @@ module _ (t : Task) (plan : List ℕ) where
         pub goes-on : (q : Position) → StepTaken t k p′ q → Stands t plan q l′ (i + 1)
         goes-on q leads =
             let e : applies t σ k ≡ true = ap (λ (f : Facts). applies t f k) (sym same-facts) ∙ leads .applying in
-            let state : member (q .state) ≡ after σ a = leads .state ∙ ap (λ (f : Facts). after f a) same-facts in
+            let state : member (stateOf q) ≡ after σ a = leads .state ∙ ap (λ (f : Facts). after f a) same-facts in
             let cost : q .cost ≡ p .cost + a .cost = leads .cost ∙ ap (λ (c : ℕ). c + a .cost) same-cost in
             let looked : q .looked ≡ p′ .looked + lookedAt σ (a .precondition) + lookedEffects σ (a .effects) =
             leads .looked ∙ ap (λ (f : Facts). p′ .looked + lookedAt f (a .precondition) + lookedEffects f (a .effects)) same-facts in
-            let rest : lookedFrom t (member (q .state)) (drop (i + 1) plan) ≡ lookedFrom t (after σ a) (drop (suc i) plan) =
+            let rest : lookedFrom t (member (stateOf q)) (drop (i + 1) plan) ≡ lookedFrom t (after σ a) (drop (suc i) plan) =
             λ z. lookedFrom t (state z) (drop (add-one i z) plan) in
             let all-looks = (rw e at looks-here) in
             record {

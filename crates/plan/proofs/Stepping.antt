@@ -15,15 +15,15 @@ use Rattle.reading.specs.Conditions.{begin, readAs, evaluateAt}
 use Rattle.reading.specs.Effects.{EffectsAt, Changed-by, Changes}
 use Rattle.reading.specs.declared.conditions.Evaluated.{Evaluated}
 use Rattle.reading.specs.declared.effects.Changed.{Changed}
-use Rattle.plan.specs.Steps.{ActionAt, StepTaken, StepAnswer}
+use Rattle.plan.specs.Steps.{stateOf, ActionAt, StepTaken, StepAnswer}
 use Rattle.plan.specs.declared.steps.Position.{Position}
 use Rattle.plan.specs.declared.steps.Moved.the-variants.{Stopped}
 use Rattle.plan.proofs.TaskRead.{at, cost-read, precondition-read, effects-there}
 
 module _ (ms vs : List ℕ) (i : ℕ) (t : Task) (k : ℕ) (A : ActionAt ms vs i t k) (p : Position)
-    (e : Evaluated) (read : e ≡ evaluateAt (member (p .state)) begin ms vs (i + 1)) where
+    (e : Evaluated) (read : e ≡ evaluateAt (member (stateOf p)) begin ms vs (i + 1)) where
   abbrev σ : Facts
-  σ = member (p .state)
+  σ = member (stateOf p)
 
   whole : e ≡ readAs σ (actionAt t k .precondition) (at t ms vs (A .spells) k (A .known) + length (conditionRows (actionAt t k .precondition)))
   whole = read ∙ ap (λ (n : ℕ). evaluateAt σ begin ms vs (n + 1)) (A .begins) ∙ precondition-read t ms vs (A .spells) k (A .known) σ
@@ -48,7 +48,7 @@ module _ (ms vs : List ℕ) (i : ℕ) (t : Task) (k : ℕ) (A : ActionAt ms vs i
     changed = moved (actionAt t k) its-effects
 
     pub led : (c : ℕ) → i < length ms → c ≡ p .cost + valueAt vs i
-        → StepTaken t k p (record { state = a .state; cost = c; looked = p .looked + e .looked + a .looked })
+        → StepTaken t k p (record { low = a .low; high = a .high; cost = c; looked = p .looked + e .looked + a .looked })
     led c within cost = record {
       applying = sym applying ∙ true-one;
       state = changed .state;

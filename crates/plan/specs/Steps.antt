@@ -26,6 +26,9 @@ use Rattle.plan.specs.declared.steps.Position.{Position}
 use Rattle.plan.specs.declared.steps.Moved.{Moved}
 use Rattle.plan.specs.declared.steps.Moved.the-variants.{To, Stopped}
 
+abbrev pub stateOf : Position → State
+stateOf p = record { low = p .low; high = p .high }
+
 -- positions whose amounts leave room for one step more
 pub record Roomy (p : Position) : Type 0 where
   pub cost : p .cost < AMPLE
@@ -44,15 +47,15 @@ SomeAction ms vs i = (t : Task) × (k : ℕ) × ActionAt ms vs i t k
 
 -- by action k of t from p to q
 pub record StepTaken (t : Task) (k : ℕ) (p q : Position) : Type 0 where
-  pub applying : applies t (member (p .state)) k ≡ true
-  pub state : member (q .state) ≡ after (member (p .state)) (actionAt t k)
+  pub applying : applies t (member (stateOf p)) k ≡ true
+  pub state : member (stateOf q) ≡ after (member (stateOf p)) (actionAt t k)
   pub cost : q .cost ≡ p .cost + actionAt t k .cost
-  pub looked : q .looked ≡ p .looked + lookedAt (member (p .state)) (actionAt t k .precondition) + lookedEffects (member (p .state)) (actionAt t k .effects)
+  pub looked : q .looked ≡ p .looked + lookedAt (member (stateOf p)) (actionAt t k .precondition) + lookedEffects (member (stateOf p)) (actionAt t k .effects)
 
 abbrev pub StepAnswer : Task → ℕ → Position → Moved → Type 0
 StepAnswer t k p (To q) = StepTaken t k p q
 StepAnswer t k p (Stopped n) =
-    (applies t (member (p .state)) k ≡ false) × (n ≡ p .looked + lookedAt (member (p .state)) (actionAt t k .precondition))
+    (applies t (member (stateOf p)) k ≡ false) × (n ≡ p .looked + lookedAt (member (stateOf p)) (actionAt t k .precondition))
 
 -- a step costs less than 2 ^ 32, and looks at no more literals than two conditions have
 abbrev pub Little : Position → Moved → Type 0
@@ -101,7 +104,7 @@ pub record End (ms vs : List ℕ) (x : Places) (l : List ℕ) (t : Task) (μ : M
   pub monitors : MonitorsAre t l μ
 
 abbrev pub EndAnswer : Task → Monitors → Position → Walked → Type 0
-EndAnswer t μ p r = walkedAs r ≡ given (lastVerdict t (member (p .state)) μ (p .cost)) (p .looked + lookedFrom t (member (p .state)) [])
+EndAnswer t μ p r = walkedAs r ≡ given (lastVerdict t (member (stateOf p)) μ (p .cost)) (p .looked + lookedFrom t (member (stateOf p)) [])
 
 -- A whole plan
 

@@ -8,7 +8,7 @@ ghost use Rattle.layout.specs.Rows.{Spells, Spelled};
 ghost use Rattle.layout.specs.Actions.{actionsFrom, AllBelow};
 ghost use Rattle.monitors.specs.Monitors.{MOST-LOOKED};
 ghost use Rattle.settling.specs.Amounts.{AMPLE};
-ghost use Rattle.plan.specs.Steps.{Roomy, ActionAt, SomeAction, StepAnswer, Little};
+ghost use Rattle.plan.specs.Steps.{stateOf, Roomy, ActionAt, SomeAction, StepAnswer, Little};
 ghost use Rattle.plan.specs.Steps.{Monitors, End, EndAnswer, AllFresh, Start, PlanAnswer};
 use super::Solution;
 use super::Verdict;
@@ -27,10 +27,12 @@ struct Places {
     pub goal: usize,
 }
 
-// Where a plan has come to: the state, the cost, and how many literals were looked at.
+// Where a plan has come to: the state, in two words, the cost, and how many literals were looked at. The words stand apart as in
+// reading::effects.
 pub struct Position {
-    pub state: State,
+    pub low: u64,
     pub cost: u64,
+    pub high: u64,
     pub looked: u64,
 }
 
@@ -54,16 +56,19 @@ pub fn step(marks: &[u8], values: &[u8], from: usize, p: Position) -> Moved
     ensures { λ r. ⌜ Little p r ⌝ }
     ensures { λ r. ⌜ ((t : Task) (k : ℕ) → ActionAt (now (marks .entry)) (now (values .entry)) from t k → StepAnswer t k p r) ⌝ }
 {
-    let s = p.state;
+    let s = State {
+        low: p.low,
+        high: p.high,
+    };
     let pre = conditions::condition(marks, values, from + 1, s);
     let looked = p.looked + (pre.looked as u64);
     if !pre.holds {
         return Moved::Stopped(looked);
     }
     let next = effects::after(marks, values, pre.next, s);
-    let state = next.state;
     Moved::To(Position {
-        state,
+        low: next.low,
+        high: next.high,
         cost: p.cost + (rows::value_at(values, from) as u64),
         looked: looked + (next.looked as u64),
     })
@@ -75,7 +80,10 @@ fn finish(marks: &[u8], values: &[u8], places: Places, p: Position, ms: &mut [u8
     requires { ⌜ ((t : Task) × (μ : Monitors) × End (now marks) (now values) places (now ms) t μ) ⌝ }
     ensures { λ r. ⌜ ((t : Task) (μ : Monitors) → End (now (marks .entry)) (now (values .entry)) places (now (ms .entry)) t μ → EndAnswer t μ p r) ⌝ }
 {
-    let s = p.state;
+    let s = State {
+        low: p.low,
+        high: p.high,
+    };
     let seen = monitors::watch(marks, values, places.preferences, s, true, &mut *ms);
     let g = conditions::condition(marks, values, places.goal, s);
     let looked = p.looked + (seen as u64) + (g.looked as u64);
@@ -97,11 +105,11 @@ fn finish(marks: &[u8], values: &[u8], places: Places, p: Position, ms: &mut [u8
 // The position with so many more literals looked at.
 fn looked_on(p: Position, n: usize) -> Position
     requires { ⌜ (p .looked < AMPLE) × (n ≤ 16 * MOST-LOOKED) ⌝ }
-    ensures { λ r. ⌜ (r .state ≡ p .state) × (r .cost ≡ p .cost) × (r .looked ≡ p .looked + n) ⌝ }
+    ensures { λ r. ⌜ (stateOf r ≡ stateOf p) × (r .cost ≡ p .cost) × (r .looked ≡ p .looked + n) ⌝ }
 {
-    let state = p.state;
     Position {
-        state,
+        low: p.low,
+        high: p.high,
         cost: p.cost,
         looked: p.looked + (n as u64),
     }
@@ -123,13 +131,18 @@ fn follow(
     ensures { λ r. ⌜ ((t : Task) → Start (now (marks .entry)) (now (values .entry)) places (now (starts .entry)) s t → PlanAnswer t (now (plan .entry)) r) ⌝ }
 {
     let mut p = Position {
-        state: s,
+        low: s.low,
+        high: s.high,
         cost: 0,
         looked: 0,
     };
     let mut i = 0;
     while i < plan.len() {
-        let seen = monitors::watch(marks, values, places.preferences, p.state, false, &mut *ms);
+        let here = State {
+            low: p.low,
+            high: p.high,
+        };
+        let seen = monitors::watch(marks, values, places.preferences, here, false, &mut *ms);
         let moved = step(
             marks,
             values,

@@ -23,7 +23,7 @@ use Rattle.task.proofs.Positions.{drop-after}
 use Rattle.task.proofs.Reading.{passes, fold, run-stop, run-through, row-at, row-end, mark-at}
 use Rattle.state.specs.Member.{member, empty, union, difference}
 use Rattle.reading.specs.Conditions.{inCondition, begin, readAs, evaluateAt}
-use Rattle.reading.specs.Effects.{marked, inEffects, Result, resultOf, ending, markRow, markAt, allMarked, Gathered-with, Gathers, Changed-by, Changes, SomeEffect, SomeEffects}
+use Rattle.reading.specs.Effects.{marked, inEffects, Result, resultOf, stateOf, ending, markRow, markAt, allMarked, Gathered-with, Gathers, Changed-by, Changes, SomeEffect, SomeEffects}
 use Rattle.reading.specs.declared.conditions.Evaluated.{Evaluated}
 use Rattle.reading.specs.declared.effects.Applied.{Applied}
 use Rattle.reading.specs.declared.effects.Gathered.{Gathered}
@@ -305,7 +305,7 @@ module _ (s : Facts) (ms vs : List ℕ) (at : ℕ) where
           next-left r h m step es xs stop (q .more) (q .rest) (q .adds) (q .deletes) (q .looked);
     }
 
-    module _ (r : Changed) (state : member (r .state) ≡ union (difference s (member (g .deletes))) (member (g .adds))) (looks : r .looked ≡ g .looked)
+    module _ (r : Changed) (state : member (stateOf r) ≡ union (difference s (member (g .deletes))) (member (g .adds))) (looks : r .looked ≡ g .looked)
         (w : Gathering s ms vs at g i) where
       all-left : (a : Action) (F : ℕ) → F ≤ 128 → T (all (effectBelow F) (a .effects)) → (more : List Effect) → None more
           → allEffects s addsOf (member (g .adds)) more ≡ allEffects s addsOf empty (a .effects)

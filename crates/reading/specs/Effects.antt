@@ -15,6 +15,7 @@ use Rattle.task.specs.File.{paired}
 use Rattle.task.specs.Rows.{between, runAt, Stops}
 use Rattle.meaning.specs.Task.{effectBelow}
 use Rattle.state.specs.Member.{member, single, union}
+use Rattle.state.specs.declared.State.{State}
 use Rattle.reading.specs.declared.effects.Gathered.{Gathered}
 use Rattle.reading.specs.declared.effects.Applied.{Applied}
 use Rattle.reading.specs.declared.effects.Changed.{Changed}
@@ -68,9 +69,12 @@ SomeEffect ms vs i = (e : Effect) × EffectAt ms vs i e
 abbrev pub Gathers : Facts → List ℕ → List ℕ → ℕ → Gathered → Gathered → Type 0
 Gathers s ms vs i g r = (e : Effect) → EffectAt ms vs i e → Gathered-with s i g e r
 
+abbrev pub stateOf : Changed → State
+stateOf r = record { low = r .low; high = r .high }
+
 -- r is what the effects of an action come to
 pub record Changed-by (s : Facts) (a : Action) (r : Changed) : Type 0 where
-  pub state : member (r .state) ≡ after s a
+  pub state : member (stateOf r) ≡ after s a
   pub looked : r .looked ≡ lookedEffects s (a .effects)
 
 -- the effects of a stand from row i on, and name facts that a state may have

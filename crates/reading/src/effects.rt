@@ -4,7 +4,7 @@ ghost use Prim.Native.Nat.{_≤_, _<_};
 ghost use lib.ListN.{length};
 ghost use Rattle.task.specs.Rows.{Rows};
 ghost use Rattle.state.specs.Member.{member, union, difference};
-ghost use Rattle.reading.specs.Effects.{marked, markAt, resultOf, SomeEffect, Gathers, SomeEffects, Changes};
+ghost use Rattle.reading.specs.Effects.{marked, markAt, resultOf, SomeEffect, Gathers, SomeEffects, stateOf, Changes};
 use super::conditions;
 use state::State;
 use task::marks;
@@ -24,10 +24,12 @@ struct Gathered {
     pub next: usize,
 }
 
-// The state after the effects, and how many literals were looked at.
+// The state after the effects, in two words, and how many literals were looked at. The words stand apart, since a copy of both at once
+// would have to wait for two stores.
 pub struct Changed {
-    pub state: State,
+    pub low: u64,
     pub looked: usize,
+    pub high: u64,
 }
 
 // The facts t, and fact n where the effect fires.
@@ -79,13 +81,15 @@ fn one_effect(marks: &[u8], values: &[u8], i: usize, s: State, g: Gathered) -> G
 }
 
 fn finished(g: Gathered, s: State) -> Changed
-    ensures { λ r. ⌜ (member (r .state) ≡ union (difference (member s) (member (g .deletes))) (member (g .adds))) × (r .looked ≡ g .looked) ⌝ }
+    ensures { λ r. ⌜ (member (stateOf r) ≡ union (difference (member s) (member (g .deletes))) (member (g .adds))) × (r .looked ≡ g .looked) ⌝ }
 {
     let adds = g.adds;
     let deletes = g.deletes;
+    let state = state::join(state::minus(s, deletes), adds);
     Changed {
-        state: state::join(state::minus(s, deletes), adds),
+        low: state.low,
         looked: g.looked,
+        high: state.high,
     }
 }
 

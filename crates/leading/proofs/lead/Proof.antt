@@ -27,7 +27,7 @@ after-requires c κs =
 returns-2 : tie.Need-returns-2
 returns-2 c = λ t k A.
     let v = c .before in
-    let m = v .before .before in
+    let m = v .before in
     let e = m .before in
     let n = e .before .before in
     let b = n .before .before .before in

@@ -6,8 +6,8 @@ use Rattle.lost_run.proofs.taking.step.Tie as tie
 
 returns : tie.Need-returns
 returns c =
-    let g = c .before .before .moved .given in
-    let s = c .before .before .before .before in
+    let g = c .before .moved .given in
+    let s = c .before .before .before in
     let a = s .before .before .before .before .args in
     (little (a .p) (s .step .result) (g .0 .0) (g .1) (s .step .ensures .0), λ t k A. stepped (a .p) (s .step .result) t k (g .0 .0) (g .1) (s .step .ensures .1 t k A))
 

@@ -9,7 +9,7 @@ use Rattle.plan.proofs.steps.finish.Tie as tie
 
 watch-requires : tie.Need-watch-requires
 watch-requires c κs =
-    let b = c .before .before .before .before .before in
+    let b = c .before .before .before .before in
     let a = b .args in
     let t = b .pre .1 .0 in
     let E = b .pre .1 .2 in
@@ -24,7 +24,7 @@ returns : tie.Need-returns
 returns c = λ t μ E.
     let g = c .before .before .before in
     let w = g .before .before .before in
-    let a = w .before .before .before .before .before .before .args in
+    let a = w .before .before .before .before .before .args in
     missed (now (a .marks)) (now (a .values)) (a .places) (now (a .ms)) t μ E (a .p) (g .condition .result) (g .condition .ensures .0)
     (w .watch .last .1 .1 .1 .1 .1 .0) (w .watch .result) (w .watch .ensures .1) (not-true _ (c .if1 .taken))
 
@@ -39,7 +39,7 @@ returns-2 c = λ t μ E.
     let e = f .before .before in
     let g = e .before .before .before in
     let w = g .before .before .before in
-    let a = w .before .before .before .before .before .before .args in
+    let a = w .before .before .before .before .before .args in
     rule-is (now (a .marks)) (now (a .values)) (a .places) (now (a .ms)) t μ E (a .p) (g .condition .result) (g .condition .ensures .0)
     (w .watch .last .1 .1 .1 .1 .1 .0) (w .watch .result) (w .watch .ensures .1) (not-false _ (e .if1 .left))
     (f .find .result) (f .find .ensures) (search needs)
@@ -55,7 +55,7 @@ returns-3 c = λ t μ E.
     let e = f .before .before in
     let g = e .before .before .before in
     let w = g .before .before .before in
-    let a = w .before .before .before .before .before .before .args in
+    let a = w .before .before .before .before .before .args in
     solved-is (now (a .marks)) (now (a .values)) (a .places) (now (a .ms)) t μ E (a .p) (g .condition .result) (g .condition .ensures .0)
     (w .watch .last .1 .1 .1 .1 .1 .0) (w .watch .result) (w .watch .ensures .1) (not-false _ (e .if1 .left))
     (f .find .result) (f .find .ensures) (search (needs, c .before .before .struct-known3 .given)) (search needs)

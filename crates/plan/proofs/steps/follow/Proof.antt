@@ -7,7 +7,7 @@ use denote.Ref.{now}
 use lib.ListN.{length, getD}
 use Rattle.meaning.specs.Task.{Task}
 use Rattle.settling.specs.Amounts.{AMPLE}
-use Rattle.plan.specs.Steps.{ActionAt, StepAnswer, Little, Start}
+use Rattle.plan.specs.Steps.{stateOf, ActionAt, StepAnswer, Little, Start}
 use Rattle.plan.specs.declared.steps.Moved.{Moved}
 use Rattle.plan.specs.declared.steps.Moved.the-variants.{To, Stopped}
 use Rattle.plan.proofs.Running.{Running, watched-ones, known, begins, ends, stops, goes-on}
@@ -15,7 +15,7 @@ use Rattle.plan.proofs.steps.follow.Statement.{statement}
 use Rattle.plan.proofs.steps.follow.Tie as tie
 
 abbrev Inv-loop : tie.InvT-loop
-Inv-loop marks values places starts plan ms₀ p₀ i₀ ms p i = Running marks values places starts (p₀ .state) plan p ms i
+Inv-loop marks values places starts plan ms₀ p₀ i₀ ms p i = Running marks values places starts (stateOf p₀) plan p ms i
 
 abbrev μ-loop : tie.MeasureT-loop
 μ-loop marks values places starts plan ms₀ p₀ i₀ ms p i = length plan - i

@@ -12,7 +12,7 @@ use Rattle.plan.proofs.steps.step.Tie as tie
 returns : tie.Need-returns
 returns c =
     let n = c .before .before .before in
-    let a = n .before .before .before .before .args in (
+    let a = n .before .before .before .args in (
       tt,
       λ t k A. stopped (now (a .marks)) (now (a .values)) (a .from) t k A (a .p)
           (n .condition .result) (n .condition .ensures .0) (not-true _ (c .if1 .taken)),
@@ -21,7 +21,7 @@ returns c =
 after-requires : tie.Need-after-requires
 after-requires c κs =
     let n = c .before .before .before in
-    let b = n .before .before .before .before in
+    let b = n .before .before .before in
     let a = b .args in
     let t = b .pre .1 .0 in
     let k = b .pre .1 .1 in
@@ -30,10 +30,10 @@ after-requires c κs =
 returns-2 : tie.Need-returns-2
 returns-2 c =
     let v = c .before in
-    let m = v .before .before in
+    let m = v .before in
     let e = m .before in
     let n = e .before .before .before in
-    let b = n .before .before .before .before in
+    let b = n .before .before .before in
     let a = b .args in (
       (search needs, search needs),
       λ t k A. led (now (a .marks)) (now (a .values)) (a .from) t k A (a .p)
