@@ -20,9 +20,9 @@ typedef struct {
     uint32_t rows, at;
     uint32_t facts, actions, preferences;
     uint32_t goal, first_action, first_preference; /* rows */
-    uint32_t action[129];                          /* row of ACTION; behind the last: where the preferences begin */
+    uint32_t action[129];                          /* row of ACTION; after the last: where the preferences begin */
     struct {
-        uint32_t open, phi, second, next; /* row of the preference, of its first condition, of SECOND or next, and behind it */
+        uint32_t open, phi, second, next; /* row of the preference, of its first condition, of SECOND or next, and after it */
         uint32_t steps, d;                /* its deadline; the first of its facts D */
         uint8_t kind, hard;               /* the mark of its kind made soft; whether it must hold */
     } side[16];
@@ -183,7 +183,7 @@ static inline int holds(State s, uint32_t fact) { return s.word[fact / 64] >> (f
 
 static inline void set(State *s, uint32_t fact) { s->word[fact / 64] |= (uint64_t)1 << (fact % 64); }
 
-/* Whether the clause whose literals stand from row *at on is true; *at is then behind it. Literals up to the first true one are
+/* Whether the clause whose literals stand from row *at on is true; *at is then after it. Literals up to the first true one are
  * looked at, and counted. */
 static int clause_true(const Task *t, uint32_t *at, State s, uint64_t *looked)
 {
@@ -211,7 +211,7 @@ static int condition_true(const Task *t, uint32_t *at, State s, uint64_t *looked
 
 static int true_at(const Task *t, uint32_t at, State s, uint64_t *looked) { return condition_true(t, &at, s, looked); }
 
-/* The state behind an action whose effects stand from row `at` up to row `end`. A condition that was left early is passed. */
+/* The state after an action whose effects stand from row `at` up to row `end`. A condition that was left early is passed. */
 static State after(const Task *t, uint32_t at, uint32_t end, State s, uint64_t *looked)
 {
     State adds = {{0, 0}}, deletes = {{0, 0}};
@@ -247,7 +247,7 @@ static inline void watch(Monitor *m, uint8_t kind, uint32_t steps, int last, int
         m->s |= psi;
         break;
     case SOMETIME_AFTER: m->b = (phi | m->b) & !psi; break;
-    case WITHIN: /* age: the number of the state, up to one behind the deadline */
+    case WITHIN: /* age: the number of the state, up to one after the deadline */
         if (m->age > steps) break;
         m->s |= phi;
         m->age++;
@@ -602,7 +602,7 @@ static inline void copy(Writer *w, uint32_t from, uint32_t to)
 /* What stands before the denied literals of a clause: holds s if `held`, and the rows from `from` up to `to`. */
 typedef struct { int held; uint32_t s, from, to; } Guard;
 
-/* An effect for each false clause of the condition from row `at` up to row `to`, behind a guard, which adds b, and `also` if that
+/* An effect for each false clause of the condition from row `at` up to row `to`, after a guard, which adds b, and `also` if that
  * is not 0. */
 static void put_false(Writer *w, uint32_t at, uint32_t to, Guard g, uint32_t b, uint32_t also)
 {

@@ -34,8 +34,8 @@ module _ {A : Type 0} (rank : A → ℕ) where
       omega (arith, leb→le f (rank y) (search tests), above-floor (suc (rank y)) x ys (search tests) m)
 
   -- a member of the rest is not the first
-  behind-first : (x y : A) (xs : List A) → T (risingBy rank (suc (rank x)) xs) → Member y xs → y ≡ x → ⊥
-  behind-first x y xs t m e = omega (arith, above-floor (suc (rank x)) y xs t m, ap rank e)
+  after-first : (x y : A) (xs : List A) → T (risingBy rank (suc (rank x)) xs) → Member y xs → y ≡ x → ⊥
+  after-first x y xs t m e = omega (arith, above-floor (suc (rank x)) y xs t m, ap rank e)
 
   least-first : (f : ℕ) (x y : A) (ys : List A) → T (risingBy rank f (y ∷ ys)) → Member x (y ∷ ys) → rank y ≤ rank x
   least-first f x y ys t m =
@@ -43,7 +43,7 @@ module _ {A : Type 0} (rank : A → ℕ) where
       (and-both (leb (rank y) (rank y)) (risingBy rank (suc (rank y)) ys) (le→leb (rank y) (rank y) (omega arith)) (search tests)) m
 
   rest-of : (x y z : A) (xs ys : List A) → x ≡ y → T (risingBy rank (suc (rank x)) xs) → Member z xs → Member z (y ∷ ys) → Member z ys
-  rest-of x y z xs ys e t m (inl q) = absurd (behind-first x z xs t m (q ∙ sym e))
+  rest-of x y z xs ys e t m (inl q) = absurd (after-first x z xs t m (q ∙ sym e))
   rest-of x y z xs ys e t m (inr k) = k
 
   -- where equal ranks mean equals

@@ -1,7 +1,6 @@
 // Collect and forgo: the actions that close a preference.
 ghost use mathlib.Core.List.{[], _∷_};
 ghost use Prim.Native.Nat.{_+_, _≤_, _<_};
-ghost use lib.ListN.{length};
 ghost use Rattle.task.specs.Marks.{EFFECT, ADD};
 ghost use Rattle.task.specs.TaskRows.{row, clauseRows, conditionRows};
 ghost use Rattle.task.specs.Answers.{asKind};

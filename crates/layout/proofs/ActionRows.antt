@@ -63,18 +63,18 @@ abbrev beginAt : ℕ → List Action → List ℕ
 beginAt i [] = []
 beginAt i (a ∷ l) = i ∷ beginAt (i + length (actionRows a)) l
 
-among : (i : ℕ) (l : List Action) (behind : List Row) → T (noneOf (hasMark ACTION) behind)
-    → actionsFrom i (marks (concatMap actionRows l ++ behind)) ≡ beginAt i l
+among : (i : ℕ) (l : List Action) (after : List Row) → T (noneOf (hasMark ACTION) after)
+    → actionsFrom i (marks (concatMap actionRows l ++ after)) ≡ beginAt i l
 unfolding actionsFrom
-among i [] behind h = none i behind h
-among i (a ∷ l) behind h =
-    let rest : List Row = concatMap actionRows l ++ behind in
+among i [] after h = none i after h
+among i (a ∷ l) after h =
+    let rest : List Row = concatMap actionRows l ++ after in
     let n : i + 1 + length (stepRows a) ≡ i + length (actionRows a) = omega arith in
     ap (λ (xs : List ℕ). i ∷ xs)
-    (ap (λ (xs : List Row). actionsFrom (i + 1) (marks xs)) (append-assoc (stepRows a) (concatMap actionRows l) behind)
+    (ap (λ (xs : List Row). actionsFrom (i + 1) (marks xs)) (append-assoc (stepRows a) (concatMap actionRows l) after)
     ∙ passed (i + 1) (stepRows a) rest (step-no-action a)
     ∙ ap (λ (n : ℕ). actionsFrom n (marks rest)) n
-    ∙ among (i + length (actionRows a)) l behind h)
+    ∙ among (i + length (actionRows a)) l after h)
 
 as-many-begin : (i : ℕ) (l : List Action) → length (beginAt i l) ≡ length l
 as-many-begin i [] = refl
@@ -134,14 +134,14 @@ module _ (t : Task) (ms vs : List ℕ) (R : Spells ms vs t) where
     split =
         let prefs : List Row = concatMap preferenceRows (t .preferences) in
         let before : List Row = concatMap actionRows (take k (t .actions)) in
-        let behind : List Row = actionRows (actionAt t k) ++ concatMap actionRows others in
-        let acts : concatMap actionRows (t .actions) ≡ before ++ behind =
+        let after : List Row = actionRows (actionAt t k) ++ concatMap actionRows others in
+        let acts : concatMap actionRows (t .actions) ≡ before ++ after =
         ap (concatMap actionRows) (sym (take-append-drop k (t .actions)) ∙ ap (λ (l : List Action). take k (t .actions) ++ l) (drop-cons (t .actions) k noAction h))
         ∙ concat-append actionRows (take k (t .actions)) (actionAt t k ∷ others) in
         ap (λ (xs : List Row). opened t ++ xs ++ prefs) acts
         ∙ cc (
-          append-assoc (opened t) before behind,
-          append-assoc (opened t ++ before) behind prefs,
+          append-assoc (opened t) before after,
+          append-assoc (opened t ++ before) after prefs,
           append-assoc (actionRows (actionAt t k)) (concatMap actionRows others) prefs,
         )
 

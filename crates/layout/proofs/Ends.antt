@@ -16,7 +16,7 @@ use Rattle.task.specs.TaskRows.{Row, row, stepsRows, conditionRows, preferenceR
 use Rattle.task.specs.File.{paired}
 use Rattle.task.specs.Rows.{between, run, runAt, Stops}
 use Rattle.task.proofs.Passing.{condition-passes, steps-pass}
-use Rattle.task.proofs.Steps.{behind-opening, after-steps, soft-at}
+use Rattle.task.proofs.Steps.{after-opening, after-steps, soft-at}
 use Rattle.task.proofs.Reading.{passes, run-stop, run-through, goes-on, stops-at, ends-at}
 use Rattle.task.proofs.Positions.{drop-after, preferences-stop, past-kinds}
 use Rattle.layout.specs.Sides.{stretch, endAt, firstFrom, firstTo, secondFrom, secondTo, sidesAt, Located}
@@ -105,11 +105,11 @@ module _ (ms vs : List ℕ) (at : ℕ) (q : Preference) (qs : List Preference) (
   unfolding secondRows
   first-is =
       end-after STEPS STEPS ms (at + 1) vs (stepsRows (q .kind)) ((conditionRows (q .first) ++ secondRows (two-sided (q .kind))) ++ more)
-      (behind-opening ms vs at q more e) (steps-pass (passes (between STEPS STEPS)) (λ v. tt) (q .kind)) (past-steps (q .first) (two-sided (q .kind)))
+      (after-opening ms vs at q more e) (steps-pass (passes (between STEPS STEPS)) (λ v. tt) (q .kind)) (past-steps (q .first) (two-sided (q .kind)))
 
-  behind-head : drop first (paired ms vs) ≡ conditionRows (q .first) ++ (secondRows (two-sided (q .kind)) ++ more)
+  after-head : drop first (paired ms vs) ≡ conditionRows (q .first) ++ (secondRows (two-sided (q .kind)) ++ more)
   unfolding secondRows
-  behind-head =
+  after-head =
       ap (λ (n : ℕ). drop n (paired ms vs)) first-is
       ∙ after-steps ms vs at q more e
       ∙ append-assoc (conditionRows (q .first)) (secondRows (two-sided (q .kind))) more
@@ -121,21 +121,21 @@ module _ (ms vs : List ℕ) (at : ℕ) (q : Preference) (qs : List Preference) (
 
   mid-is : mid ≡ first + length (conditionRows (q .first))
   mid-is =
-      end-after CLAUSE LACKS ms first vs (conditionRows (q .first)) (secondRows (two-sided (q .kind)) ++ more) behind-head
+      end-after CLAUSE LACKS ms first vs (conditionRows (q .first)) (secondRows (two-sided (q .kind)) ++ more) after-head
       (condition-between (q .first)) (stops (two-sided (q .kind)))
 
   after-first : drop mid (paired ms vs) ≡ secondRows (two-sided (q .kind)) ++ more
   after-first =
       ap (λ (n : ℕ). drop n (paired ms vs)) mid-is
-      ∙ drop-after first (paired ms vs) (conditionRows (q .first)) (secondRows (two-sided (q .kind)) ++ more) behind-head
+      ∙ drop-after first (paired ms vs) (conditionRows (q .first)) (secondRows (two-sided (q .kind)) ++ more) after-head
 
   -- the condition ys stands from row `second` on
   module _ (ys : Condition) (f : drop second (paired ms vs) ≡ conditionRows ys ++ more) where
     next-is : next ≡ second + length (conditionRows ys)
-    next-is = end-after CLAUSE LACKS ms second vs (conditionRows ys) more f (condition-between ys) (stops-behind)
+    next-is = end-after CLAUSE LACKS ms second vs (conditionRows ys) more f (condition-between ys) (stops-after)
       where
-        stops-behind : Stops (between CLAUSE LACKS) more
-        stops-behind = preferences-stop (between CLAUSE LACKS) (past-kinds (between CLAUSE LACKS) tt) qs
+        stops-after : Stops (between CLAUSE LACKS) more
+        stops-after = preferences-stop (between CLAUSE LACKS) (past-kinds (between CLAUSE LACKS) tt) qs
 
     second-part : stretch ms vs second next ≡ conditionRows ys
     second-part = part-is ms vs second next (conditionRows ys) more f next-is
@@ -163,7 +163,7 @@ module _ (ms vs : List ℕ) (at : ℕ) (q : Preference) (qs : List Preference) (
   located h =
       record {
         mark = soft-at ms vs at q (concatMap preferenceRows qs) e h;
-        first = part-is ms vs first mid (conditionRows (q .first)) (secondRows (two-sided (q .kind)) ++ more) behind-head mid-is;
+        first = part-is ms vs first mid (conditionRows (q .first)) (secondRows (two-sided (q .kind)) ++ more) after-head mid-is;
         second = λ p. second-part (q .second) (after-second true p);
         rest = rest-after (cond (two-sided (q .kind)) (q .second) []) (after-second (two-sided (q .kind)) refl);
       }

@@ -1,5 +1,4 @@
 // Where an action leads from a node of the search.
-ghost use mathlib.Core.Path.{_≡_};
 ghost use Prim.Native.Nat.{ℕ, _<_};
 ghost use lib.ListN.{length};
 ghost use Rattle.meaning.specs.Task.{Task};

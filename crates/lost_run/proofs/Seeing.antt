@@ -22,8 +22,8 @@ headValue [] = 0
 headValue (x ∷ xs) = x .value
 
 module _ (ms vs : List ℕ) (i : ℕ) (q : Preference) (R : RuleAt ms vs i q) where
-  abbrev behind : List Row
-  behind = concatMap preferenceRows (R .rest)
+  abbrev after : List Row
+  after = concatMap preferenceRows (R .rest)
 
   pub inside : i < length ms
   inside = within-rows ms vs i q (R .rest) (R .spelled)
@@ -34,9 +34,9 @@ module _ (ms vs : List ℕ) (i : ℕ) (q : Preference) (R : RuleAt ms vs i q) wh
   pub seen-by : (m : Monitor) (k : Kind) (r : Rule) → k ≡ kindOf (softMark (getD ms i 0)) (stepsAt ms vs i) → r .hard ≡ opensHard (getD ms i 0)
       → r .weight ≡ valueAt vs i → r .met ≡ accepting k m → r .broken ≡ shows k (m .S) (m .B) → SeenBy q m r
   seen-by m k r of-kind hard weight met broken =
-      let kind : kindOf (softMark (getD ms i 0)) (stepsAt ms vs i) ≡ q .kind = kind-at ms vs i q behind (R .spelled) inside (R .spelling) in
+      let kind : kindOf (softMark (getD ms i 0)) (stepsAt ms vs i) ≡ q .kind = kind-at ms vs i q after (R .spelled) inside (R .spelling) in
       record {
-        hard = hard ∙ hard-at ms vs i q behind (R .spelled) inside;
+        hard = hard ∙ hard-at ms vs i q after (R .spelled) inside;
         weight = weight ∙ weighs;
         met = met ∙ ap (λ (k : Kind). accepting k m) (of-kind ∙ kind);
         broken = broken ∙ ap (λ (k : Kind). shows k (m .S) (m .B)) (of-kind ∙ kind);

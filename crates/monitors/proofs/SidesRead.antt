@@ -66,12 +66,12 @@ module _ (ms vs : List ℕ) (σ : Facts) where
     from-is : i + headRows (softMark (getD ms i 0)) ≡ from
     from-is = ap (λ (m : ℕ). i + headRows m) mark-is ∙ omega (arith, head-rows (q .kind))
 
-    behind-head : drop from (paired ms vs) ≡ conditionRows (q .first) ++ (secondRows q ++ more)
-    behind-head = after-steps ms vs i q more e ∙ append-assoc (conditionRows (q .first)) (secondRows q) more
+    after-head : drop from (paired ms vs) ≡ conditionRows (q .first) ++ (secondRows q ++ more)
+    after-head = after-steps ms vs i q more e ∙ append-assoc (conditionRows (q .first)) (secondRows q) more
 
     first-is : Stops inCondition (secondRows q ++ more)
         → evaluateAt σ begin ms vs from ≡ readAs σ (q .first) (from + length (conditionRows (q .first)))
-    first-is stop = condition-at σ ms vs from (q .first) (secondRows q ++ more) behind-head stop
+    first-is stop = condition-at σ ms vs from (q .first) (secondRows q ++ more) after-head stop
 
     -- how many rows the preference has
     all-rows : length (preferenceRows q) ≡ 1 + length (stepsRows (q .kind)) + length (conditionRows (q .first)) + length (secondRows q)
@@ -109,7 +109,7 @@ module _ (ms vs : List ℕ) (σ : Facts) where
           let whole : r ≡ readAs σ (q .first) at = first-whole (rw two refl) in
           let after-second : drop (at + 1) (paired ms vs) ≡ conditionRows (q .second) ++ more =
           drop-next at (paired ms vs) (row SECOND 0) (conditionRows (q .second) ++ more)
-          (drop-after from (paired ms vs) (conditionRows (q .first)) (secondRows q ++ more) behind-head ∙ rw two) in
+          (drop-after from (paired ms vs) (conditionRows (q .first)) (secondRows q ++ more) after-head ∙ rw two) in
           let second-whole : x ≡ readAs σ (q .second) (at + 1 + length (conditionRows (q .second))) =
           second-read ∙ ap (λ (y : Evaluated). evaluateAt σ begin ms vs (y .next + 1)) whole
           ∙ condition-at σ ms vs (at + 1) (q .second) more after-second (preferences-stop inCondition kind-past qs) in

@@ -115,7 +115,7 @@ module _ {b : List ℕ} {at : ℕ} {ms vs : List ℕ} {from least most : ℕ} {o
   one-more e {mid} {j} space {v} value {last} {r} fact short = record {
     begun = omega (arith, L .begun);
     rows-left = omega (arith, there least most ms i e .0);
-    little = omega (arith, L .little, L .begun, space .behind);
+    little = omega (arith, L .little, L .begun, space .after);
     text = L .text ++ (ascii " " ++ rowText (row (getD ms i 0) v));
     wrote = then (L .wrote) (then space fact);
     same =

@@ -58,8 +58,8 @@ module _ (t : Task) (ms vs : List ℕ) (R : Spells ms vs t) where
     abbrev a : Action
     a = actionAt t k
 
-    abbrev behind : List Row
-    behind = tailRows (others t ms vs R k h) (t .preferences)
+    abbrev after : List Row
+    after = tailRows (others t ms vs R k h) (t .preferences)
 
     pub cost-read : actionRow t k < length ms → valueAt vs (actionRow t k) ≡ a .cost
     cost-read b = value-at ms vs (actionRow t k) b (rows-at t ms vs R k h)
@@ -67,15 +67,15 @@ module _ (t : Task) (ms vs : List ℕ) (R : Spells ms vs t) where
     abbrev pub at : ℕ
     at = actionRow t k + 1
 
-    precondition-rows : drop at (paired ms vs) ≡ conditionRows (a .precondition) ++ (concatMap effectRows (a .effects) ++ behind)
+    precondition-rows : drop at (paired ms vs) ≡ conditionRows (a .precondition) ++ (concatMap effectRows (a .effects) ++ after)
     precondition-rows =
-        drop-next (actionRow t k) (paired ms vs) (row ACTION (a .cost)) (stepRows a ++ behind) (rows-at t ms vs R k h)
-        ∙ append-assoc (conditionRows (a .precondition)) (concatMap effectRows (a .effects)) behind
+        drop-next (actionRow t k) (paired ms vs) (row ACTION (a .cost)) (stepRows a ++ after) (rows-at t ms vs R k h)
+        ∙ append-assoc (conditionRows (a .precondition)) (concatMap effectRows (a .effects)) after
 
     pub precondition-read : (σ : Facts)
         → evaluateAt σ begin ms vs at ≡ readAs σ (a .precondition) (at + length (conditionRows (a .precondition)))
     precondition-read σ =
-        condition-at σ ms vs at (a .precondition) (concatMap effectRows (a .effects) ++ behind) precondition-rows
+        condition-at σ ms vs at (a .precondition) (concatMap effectRows (a .effects) ++ after) precondition-rows
         (effects-stop inCondition refl (a .effects) (tailRows (others t ms vs R k h) (t .preferences)) (tail-stops inCondition kind-past refl (others t ms vs R k h) (t .preferences)))
 
     pub effects-there : EffectsAt ms vs (at + length (conditionRows (a .precondition))) a
@@ -83,7 +83,7 @@ module _ (t : Task) (ms vs : List ℕ) (R : Spells ms vs t) where
       facts = t .facts;
       few = R .few-facts;
       below = effects-below t (R .formed) k h;
-      rest = behind;
-      spelled = drop-after at (paired ms vs) (conditionRows (a .precondition)) (concatMap effectRows (a .effects) ++ behind) precondition-rows;
+      rest = after;
+      spelled = drop-after at (paired ms vs) (conditionRows (a .precondition)) (concatMap effectRows (a .effects) ++ after) precondition-rows;
       stops = tail-stops inEffects kind-past-effects refl (others t ms vs R k h) (t .preferences);
     }

@@ -17,7 +17,7 @@ use Rattle.planned.specs.Planned.{plannedText, written, outcomeOf, areaA
 pub with-cost : (p : List ℕ) (c : ℕ) (area mid out : List ℕ) (j k : ℕ) → Filled area (textOf p) j mid
     → Wrote mid j (ascii "; cost = " ++ (decimal c ++ ascii "\n")) k out → Filled area (plannedText p c) k out
 unfolding plannedText
-with-cost p c area mid out j k F W = from-start (then (record { behind = F .size ∙ zero-first; area = F .area }) W)
+with-cost p c area mid out j k F W = from-start (then (record { after = F .size ∙ zero-first; area = F .area }) W)
   where
     zero-first : length (textOf p) ≡ 0 + length (textOf p)
     zero-first = omega arith

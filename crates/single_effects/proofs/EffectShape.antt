@@ -113,15 +113,15 @@ module _ (ms vs : List ℕ) (at : ℕ) (e : Effect) (xs : List Row) (there : dro
     pub effect-found : choiceCount (e .condition) ≤ 64 → EffectAt ms vs at r e
     effect-found few =
         let same : r .choices ≡ choiceCount (e .condition) = choices-found ∙ counted (e .condition) ∙ omega arith in
-        let behind : drop (r .changes .from) (paired ms vs) ≡ changeRows e ++ xs = ap (λ (n : ℕ). drop n (paired ms vs)) from-found ∙ after-condition in
+        let after : drop (r .changes .from) (paired ms vs) ≡ changeRows e ++ xs = ap (λ (n : ℕ). drop n (paired ms vs)) from-found ∙ after-condition in
         record {
           condition = record {
-            there = after-head ∙ ap (λ (l : List Row). c ++ l) (sym behind);
-            stops = subst⁻¹ (Stops (between CLAUSE LACKS)) behind stops;
+            there = after-head ∙ ap (λ (l : List Row). c ++ l) (sym after);
+            stops = subst⁻¹ (Stops (between CLAUSE LACKS)) after stops;
             long = from-found;
             inside = omega (arith, within, from-found);
           };
-          changes = part-is ms vs (r .changes .from) (r .changes .to) (changeRows e) xs behind (omega (arith, end-found, from-found));
+          changes = part-is ms vs (r .changes .from) (r .changes .to) (changeRows e) xs after (omega (arith, end-found, from-found));
           order = record { opened = omega (arith, from-found); whole = omega (arith, from-found, end-found); inside = omega (arith, within, end-found) };
           choices = same;
           clauses = ap (λ (x : Shape). x .clauses) is;

@@ -201,8 +201,8 @@ steps-aside (within t) xs = refl
 steps-aside (always-within t) xs = refl
 
 -- what is cut after φ, with φ's rows in front
-abbrev behindFirst : Condition → Parts → Parts
-behindFirst φ r = parted (conditionRows φ ++ r .before) (r .parts)
+abbrev afterFirst : Condition → Parts → Parts
+afterFirst φ r = parted (conditionRows φ ++ r .before) (r .parts)
 
 sides-back : (b : Bool) (φ ψ : Condition) → T (b || isEmpty ψ)
     → sidesOf (cut (hasMark SECOND) (conditionRows φ ++ cond b (row SECOND 0 ∷ conditionRows ψ) [])) ≡ record { first = φ; second = ψ }
@@ -212,7 +212,7 @@ sides-back b φ ψ t = rw (cut-none (hasMark SECOND) (conditionRows φ) (cond b 
     φ-back = ap conditionOf (append-nil (conditionRows φ)) ∙ condition-back φ
 
     go : (b : Bool) (ψ : Condition) → T (b || isEmpty ψ)
-        → sidesOf (behindFirst φ (cut (hasMark SECOND) (cond b (row SECOND 0 ∷ conditionRows ψ) []))) ≡ record { first = φ; second = ψ }
+        → sidesOf (afterFirst φ (cut (hasMark SECOND) (cond b (row SECOND 0 ∷ conditionRows ψ) []))) ≡ record { first = φ; second = ψ }
     go true ψ t =
         rw (cut-only (hasMark SECOND) (conditionRows ψ) (no-second ψ))
         (λ i. record { first = φ-back i; second = (append-nil (conditionOf (conditionRows ψ)) ∙ condition-back ψ) i })

@@ -57,13 +57,13 @@ module _ (ms vs : List ℕ) (i : ℕ) where
   kind-read (always-within t) xs ok e = ap always-within (steps-read t xs ok e)
 
   module _ (q : Preference) (more : List Row) (e : drop i (paired ms vs) ≡ preferenceRows q ++ more) where
-    pub behind-opening : drop (i + 1) (paired ms vs) ≡ stepsRows (q .kind) ++ (conditionsOf q ++ more)
-    behind-opening =
+    pub after-opening : drop (i + 1) (paired ms vs) ≡ stepsRows (q .kind) ++ (conditionsOf q ++ more)
+    after-opening =
         drop-next i (paired ms vs) (row (openingMark (q .hard) (q .kind)) (q .weight)) ((stepsRows (q .kind) ++ conditionsOf q) ++ more) e
         ∙ append-assoc (stepsRows (q .kind)) (conditionsOf q) more
 
     pub after-steps : drop (i + 1 + length (stepsRows (q .kind))) (paired ms vs) ≡ conditionsOf q ++ more
-    after-steps = drop-after (i + 1) (paired ms vs) (stepsRows (q .kind)) (conditionsOf q ++ more) behind-opening
+    after-steps = drop-after (i + 1) (paired ms vs) (stepsRows (q .kind)) (conditionsOf q ++ more) after-opening
 
     pub soft-at : i < length ms → softMark (getD ms i 0) ≡ kindMark (q .kind)
     soft-at h = ap softMark (mark-at ms vs i h e) ∙ soft-back (q .hard) (q .kind)
@@ -74,4 +74,4 @@ module _ (ms vs : List ℕ) (i : ℕ) where
     pub kind-at : i < length ms → T (kindSpellable (q .kind)) → kindOf (softMark (getD ms i 0)) (stepsAt ms vs i) ≡ q .kind
     kind-at h ok =
         ap (λ (m : ℕ). kindOf m (stepsAt ms vs i)) (soft-at h)
-        ∙ kind-read (q .kind) (conditionsOf q ++ more) ok behind-opening
+        ∙ kind-read (q .kind) (conditionsOf q ++ more) ok after-opening

@@ -44,8 +44,8 @@ written-whole xs b h = let e : 0 + length xs ≡ length xs = omega arith in sets
 pub then : {b mid out : List ℕ} {at j k : ℕ} {xs ys : List ℕ} → Wrote b at xs j mid → Wrote mid j ys k out → Wrote b at (xs ++ ys) k out
 then {b} {mid} {out} {at} {j} {k} {xs} {ys} v w =
     record {
-      behind = omega (arith, v .behind, w .behind, length-append xs ys);
-      area = w .area ∙ ap₂ (λ (i : ℕ) (l : List ℕ). written ys i l) (v .behind) (v .area) ∙ sym (written-append xs ys b at);
+      after = omega (arith, v .after, w .after, length-append xs ys);
+      area = w .area ∙ ap₂ (λ (i : ℕ) (l : List ℕ). written ys i l) (v .after) (v .area) ∙ sym (written-append xs ys b at);
     }
 
 pub same-size : {b out : List ℕ} {at k : ℕ} {xs : List ℕ} → Wrote b at xs k out → length out ≡ length b
@@ -54,7 +54,7 @@ same-size {b} {out} {at} {k} {xs} v = ap length (v .area) ∙ length-written xs 
 -- From the start of the area on
 
 pub from-start : {b out : List ℕ} {r : ℕ} {xs : List ℕ} → Wrote b 0 xs r out → Filled b xs r out
-from-start v = record { size = v .behind ∙ zero-add _; area = v .area }
+from-start v = record { size = v .after ∙ zero-add _; area = v .area }
 
 -- a text that fits stands at the front
 pub at-front : (b xs : List ℕ) (r : ℕ) (out : List ℕ) → Filled b xs r out → length xs ≤ length b → take r out ≡ xs
@@ -65,18 +65,18 @@ at-front b xs r out f h = rw (f .area, written-whole xs b h) (take-at xs (drop (
 module _ (b : List ℕ) (at x : ℕ) (out : List ℕ) where
   pub stored : out ≡ set b at x → Wrote b at (x ∷ []) (at + 1) out
   unfolding written
-  stored e = record { behind = refl; area = e }
+  stored e = record { after = refl; area = e }
 
   pub dropped : length b ≤ at → out ≡ b → Wrote b at (x ∷ []) (at + 1) out
   unfolding written
-  dropped h e = record { behind = refl; area = e ∙ sym (set-out b at x h) }
+  dropped h e = record { after = refl; area = e ∙ sym (set-out b at x h) }
 
 -- A word, byte after byte
 
 module _ (b : List ℕ) (at : ℕ) where
   pub no-bytes : Wrote b at [] at b
   unfolding written
-  no-bytes = record { behind = sym (add-zero at); area = refl }
+  no-bytes = record { after = sym (add-zero at); area = refl }
 
   pub one-byte-more : (word mid out : List ℕ) (i j k : ℕ) → i < length word
       → Wrote b at (take i word) j mid → Wrote mid j (getD word i 0 ∷ []) k out → Wrote b at (take (i + 1) word) k out
@@ -88,7 +88,7 @@ module _ (b : List ℕ) (at : ℕ) where
   stored-more word out i h e =
       let n : length (take i word) ≡ i = length-take-le i word (omega arith) in
       let x : ℕ = getD word i 0 in
-      one-byte-more word out (set out (at + i) x) i (at + i) (at + i + 1) h (record { behind = omega (arith, n); area = e })
+      one-byte-more word out (set out (at + i) x) i (at + i) (at + i + 1) h (record { after = omega (arith, n); area = e })
       (stored out (at + i) x (set out (at + i) x) refl) .area
 
   pub all-bytes : (word out : List ℕ) (i k : ℕ) → length word ≤ i → Wrote b at (take i word) k out → Wrote b at word k out
@@ -98,12 +98,12 @@ module _ (b : List ℕ) (at : ℕ) where
 
 module _ (b : List ℕ) (at n : ℕ) (h : n < 2 ^ 64) where
   pub one-digit : (out : List ℕ) (k : ℕ) → n < 10 → Wrote b at (digit n) k out → Wrote b at (decimal n) k out × (k ≤ at + 20)
-  one-digit out k l v = (rw (decimal-one n l) v, omega (arith, v .behind))
+  one-digit out k l v = (rw (decimal-one n l) v, omega (arith, v .after))
 
   pub few-digits-written : (out : List ℕ) (k : ℕ) → n < 1000 → Wrote b at (decimal n) k out → k ≤ at + 20
-  few-digits-written out k l v = omega (arith, v .behind, few-digits 2 n (omega arith))
+  few-digits-written out k l v = omega (arith, v .after, few-digits 2 n (omega arith))
 
   pub last-digit : (mid out : List ℕ) (j k : ℕ) → 10 ≤ n
       → Wrote b at (decimal (n / 10)) j mid → Wrote mid j (digit (n % 10)) k out → Wrote b at (decimal n) k out × (k ≤ at + 20)
   last-digit mid out j k l v w =
-      (rw (decimal-more n l) (then v w), omega (arith, v .behind, w .behind, nineteen-digits n h))
+      (rw (decimal-more n l) (then v w), omega (arith, v .after, w .after, nineteen-digits n h))

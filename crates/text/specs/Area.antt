@@ -11,7 +11,7 @@ written xs at b = sets b at xs
 
 -- xs was written into b from place `at` on: r is the place after it, and out the area then
 pub record Wrote (b : List ℕ) (at : ℕ) (xs : List ℕ) (r : ℕ) (out : List ℕ) : Type 0 where
-  pub behind : r ≡ at + length xs
+  pub after : r ≡ at + length xs
   pub area : out ≡ written xs at b
 
 -- xs was written from the start of b on: r is its length, and out the area then

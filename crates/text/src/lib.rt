@@ -142,14 +142,14 @@ pub fn put_integer(out: &mut [u8], at: usize, n: i64) -> usize
 }
 
 // Writes a number in decimal, with a word before it and one after it.
-pub fn put_number(out: &mut [u8], at: usize, before: &[u8], n: u64, behind: &[u8]) -> usize
-    requires { ⌜ at + length (now before) + 20 + length (now behind) < 2 ^ 64 ⌝ }
-    ensures { λ r. ⌜ Wrote (now (out .entry)) at (now (before .entry) ++ (decimal n ++ now (behind .entry))) r (now (out .exit)) ⌝ }
-    ensures { λ r. ⌜ r ≤ at + length (now (before .entry)) + 20 + length (now (behind .entry)) ⌝ }
+pub fn put_number(out: &mut [u8], at: usize, before: &[u8], n: u64, after: &[u8]) -> usize
+    requires { ⌜ at + length (now before) + 20 + length (now after) < 2 ^ 64 ⌝ }
+    ensures { λ r. ⌜ Wrote (now (out .entry)) at (now (before .entry) ++ (decimal n ++ now (after .entry))) r (now (out .exit)) ⌝ }
+    ensures { λ r. ⌜ r ≤ at + length (now (before .entry)) + 20 + length (now (after .entry)) ⌝ }
 {
     let a = put_bytes(&mut *out, at, before);
     let b = put_decimal(&mut *out, a, n);
-    put_bytes(&mut *out, b, behind)
+    put_bytes(&mut *out, b, after)
 }
 
 // Writes the line of a refusal.

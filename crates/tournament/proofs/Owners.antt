@@ -1,18 +1,18 @@
 -- An entry of the tree comes from its own leaf: what changes when a leaf or a node does.
 use mathlib.Core.Path.{_≡_, refl, sym, _∙_, ap, ap₂, subst}
 use mathlib.Core.Logic.{_⊎_, inl, inr}
-use mathlib.Core.Bool.{Bool, true, false, cond, true≢false}
+use mathlib.Core.Bool.{Bool, true, false, cond}
 use mathlib.Core.List.{List}
 use Prim.Native.Nat.{ℕ, zero, suc, _+_, _-_, _*_, _/_, _≤_, _<_}
 use native.Mathlib.Decide.{ℕ-discrete, decLt}
 use native.Mathlib.Omega.{arith}
-use lib.Dec.{eqb, ltb}
+use lib.Dec.{ltb}
 use lib.ListN.{length, set, length-set}
 use lib.Seq.{getD-set-same, getD-set-other}
 use borrow.Author.Tests.{eq-eqb, ne-eqb}
 use Rattle.node_words.specs.Words.{packedAt}
 use Rattle.node_words.specs.declared.Packed.{Packed}
-use Rattle.tournament.specs.Tournament.{costAt, cheaper, entryAt, Game, up, OnWay, Nowhere, Known, Played, withLeaf}
+use Rattle.tournament.specs.Tournament.{cheaper, entryAt, Game, OnWay, Nowhere, Known, Played, withLeaf}
 use Rattle.tournament.proofs.Games.{cheaper-one, up-half}
 
 -- a leaf that has place p is p's, and p is open

@@ -11,7 +11,7 @@ use lib.Dec.{ltb}
 use borrow.Author.Tests.{ltb-true, ltb-false, lt-ltb, not-true}
 use Rattle.lists.proofs.Tests.{both-true}
 use Rattle.searching.specs.Search.{Node, nodeAt, cheapest}
-use Rattle.searching.proofs.Choice.{Cheapest, Chosen, chosen}
+use Rattle.searching.proofs.Choice.{Chosen, chosen}
 use Rattle.tournament.specs.Tournament.{costAt, cheaper, entryAt, Game, up, Nowhere, Played, asChoice}
 use Rattle.tournament.proofs.Games.{cheaper-one, up-half}
 use Rattle.tournament.proofs.Owners.{game-at, leaf-says}

@@ -108,9 +108,9 @@ module _ (t : Task) (F A P D : ℕ) (facts : F ≡ t .facts) (acts : A ≡ lengt
       ∙ ap (sets b 0) (λ z. bytes16 (facts-are z) ++ bytes16 (actions-are z) ++ bytes16 (none-are z) ++ bytes16 (n-is z))
       ∙ headed b top refl (omega arith)
 
-  behind : drop (8 + 5 * length xs) mid ≡ drop (8 + 5 * n) b
+  after : drop (8 + 5 * length xs) mid ≡ drop (8 + 5 * n) b
   unfolding top
-  behind =
+  after =
       ap (drop (8 + 5 * length xs)) mid-is
       ∙ drop-append-add top (drop 8 b) (5 * length xs)
       ∙ drop-drop (5 * length xs) 8 b
@@ -124,7 +124,7 @@ module _ (t : Task) (F A P D : ℕ) (facts : F ≡ t .facts) (acts : A ≡ lengt
       ∙ ap (λ (m : ℕ). putRows mid m 0 xs) n-is
       ∙ whole-file mid (translated t .facts) (length (translated t .actions)) (length (translated t .preferences)) xs long
       (ap (take 8) mid-is ∙ take-at top (drop 8 b) 8 refl)
-      ∙ ap (λ (l : List ℕ). fileOf (translated t) ++ l) behind
+      ∙ ap (λ (l : List ℕ). fileOf (translated t) ++ l) after
 
 -- each preference of a spellable task is spellable
 spelled-preferences : (t : Task) → T (spellable t) → T (all preferenceSpellable (t .preferences))

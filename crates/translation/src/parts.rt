@@ -1,7 +1,6 @@
 // The actions of the translated task, and what its goal has beside the source's.
 ghost use mathlib.Core.Bool.{false};
 ghost use Prim.Native.Nat.{_+_, _≤_, _<_};
-ghost use lib.ListN.{length};
 ghost use Rattle.task.specs.Rows.{Rows};
 ghost use Rattle.writer.specs.Writer.{Room, Wrote};
 ghost use Rattle.trackers.specs.Trackers.{Noted, trackersBy};

@@ -28,7 +28,7 @@ module _ (b f : List ℕ) (n : ℕ) (counts : n ≡ count f) where
 
     pub text-written : (x : Figures) → given x ≡ weekOf b f → (r : ℕ) (out′ : List ℕ) → Wrote out 0 (answerText n (given x)) r out′ → Done (Outcome.written r) out′
     text-written x e r out′ w = (
-      ap Outcome.written (w .behind ∙ zero-add (length (answerText n (given x)))) ∙ outcome-is (given x) e,
+      ap Outcome.written (w .after ∙ zero-add (length (answerText n (given x)))) ∙ outcome-is (given x) e,
       w .area ∙ ap (λ (l : List ℕ). Areas.written l 0 out) (text-is (given x) e),
     )
 

@@ -77,7 +77,7 @@ struct Rows<'a> {
 }
 
 impl Rows<'_> {
-    /// The mark of the next row; none behind the last row.
+    /// The mark of the next row; none after the last row.
     fn mark(&self) -> Option<u8> {
         self.marks.get(self.at).copied()
     }

@@ -107,7 +107,7 @@ impl Kind {
     }
 
     /// The kind that a mark opens and whether it is hard, if it opens a preference.
-    /// Its deadline stands in the row behind, and is 0 here.
+    /// Its deadline stands in the row after, and is 0 here.
     pub fn of_mark(mark: u8) -> Option<(Kind, bool)> {
         let kind = match mark {
             10 | 26 => Kind::Always,

@@ -71,7 +71,7 @@ impl Layout<'_> {
             _ => self.first_d(k) + j - 1,
         }
     }
-    /// Where the facts D of preference k begin: behind *ended* and those of the
+    /// Where the facts D of preference k begin: after *ended* and those of the
     /// preferences before.
     fn first_d(self, k: usize) -> usize {
         let before = self.preferences[..k].iter();
@@ -203,16 +203,16 @@ fn trackers(layout: Layout, k: usize, preference: &Preference) -> Vec<Effect> {
             .collect(),
         Kind::Sometime | Kind::AtEnd => vec![adding(phi(), vec![s])],
         Kind::AtMostOnce => {
-            let mut effects = vec![adding(behind(&[lacks(s), lacks(b)], phi()), vec![s])];
+            let mut effects = vec![adding(after(&[lacks(s), lacks(b)], phi()), vec![s])];
             for clause in &preference.phi {
-                effects.push(adding(behind(&[holds(s)], denied(clause)), vec![b]));
+                effects.push(adding(after(&[holds(s)], denied(clause)), vec![b]));
             }
-            effects.push(deleting(behind(&[holds(s), holds(b)], phi()), vec![s]));
+            effects.push(deleting(after(&[holds(s), holds(b)], phi()), vec![s]));
             effects
         }
         Kind::SometimeBefore => vec![
             adding(psi(), vec![s]),
-            adding(behind(&[lacks(s)], phi()), vec![b]),
+            adding(after(&[lacks(s)], phi()), vec![b]),
         ],
         Kind::SometimeAfter => {
             let unfollowed = |clause| adding([phi(), denied(clause)].concat(), vec![b]);
@@ -220,13 +220,13 @@ fn trackers(layout: Layout, k: usize, preference: &Preference) -> Vec<Effect> {
             effects.push(deleting(psi(), vec![b]));
             effects
         }
-        // D of j holds in state j and behind it.
+        // D of j holds in state j and after it.
         Kind::Within(t) => {
             let mut effects = vec![adding(vec![], vec![d(1)])];
             for j in 1..=t {
-                effects.push(adding(behind(&[holds(d(j))], vec![]), vec![d(j + 1)]));
+                effects.push(adding(after(&[holds(d(j))], vec![]), vec![d(j + 1)]));
             }
-            effects.push(adding(behind(&[lacks(d(t + 1))], phi()), vec![s]));
+            effects.push(adding(after(&[lacks(d(t + 1))], phi()), vec![s]));
             effects
         }
         // D of j holds where some φ has gone without ψ for j states or more.
@@ -238,18 +238,18 @@ fn trackers(layout: Layout, k: usize, preference: &Preference) -> Vec<Effect> {
             }
             for j in 1..=t {
                 for clause in &preference.psi {
-                    let still = behind(&[holds(d(j))], denied(clause));
+                    let still = after(&[holds(d(j))], denied(clause));
                     effects.push(adding(still, vec![d(j + 1)]));
                 }
             }
             let all = std::iter::once(b).chain((1..=t).map(d)).collect();
-            effects.push(deleting(behind(&[lacks(s)], psi()), all));
+            effects.push(deleting(after(&[lacks(s)], psi()), all));
             effects
         }
     }
 }
 
-/// The clause that says, behind *end*, that preference k is met.
+/// The clause that says, after *end*, that preference k is met.
 fn met_clause(layout: Layout, k: usize, kind: Kind) -> Clause {
     let (s, b) = (layout.s(k), layout.b(k));
     match kind {
@@ -278,8 +278,8 @@ fn denied(clause: &Clause) -> Condition {
     clause.iter().map(|literal| vec![deny(literal)]).collect()
 }
 
-/// A condition behind literals that are each a clause alone.
-fn behind(literals: &[Literal], condition: Condition) -> Condition {
+/// A condition after literals that are each a clause alone.
+fn after(literals: &[Literal], condition: Condition) -> Condition {
     let mut clauses: Condition = literals.iter().map(|&literal| vec![literal]).collect();
     clauses.extend(condition);
     clauses

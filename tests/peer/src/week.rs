@@ -68,9 +68,9 @@ fn take_words(bytes: &[u8], count: usize) -> Option<(Vec<usize>, &[u8])> {
     let mut rest = bytes;
     let mut words = Vec::new();
     for _ in 0..count {
-        let (word, behind) = take_word(rest)?;
+        let (word, after) = take_word(rest)?;
         words.push(word);
-        rest = behind;
+        rest = after;
     }
     Some((words, rest))
 }

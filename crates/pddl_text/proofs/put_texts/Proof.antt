@@ -1,14 +1,12 @@
 -- Where both areas are enough for every text, both texts fit, by the lengths written; else they are counted first, and where one is too long
 -- nothing is written, by `too-short`.
-use mathlib.Core.Path.{_≡_, sym, ap, _∙_}
-use Prim.Native.Nat.{_≤_}
+use mathlib.Core.Path.{sym, ap, _∙_}
 use native.Mathlib.Omega.{arith}
 use lib.Dec.{leb}
 use lib.ListN.{length}
 use denote.Ref.{now}
 use borrow.Author.Tests.{leb-true}
 use Rattle.lists.proofs.Tests.{both-true}
-use Rattle.pddl_text.specs.Pddl.{domainText, problemText}
 use Rattle.pddl_text.specs.Outcomes.{domainAfter, problemAfter}
 use Rattle.pddl_text.proofs.Answering.{too-short, put-down, counted-fit}
 use borrow.Author.Needs.{needs}

@@ -1,5 +1,5 @@
 -- By the line and the steps that fill finds, each refusal and the plan that it writes is readOutcome's: laws of Answering.
-use mathlib.Core.Path.{_≡_, sym, ap, _∙_}
+use mathlib.Core.Path.{sym, ap, _∙_}
 use Prim.Native.Nat.{_≤_, _<_}
 use native.Mathlib.Omega.{arith}
 use denote.Ref.{now}

@@ -1,6 +1,5 @@
 -- The two words of the entry's node, by `stops-node`.
 use borrow.Author.Needs.{needs}
-use mathlib.Core.Path.{sym}
 use denote.Ref.{now}
 use Rattle.state_table.proofs.Probing.{stops-empty, stops-node}
 use Rattle.state_table.proofs.stops.Statement.{statement}

@@ -86,7 +86,7 @@ put-large-put-byte-requires : (t : ℕ) → put-large-lts.Need-put-byte-requires
 ) (put-large-at t) put-large.Post
 put-large-put-byte-requires t c κs =
     let d = c .before .before .before in
-    omega (arith, d .put-large .ensures .0 .behind, nineteen-digits (d .before .before .before .before .args .n) (search needs))
+    omega (arith, d .put-large .ensures .0 .after, nineteen-digits (d .before .before .before .before .args .n) (search needs))
 
 put-large-same-length : (t : ℕ) → put-large-lts.Need-same-length (
   put-three-reads.Asked,

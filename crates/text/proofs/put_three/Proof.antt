@@ -13,7 +13,7 @@ put-byte-requires c κs =
     let d = c .before .before .before in
     let a = d .before .before .before .before .args in
     let room : a .at + 20 < 2 ^ 64 = search needs in
-    omega (arith, d .put-two2 .ensures .behind, nineteen-digits (a .n) (search needs))
+    omega (arith, d .put-two2 .ensures .after, nineteen-digits (a .n) (search needs))
 
 returns-2 : tie.Need-returns-2
 returns-2 c =

@@ -9,7 +9,7 @@ returns : tie.Need-returns
 returns c =
     let d = c .before .before in
     let b = d .before .before .before .before in
-    (then (b .put-bytes .ensures) (d .put-decimal .ensures .0), omega (arith, d .put-decimal .ensures .1, b .put-bytes .ensures .behind))
+    (then (b .put-bytes .ensures) (d .put-decimal .ensures .0), omega (arith, d .put-decimal .ensures .1, b .put-bytes .ensures .after))
 
 pub put-labelled-spec : {M : Type 1} → statement M
 put-labelled-spec = tie.close (tie.spec (λ c κs. search needs) (λ c κs. search needs) (λ c. search needs) returns)

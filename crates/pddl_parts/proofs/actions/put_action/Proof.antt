@@ -43,7 +43,7 @@ returns c =
       (
         omega (arith, p .put-condition .ensures .1, s .put-effects .ensures .1),
         s .put-effects .ensures .1 .1,
-        omega (arith, n .put-head .ensures .1, p .put-condition .ensures .1, m .put-cost .ensures .1, s .put-effects .ensures .1, e .put-bytes .ensures .behind),
+        omega (arith, n .put-head .ensures .1, p .put-condition .ensures .1, m .put-cost .ensures .1, s .put-effects .ensures .1, e .put-bytes .ensures .after),
       ),
     )
 

@@ -19,7 +19,7 @@ put-bytes-requires-3 c κs =
     let p = w .before .before .before .before .before in
     let h = p .before .before .before .before in
     let start = h .before .before .before .before .before .before in
-    omega (arith, h .put-bytes .ensures .behind, p .put-condition .ensures .1, w .put-bytes2 .ensures .behind, l .put-list .ensures .1 .1, start .pre .0 .room, start .pre .1)
+    omega (arith, h .put-bytes .ensures .after, p .put-condition .ensures .1, w .put-bytes2 .ensures .after, l .put-list .ensures .1 .1, start .pre .0 .room, start .pre .1)
 
 returns : tie.Need-returns
 returns c =
@@ -34,7 +34,7 @@ returns c =
       (
         omega (arith, p .put-condition .ensures .1, l .put-list .ensures .1 .1),
         l .put-list .ensures .1 .1 .1,
-        omega (arith, h .put-bytes .ensures .behind, p .put-condition .ensures .1, w .put-bytes2 .ensures .behind, l .put-list .ensures .1 .1, e .put-bytes3 .ensures .behind),
+        omega (arith, h .put-bytes .ensures .after, p .put-condition .ensures .1, w .put-bytes2 .ensures .after, l .put-list .ensures .1 .1, e .put-bytes3 .ensures .after),
       ),
     )
 

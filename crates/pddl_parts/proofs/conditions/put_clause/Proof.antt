@@ -50,7 +50,7 @@ returns-2 c =
     let text = then (w .put-bytes .ensures) (then (l .put-list .ensures .0) (b .put-byte .ensures)) in
     let read = l .put-list .ensures .1 .1 in (
       several (now (a .marks)) (now (a .values)) (a .from) (not-lone g) text (l .put-list .ensures .1 .0),
-      (omega (arith, read .0), read .1, omega (arith, w .put-bytes .ensures .behind, read, b .put-byte .ensures .behind)),
+      (omega (arith, read .0), read .1, omega (arith, w .put-bytes .ensures .after, read, b .put-byte .ensures .after)),
     )
 
 pub put-clause-spec : {M : Type 1} → statement M

@@ -74,7 +74,7 @@ returns c =
     let w = l .before .before .before in
     let L = l .loop .inv .3 in
     let text = all-done L (sym (t .has-mark .ensures) ∙ g .if1 .left) in
-    (enclose (w .put-bytes .ensures) text (b .put-byte2 .ensures), (L .begun, L .rows-left, omega (arith, l .loop .inv .0, l .loop .inv .1, b .put-byte2 .ensures .behind)))
+    (enclose (w .put-bytes .ensures) text (b .put-byte2 .ensures), (L .begun, L .rows-left, omega (arith, l .loop .inv .0, l .loop .inv .1, b .put-byte2 .ensures .after)))
 
 pub put-condition-spec : {M : Type 1} → statement M
 put-condition-spec =

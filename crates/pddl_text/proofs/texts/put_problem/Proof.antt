@@ -32,7 +32,7 @@ put-bytes-requires-3 c κs =
     let l = w .before .before .before .before .before in
     let h = l .before .before .before .before in
     let start = h .before .before .before .before .before .before in
-    omega (arith, p .put-condition .ensures .1, w .put-bytes2 .ensures .behind, l .put-list .ensures .1 .1, h .put-bytes .ensures .behind, start .pre .0 .few)
+    omega (arith, p .put-condition .ensures .1, w .put-bytes2 .ensures .after, l .put-list .ensures .1 .1, h .put-bytes .ensures .after, start .pre .0 .few)
 
 returns : tie.Need-returns
 returns c =

@@ -29,7 +29,7 @@ returns c =
     let a = w .before .before .before .before .args in
     let put = then (w .put-bytes .ensures) (then (d .put-decimal .ensures .0) (n .put-bytes2 .ensures)) in
     let line = subst (λ (l : List ℕ). Wrote (now (a .out)) (a .at) l (n .put-bytes2 .result) (n .put-bytes2 .last .0)) (ended (a .step)) put in
-    (line, omega (arith, put .behind, length-append (decimal (a .step)) (ascii ")\n"), few-digits 2 (a .step) (search needs)))
+    (line, omega (arith, put .after, length-append (decimal (a .step)) (ascii ")\n"), few-digits 2 (a .step) (search needs)))
 
 pub put-step-spec : {M : Type 1} → statement M
 put-step-spec =

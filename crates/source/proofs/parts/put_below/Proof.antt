@@ -12,7 +12,7 @@ returns c =
     let w = c .before .before in
     let t = w .before .before in
     let a = t .before .before .args in
-    (rw (lt-ltb (a .step) (a .actions) (t .if1 .taken)) (w .put-byte .ensures), omega (arith, w .put-byte .ensures .behind))
+    (rw (lt-ltb (a .step) (a .actions) (t .if1 .taken)) (w .put-byte .ensures), omega (arith, w .put-byte .ensures .after))
 
 returns-2 : tie.Need-returns-2
 returns-2 c =
