@@ -70,11 +70,11 @@ def instructions():
     before = {(row['operation'], row['input']): int(row['library']) for row in figures('../bench/before.csv')}
     cells = []
     for row, counts in zip(figures('bench/times.csv'), figures('bench/instructions.csv'), strict=True):
-        library, plain, work = int(counts['library']), int(counts['plain C']), int(row['work'])
+        library, rust, plain, work = int(counts['library']), int(counts['Rust']), int(counts['plain C']), int(row['work'])
         old = before.get((row['operation'], row['input']))
         cells.append([row['operation'], named(row['input']), f'{work:,} {row["of"]}', f'{old / work:.1f}' if old else '',
-                      f'{library / work:.1f}', f'{plain / work:.1f}', f'{library / plain:.2f}'])
-    return table(['operation', 'input', 'for each of', 'library before', 'library', 'plain C', '/ plain C'], cells)
+                      f'{library / work:.1f}', f'{rust / work:.1f}', f'{plain / work:.1f}', f'{library / rust:.2f}', f'{library / plain:.2f}'])
+    return table(['operation', 'input', 'for each of', 'library before', 'library', 'Rust', 'plain C', '/ Rust', '/ plain C'], cells)
 
 
 def shares():
