@@ -8,40 +8,26 @@ when it begins and ends a module where ANTT_CACHE_DEBUG is set, which is an aid 
 import collections
 import os
 import re
-import shutil
 import subprocess
 import sys
 import time
 
-
-def words(crate):
-    """The command that checks a crate over what rt has proved."""
-    home = os.path.dirname(os.path.dirname(os.path.realpath(shutil.which('rt'))))
-    own = f'{home}/on/{os.uname().machine}'
-    lines = (line.partition(':') for line in open('crates.txt') if not line.startswith('#'))
-    below = {name: rest.split() for name, _, rest in lines}[crate]
-    source = next(f'crates/{crate}/src/{root}' for root in ('lib.rt', 'main.rt') if os.path.exists(f'crates/{crate}/src/{root}'))
-    built = lambda name: next(f'{folder}/{name}.rlib' for folder in ('target/rlib', f'{own}/rlib') if os.path.exists(f'{folder}/{name}.rlib'))
-    return [
-        f'{home}/bin/rattle', 'check', '--crate-name', crate, source, '--antt-project', f'{home}/logic/antt-project.json',
-        '--logic-built', f'{own}/logic-built', '-L', 'dependency=target/rlib', '-L', f'dependency={own}/rlib',
-        *(word for name in ['std', *below] for word in ('--extern', f'{name}={built(name)}')),
-    ]
+import prover
 
 
 def modules(crate):
     """The seconds of each module, by its name, and how long the check took before the first."""
     began, since, took, first = time.time(), {}, {}, None
-    prover = subprocess.Popen(words(crate), stdout=subprocess.PIPE, stderr=subprocess.STDOUT, text=True, errors='replace',
-                              env=dict(os.environ, ANTT_CACHE_DEBUG='1'))
-    for line in prover.stdout:
+    run = subprocess.Popen(prover.check(crate, f'crates/{crate}'), stdout=subprocess.PIPE, stderr=subprocess.STDOUT, text=True, errors='replace',
+                           env=dict(os.environ, ANTT_CACHE_DEBUG='1'))
+    for line in run.stdout:
         told = re.match(r'antt: cache: (\S+): (elaborating|artifact encoded)', line)
         if told and told[2] == 'elaborating':
             first = first or time.time() - began
             since[told[1]] = time.time()
         elif told and told[1] in since:
             took[told[1]] = time.time() - since[told[1]]
-    if prover.wait() != 0:
+    if run.wait() != 0:
         sys.exit(f'{crate} is not proved')
     return took, first, time.time() - began
 
