@@ -15,7 +15,7 @@ use Rattle.meaning.specs.Meaning.{isTrue, applies}
 use Rattle.lists.proofs.Tests.{not-both}
 use Rattle.meaning.proofs.WellFormed.{actionCount}
 use Rattle.searching.specs.Search.{Node, openingNode, nodeAt, meet, stepped, Kept, fit, tryAction, tried, cheapest, with-place, goOn, turn, turns}
-use Rattle.searching.specs.Search.{explore, Outcome, found, no-plan, full, Answer, answer}
+use Rattle.searching.specs.Search.{explore, found, no-plan, full, Answer, answer}
 use Rattle.searching.proofs.Order.{states, Begins, meet-order, try-begins, turns-begins}
 use Rattle.searching.proofs.Choice.{Chosen, chosen}
 use Rattle.searching.proofs.Invariant.{Every, Ready}
@@ -120,17 +120,6 @@ module _ (t : Task) (limit i : ℕ) (x : Node) where
 abbrev pub Wider : ℕ → Answer → Answer → Type 0
 Wider limit a b = ((a .outcome ≡ full → ⊥) × (b ≡ a)) ⊎ ((a .outcome ≡ full) × (limit < length (b .nodes)))
 
-abbrev isFull : Outcome → Bool
-isFull (found i) = false
-isFull no-plan = false
-isFull full = true
-
-found-not : (i : ℕ) → found i ≡ full → ⊥
-found-not i e = true≢false (sym (ap isFull e))
-
-none-not : no-plan ≡ full → ⊥
-none-not e = true≢false (sym (ap isFull e))
-
 module _ (t : Task) (wf : T (wellFormed t)) (limit : ℕ) where
   -- after the expansion of place i, which kept K, and W with room for one more
   gone-wider : (n : ℕ) (taken : ℕ → Bool) (i : ℕ) (K W : Kept)
@@ -168,14 +157,14 @@ module _ (t : Task) (wf : T (wellFormed t)) (limit : ℕ) where
       → Wider limit (turns t limit n new more) (turns t (suc limit) (suc n) new more))
       → (c : Option ℕ) → Chosen ns taken (length ns) c
       → Wider limit (turn t limit (turns t limit n) ns taken c) (turn t (suc limit) (turns t (suc limit) (suc n)) ns taken c)
-  turn-wider n ns taken m R f none C = inl (none-not, refl)
+  turn-wider n ns taken m R f none C = inl (λ e. true≢false (cc e), refl)
   turn-wider n ns taken m R f (some i) C = go (isTrue (nodeAt ns i .state) (t .goal)) refl
     where
       go : (b : Bool) → isTrue (nodeAt ns i .state) (t .goal) ≡ b
           → Wider limit
           (cond b (answer (found i) ns) (goOn (turns t limit n) i taken (tried t limit i (nodeAt ns i) ns (actionCount t))))
           (cond b (answer (found i) ns) (goOn (turns t (suc limit) (suc n)) i taken (tried t (suc limit) i (nodeAt ns i) ns (actionCount t))))
-      go true g = inl (found-not i, refl)
+      go true g = inl (λ e. true≢false (cc e), refl)
       go false g =
           let P : Progress t limit (with-place i taken) (suc m) i (nodeAt ns i) (actionCount t) (tried t limit i (nodeAt ns i) ns (actionCount t)) =
           progress t wf limit (with-place i taken) (suc m) i (nodeAt ns i) (taken-now i taken) ns (taken-midway t limit ns taken m i R C g) (actionCount t) in
@@ -198,7 +187,7 @@ module _ (t : Task) (wf : T (wellFormed t)) (limit : ℕ) where
   turns-wider : (n : ℕ) (ns : List Node) (taken : ℕ → Bool) (m : ℕ) → Ready t limit ns taken Every m → limit ≤ m + n
       → Wider limit (turns t limit n ns taken) (turns t (suc limit) (suc n) ns taken)
   turns-wider zero ns taken m R h =
-      inl (none-not, none-left ns taken m R (omega arith) (cheapest ns taken (length ns)) (chosen ns taken (length ns)))
+      inl (λ e. true≢false (cc e), none-left ns taken m R (omega arith) (cheapest ns taken (length ns)) (chosen ns taken (length ns)))
   turns-wider (suc n) ns taken m R h =
       turn-wider n ns taken m R (λ new more r. turns-wider n new more (suc m) r (omega arith)) (cheapest ns taken (length ns)) (chosen ns taken (length ns))
 
