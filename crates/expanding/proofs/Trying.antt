@@ -12,7 +12,7 @@ use Rattle.meaning.specs.Task.{Task}
 use Rattle.meaning.specs.Meaning.{applies}
 use Rattle.state.specs.Member.{member}
 use Rattle.searching.specs.Search.{Node, Kept, meet, fit, stepped, tryAction, tried}
-use Rattle.searching.specs.Places.{Below}
+use Rattle.searching.specs.States.{Below}
 use Rattle.searching.proofs.States.{after-below}
 use Rattle.node_words.specs.Words.{packedAt, stateOf, asNode}
 use Rattle.node_words.specs.declared.Packed.{Packed}

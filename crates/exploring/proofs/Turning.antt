@@ -19,14 +19,14 @@ use Rattle.plan.proofs.TaskRead.{goal-read}
 use Rattle.plan.proofs.ThenSettled.{cost-bound}
 use Rattle.state.specs.Member.{member}
 use Rattle.searching.specs.Search.{Node, nodeAt, cheapest, tried, Kept, found, no-plan, full, Answer, answer, with-place, goOn, turn, turns, explore}
-use Rattle.searching.specs.Places.{Below}
+use Rattle.searching.specs.States.{Below}
 use Rattle.searching.proofs.Choice.{Cheapest, Chosen, chosen}
 use Rattle.searching.proofs.Invariant.{Every, Ready}
 use Rattle.searching.proofs.Taking.{taken-each, taken-now}
 use Rattle.searching.proofs.Trying.{Progress, going, stuck, progress, all-tried}
 use Rattle.searching.proofs.Turns.{taken-midway}
 use Rattle.searching.proofs.Explored.{first-ready}
-use Rattle.searching.proofs.Places.{cost-most}
+use Rattle.searching.proofs.Plans.{cost-most}
 use Rattle.node_words.specs.Words.{packedAt, stateOf, asNode, nodesOf}
 use Rattle.node_words.proofs.Lists.{nodes-length, node-is}
 use Rattle.tournament.specs.Tournament.{entryAt, Nowhere, Played, withLeaf, asChoice}

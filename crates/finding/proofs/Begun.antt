@@ -15,7 +15,7 @@ use Rattle.meaning.specs.Meaning.{opening}
 use Rattle.state.specs.Member.{member}
 use Rattle.state.specs.declared.State.{State}
 use Rattle.searching.specs.Search.{Kept, openingNode}
-use Rattle.searching.specs.Places.{Below}
+use Rattle.searching.specs.States.{Below}
 use Rattle.searching.proofs.States.{opening-below}
 use Rattle.node_words.specs.Words.{asNode, nodesOf}
 use Rattle.node_words.specs.declared.Packed.{Packed}

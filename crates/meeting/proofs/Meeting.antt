@@ -14,7 +14,7 @@ use Rattle.lists.specs.Lists.{singleton}
 use Rattle.state.specs.Member.{member}
 use Rattle.state.specs.declared.State.{State}
 use Rattle.searching.specs.Search.{Node, noNode, nodeAt, same, lowered, meet}
-use Rattle.searching.specs.Places.{Below}
+use Rattle.searching.specs.States.{Below}
 use Rattle.searching.proofs.States.{same-equal, equal-same}
 use Rattle.node_words.specs.Words.{packedAt, stateOf, asNode, nodesOf, Written}
 use Rattle.node_words.specs.declared.Packed.{Packed}

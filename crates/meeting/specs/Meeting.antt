@@ -8,7 +8,7 @@ use lib.Dec.{leb, ltb}
 use lib.ListN.{length}
 use Rattle.state.specs.Member.{member}
 use Rattle.searching.specs.Search.{Node, Kept, meet, fit}
-use Rattle.searching.specs.Places.{Below}
+use Rattle.searching.specs.States.{Below}
 use Rattle.node_words.specs.Words.{packedAt, stateOf, asNode, nodesOf, Written}
 use Rattle.node_words.specs.declared.Packed.{Packed}
 use Rattle.state_table.specs.Table.{Tabled}

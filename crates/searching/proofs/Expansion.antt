@@ -12,7 +12,7 @@ use Rattle.lists.specs.Lists.{singleton}
 use Rattle.meaning.specs.Task.{Task, wellFormed}
 use Rattle.meaning.specs.Meaning.{after, actionAt, applies}
 use Rattle.searching.specs.Search.{Node, noNode, nodeAt, stepped}
-use Rattle.searching.specs.Places.{Below}
+use Rattle.searching.specs.States.{Below}
 use Rattle.searching.proofs.States.{after-below}
 use Rattle.searching.proofs.Meeting.{Met, left, replaced, added}
 use Rattle.searching.proofs.Invariant.{Upto, Ready, Linked, Entered, Put, applies-below, redone, kept, put-ready, put-entered}

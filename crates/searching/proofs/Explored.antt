@@ -11,10 +11,10 @@ use Rattle.lists.specs.Lists.{singleton}
 use Rattle.meaning.specs.Task.{Task, wellFormed}
 use Rattle.meaning.specs.Meaning.{solves}
 use Rattle.searching.specs.Search.{openingNode, nodeAt, planTo, explore, Outcome, found, no-plan, full}
-use Rattle.searching.specs.Places.{Below}
+use Rattle.searching.specs.States.{Below}
 use Rattle.searching.proofs.States.{opening-below}
 use Rattle.searching.proofs.Invariant.{Every, Ready, count}
-use Rattle.searching.proofs.Turns.{Right, Found, Full, Says, turns-right}
+use Rattle.searching.proofs.Turns.{Right, Found, Says, turns-right}
 
 count-none : (n : ℕ) → count (λ i. false) n ≡ 0
 count-none zero = refl
@@ -55,9 +55,6 @@ module _ (t : Task) (wf : T (wellFormed t)) (limit : ℕ) (h : 1 ≤ limit) wher
 
     pub when-found : (i : ℕ) → explore t limit .outcome ≡ found i → Found t limit (explore t limit .nodes) i
     when-found i e = by-outcome (found i) e
-
-    pub when-full : explore t limit .outcome ≡ full → Full t limit (explore t limit .nodes)
-    when-full e = by-outcome full e
 
     pub none-iff : (explore t limit .outcome ≡ full → ⊥)
         → (explore t limit .outcome ≡ no-plan) ↔ ((q : List ℕ) → T (solves t q) → ⊥)

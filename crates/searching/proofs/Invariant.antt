@@ -13,7 +13,7 @@ use Rattle.meaning.specs.Meaning.{State, isTrue, after, actionAt, applies}
 use Rattle.lists.proofs.Tests.{not-both, both-true}
 use Rattle.meaning.proofs.WellFormed.{actionCount}
 use Rattle.searching.specs.Search.{Node, openingNode, nodeAt}
-use Rattle.searching.specs.Places.{Below}
+use Rattle.searching.specs.States.{Below}
 
 -- x is what its action leads to from its origin
 pub record Linked (t : Task) (ns : List Node) (x : Node) : Type 0 where

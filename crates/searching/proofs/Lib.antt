@@ -17,5 +17,3 @@ pub mod Explored
 pub mod Order
 pub mod Limits
 pub mod Claim
--- For code
-pub mod Places

@@ -10,7 +10,7 @@ use lib.ListN.{length, set}
 use borrow.Author.Tests.{ltb-true, ltb-false}
 use Rattle.lists.specs.Lists.{singleton}
 use Rattle.searching.specs.Search.{Node, nodeAt, same, lowered, meet}
-use Rattle.searching.specs.Places.{Below}
+use Rattle.searching.specs.States.{Below}
 use Rattle.searching.proofs.States.{same-equal, differ}
 
 -- x leaves all as it was, or replaces the entry of its state, or is added

@@ -1,9 +1,9 @@
--- The plan that is read from the origins.
+-- The plan that is read from the origins, and costs that stay small.
 use mathlib.Core.Path.{_≡_, refl, sym, _∙_, ap, ap₂}
 use mathlib.Core.Bool.{Bool, true, false, cond, _&&_, _||_, and-true, and-assoc}
 use mathlib.Core.List.{List, [], _∷_, _++_}
-use Prim.Native.Nat.{ℕ, zero, suc, _+_, _<_, _≤_}
-use native.Mathlib.Nat.{not-suc-le-zero, le-of-suc-le-suc}
+use Prim.Native.Nat.{ℕ, zero, suc, _+_, _*_, _<_, _≤_}
+use native.Mathlib.Nat.{not-suc-le-zero, le-of-suc-le-suc, mul-le-mul-right}
 use native.Mathlib.Omega.{arith}
 use lib.Dec.{eqb}
 use lib.ListN.{length, length-append}
@@ -12,7 +12,7 @@ use Rattle.lists.specs.Lists.{singleton, lastOr}
 use Rattle.meaning.specs.Task.{Task}
 use Rattle.meaning.specs.Meaning.{State, opening, after, actionAt, applies, runs, reached, final, cost}
 use Rattle.searching.specs.Search.{Node, nodeAt, planFrom}
-use Rattle.searching.proofs.Invariant.{Ready, Linked, rooted}
+use Rattle.searching.proofs.Invariant.{Ready, Linked, rooted, depth}
 
 -- A list with one step more
 
@@ -88,3 +88,19 @@ plan-steady ns (suc n) (suc l) i h r = go (eqb i 0) r (plan-steady ns n l (nodeA
         ≡ cond b [] (planFrom ns n (nodeAt ns i .origin) ++ singleton (nodeAt ns i .action))
     go true r f = refl
     go false r f = ap (λ (p : List ℕ). p ++ singleton (nodeAt ns i .action)) (f r)
+
+-- Costs: m turns lead to costs of at most m actions
+
+module _ (t : Task) (C : ℕ) (most : (k : ℕ) → actionAt t k .cost ≤ C) where
+  cost-steps : (p : List ℕ) → cost t p ≤ length p * C
+  cost-steps [] = omega arith
+  cost-steps (k ∷ p) = omega (arith, most k, cost-steps p)
+
+  pub cost-most : (limit : ℕ) (ns : List Node) (taken : ℕ → Bool) (done : ℕ → ℕ → Type 0) (m : ℕ) → Ready t limit ns taken done m
+      → (i : ℕ) → i < length ns → nodeAt ns i .cost ≤ m * C
+  cost-most limit ns taken done m R i h = go (depth t limit ns taken done m R i h)
+    where
+      go : (n : ℕ) × (n ≤ m) × (rooted ns n i ≡ true) → nodeAt ns i .cost ≤ m * C
+      go (n, l, r) =
+          let p : length (planFrom ns n i) ≤ m = omega (arith, plan-short ns n i) in
+          omega (arith, leads t limit ns taken done m R n i h r .paid, cost-steps (planFrom ns n i), mul-le-mul-right C p)

@@ -12,7 +12,7 @@ use Rattle.lists.proofs.Tests.{both-true}
 use Rattle.meaning.proofs.WellFormed.{actionCount, start-below, effects-below}
 use Rattle.meaning.proofs.Effects.{after-is, changed-none, adds-none-out, deletes-none-out, not-among}
 use Rattle.searching.specs.Search.{same}
-use Rattle.searching.specs.Places.{Below}
+use Rattle.searching.specs.States.{Below}
 
 module _ (t : Task) (wf : T (wellFormed t)) where
   pub opening-below : Below (t .facts) (opening t)

@@ -1,5 +1,5 @@
 -- The search, and what holds of its answer
 pub mod Search
 pub mod Claim
--- What code looks for
-pub mod Places
+-- The states of a task
+pub mod States

@@ -9,10 +9,6 @@ use lib.ListN.{length, getD, set}
 use borrow.Author.Tests.{ne-eqb}
 use Rattle.state_table.specs.Table.{taken}
 
-taken-more : (b : Bool) (x y : ℕ) → x ≤ y → cond b x (suc x) ≤ cond b y (suc y)
-taken-more true x y h = h
-taken-more false x y h = omega arith
-
 -- at most one slot more is taken by a store
 pub taken-set : (es : List ℕ) (r v : ℕ) → taken (set es r v) ≤ suc (taken es)
 taken-set [] r v = omega arith

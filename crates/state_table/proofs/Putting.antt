@@ -1,28 +1,14 @@
--- The table before the first node, after a change that leaves the states alone, and with one node more.
+-- The table after a change that leaves the states alone, and with one node more.
 use mathlib.Core.Path.{_≡_, sym, _∙_, ap, subst}
 use mathlib.Core.List.{List}
 use Prim.Native.Nat.{ℕ, suc, _*_, _<_, _≤_}
-use native.Mathlib.Nat.{not-suc-le-zero}
 use native.Mathlib.Decide.{ℕ-discrete}
 use native.Mathlib.Omega.{arith}
 use lib.ListN.{length, set, length-set}
 use lib.Seq.{getD-set-same, getD-set-other}
 use Rattle.state.specs.declared.State.{State}
-use Rattle.state_table.specs.Table.{stateAt, SLOTS, slotOf, entryAt, taken, Way, Entered, Tabled}
+use Rattle.state_table.specs.Table.{stateAt, SLOTS, slotOf, entryAt, Way, Entered, Tabled}
 use Rattle.state_table.proofs.Counting.{taken-set}
-
--- no node, and no entry
-pub empty-tabled : (table ws : List ℕ) → length table ≡ SLOTS → ((r : ℕ) → entryAt table r ≡ 0) → taken table ≡ 0 → Tabled table ws 0
-empty-tabled table ws l z t =
-    record {
-      few = omega arith;
-      room = omega arith;
-      slots = l;
-      known = λ r. omega (arith, z r);
-      entered = λ p h. absurd (not-suc-le-zero h);
-      distinct = λ p q h g e. absurd (not-suc-le-zero h);
-      sparse = omega arith;
-    }
 
 -- the same nodes' states in other words
 pub same-tabled : (table ws new : List ℕ) (n : ℕ) → Tabled table ws n → length new ≡ length ws
