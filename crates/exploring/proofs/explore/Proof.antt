@@ -27,6 +27,14 @@ Inv-loop marks values starts goal limit words₀ table₀ tree₀ n₀ m₀ word
 abbrev μ-loop : tie.MeasureT-loop
 μ-loop marks values starts goal limit words₀ table₀ tree₀ n₀ m₀ words table tree n m = limit - m
 
+-- where the turn began, from where its place was looked at
+abbrev looked : tie.After-meets-goal Inv-loop μ-loop → tie.At-loop Inv-loop μ-loop
+looked g = g .before .before .before .before .before
+
+-- where its actions have been tried, from where the limit is compared
+abbrev tried : tie.After-slice-known8 Inv-loop μ-loop → tie.After-expand Inv-loop μ-loop
+tried d = d .before .before .before .before .before .before
+
 loop-holds : tie.Need-loop-holds Inv-loop μ-loop
 loop-holds c = λ t L O. let b = c .before .before .before .before .before .before in (λ i. false, turning-first L O (b .args .limit) (b .pre .0 .0))
 
@@ -96,23 +104,23 @@ meets-goal-requires c κs =
     (s l .pre .1 .1 .rows, p .0, p .1)
 
 -- what the goal's condition says of it
-goal-says : (g : tie.After-meets-goal Inv-loop μ-loop) → let l = g .before .before .before .before .before in
+goal-says : (g : tie.After-meets-goal Inv-loop μ-loop) → let l = looked g in
     (t : Task) → Rowed l t → Begun l t → (b : Bool) → g .meets-goal .result ≡ b → isTrue (member (stateOf (packedAt (l .loop .words) (i l)))) (t .goal) ≡ b
 goal-says g t L O b e =
-    let l = g .before .before .before .before .before in
+    let l = looked g in
     sym (goal-is L O (l .loop .words) (i l)) ∙ sym (g .meets-goal .ensures) ∙ e
 
 returns-2 : tie.Need-returns-2 Inv-loop μ-loop
 returns-2 c = λ t L O.
     let g = c .before in
-    let l = g .before .before .before .before .before in
+    let l = looked g in
     let left : l .loop .m < s l .args .limit = search needs in
     ended-found (s l .pre .0 .1) (R l t L O) left (i l) (at l left (g .before .before .if1 .left)) (goal-says g t L O true (c .if2 .taken))
 
 set-leaf-requires : tie.Need-set-leaf-requires Inv-loop μ-loop
 set-leaf-requires c κs =
     let g = c .before .before .before in
-    let l = g .before .before .before .before .before in
+    let l = looked g in
     let p = s l .pre .1 in
     let left : l .loop .m < s l .args .limit = search needs in
     let some = g .before .before .if1 .left in
@@ -124,7 +132,7 @@ module _ (f : tie.After-set-leaf Inv-loop μ-loop) where
   g = f .before .before .before .before
 
   abbrev l : tie.At-loop Inv-loop μ-loop
-  l = g .before .before .before .before .before
+  l = looked g
 
   left : l .loop .m < s l .args .limit
   left = search needs
@@ -173,11 +181,11 @@ module _ (x : tie.After-expand Inv-loop μ-loop) where
     goes-on = turning-on (b .pre .0 .1) (R (l f) t L O) (left f) (i (l f)) (root f) L (f .set-leaf .last .0) (closed f t L O) (no f t L O) ends-turn
 
 returns-3 : tie.Need-returns-3 Inv-loop μ-loop
-returns-3 c = λ t L O. is-full (c .before .before .before .before .before .before .before) t L O (search needs)
+returns-3 c = λ t L O. is-full (tried (c .before)) t L O (search needs)
 
 loop-again : tie.Need-loop-again Inv-loop μ-loop
 loop-again c = λ t L O.
-    let x = c .before .before .before .before .before .before .before in
+    let x = tried (c .before) in
     (with-place (i (l (f x))) (taken (l (f x)) t L O), goes-on x t L O (search needs))
 
 returns-4 : tie.Need-returns-4 Inv-loop μ-loop
@@ -187,17 +195,17 @@ returns-4 c = λ t L O. let l = c .before in ended-last (s l .pre .0 .1) (R l t 
 
 same-length-7 : tie.Need-same-length-7 Inv-loop μ-loop
 same-length-7 c =
-    let x = c .before .before .before .before .before .before .before in
+    let x = tried (c .before) in
     x .expand .kept .1 .1 .1 .1 .0 ∙ as-words (l (f x))
 
 same-length-8 : tie.Need-same-length-8 Inv-loop μ-loop
 same-length-8 c =
-    let x = c .before .before .before .before .before .before .before in
+    let x = tried (c .before) in
     x .expand .kept .1 .1 .1 .1 .1 .0 ∙ as-table (l (f x))
 
 same-length-9 : tie.Need-same-length-9 Inv-loop μ-loop
 same-length-9 c =
-    let x = c .before .before .before .before .before .before .before in
+    let x = tried (c .before) in
     x .expand .kept .1 .1 .1 .1 .1 .1 .0 ∙ f x .set-leaf .kept .0 ∙ as-tree (l (f x))
 
 pub explore-spec : {M : Type 1} → statement M
@@ -207,8 +215,7 @@ explore-spec =
     Inv-loop μ-loop loop-holds slice-read-root cast-root
     (λ c. as-words (c .before .before .before)) (λ c. as-table (c .before .before .before)) (λ c. as-tree (c .before .before .before)) returns
     (λ c. search needs) meets-goal-requires
-    (λ c. as-words (c .before .before .before .before .before .before)) (λ c. as-table (c .before .before .before .before .before .before))
-    (λ c. as-tree (c .before .before .before .before .before .before)) returns-2
+    (λ c. as-words (looked (c .before))) (λ c. as-table (looked (c .before))) (λ c. as-tree (looked (c .before))) returns-2
     set-leaf-requires expand-requires same-length-7 same-length-8 same-length-9 returns-3
     (λ c. search needs) (λ c. search needs) loop-again
     (λ c. as-words (c .before)) (λ c. as-table (c .before)) (λ c. as-tree (c .before)) returns-4)

@@ -25,17 +25,25 @@ use Rattle.finding.proofs.Answered.{refused-answers, made-answers, turn
 use Rattle.finding.proofs.find.Statement.{statement}
 use Rattle.finding.proofs.find.Tie as tie
 
+-- where check answered, from where its sizes are known
+abbrev told : tie.After-known-told → tie.After-check
+told n = n .before .before .before
+
+-- and where find began
+abbrev begun : tie.After-check → tie.Start
+begun k = k .before .before .before .before
+
 -- the file's length by its rows, of which there are few
-parts : (c : tie.After-known-told) → let f = now (c .before .before .before .before .before .before .before .args .file) in
-    (length f ≡ 8 + 5 * c .before .c .given .0 .0 .rows) × (c .before .c .given .0 .0 .rows ≤ 12000)
+parts : (c : tie.After-known-told)
+    → (length (now (begun (told c) .args .file)) ≡ 8 + 5 * c .before .c .given .0 .0 .rows) × (c .before .c .given .0 .0 .rows ≤ 12000)
 parts c =
-    let k = c .before .before .before in
-    lengths (now (k .before .before .before .before .args .file)) (asSizes (c .before .c .given .0 .0)) (sym (k .check .ensures) ∙ ap checked (c .before .c .given .1))
+    let k = told c in
+    lengths (now (begun k .args .file)) (asSizes (c .before .c .given .0 .0)) (sym (k .check .ensures) ∙ ap checked (c .before .c .given .1))
 
 returns : tie.Need-returns
 returns c =
     let k = c .before .before .before in
-    let a = k .before .before .before .before .args in
+    let a = begun k .args in
     refused-answers (searchFile (now (a .file)) (a .limit) (a .room)) (c .refusal-of .result) (Refused (c .refusal-of .result)) refl
     (turned-down (now (a .file)) (a .limit) (a .room) (k .check .result) (k .check .ensures) (c .before .enum-told .given .0 .0) (c .before .enum-told .given .1)
     (c .refusal-of .result) (c .refusal-of .ensures)) (now (a .plan)) (now (a .words))
@@ -43,8 +51,8 @@ returns c =
 returns-2 : tie.Need-returns-2
 returns-2 c =
     let n = c .before .before .before in
-    let k = n .before .before .before in
-    let a = k .before .before .before .before .args in
+    let k = told n in
+    let a = begun k .args in
     refused-answers (searchFile (now (a .file)) (a .limit) (a .room)) (record { number = 13; place = 0 }) (c .refuse .result) (c .refuse .ensures)
     (preferred (now (a .file)) (a .limit) (a .room) (k .check .result) (k .check .ensures) (n .before .c .given .0 .0) (n .before .c .given .1) (c .before .if1 .taken))
     (now (a .plan)) (now (a .words))
@@ -52,8 +60,8 @@ returns-2 c =
 returns-3 : tie.Need-returns-3
 returns-3 c =
     let n = c .before .before .before .before in
-    let k = n .before .before .before in
-    let a = k .before .before .before .before .args in
+    let k = told n in
+    let a = begun k .args in
     refused-answers (searchFile (now (a .file)) (a .limit) (a .room)) (record { number = 16; place = 0 }) (c .refuse2 .result) (c .refuse2 .ensures)
     (limited (now (a .file)) (a .limit) (a .room) (k .check .result) (k .check .ensures) (n .before .c .given .0 .0) (n .before .c .given .1)
     (c .before .before .if1 .left) (not-true (limitAllowed (a .limit) (a .room)) (c .before .if2 .taken)))
@@ -80,10 +88,10 @@ module _ (d : tie.Else2) where
   z = n .before .c .given .0 .0
 
   abbrev k : tie.After-check
-  k = n .before .before .before
+  k = told n
 
   abbrev b : tie.Start
-  b = k .before .before .before .before
+  b = begun k
 
   abbrev file : List ℕ
   file = now (b .args .file)

@@ -11,6 +11,10 @@ use Rattle.meeting.proofs.Meeting.{met-known, met-full, met-new, found-
 use Rattle.meeting.proofs.meet.Statement.{statement}
 use Rattle.meeting.proofs.meet.Tie as tie
 
+-- where meet began, from where probing answered
+abbrev begun : tie.After-probe → tie.Start
+begun p = p .before .before .before .before .before .before
+
 probe-requires : tie.Need-probe-requires
 probe-requires c κs =
     let b = c .before .before .before .before .before in
@@ -18,12 +22,9 @@ probe-requires c κs =
     (b .args .n, H .tabled)
 
 -- what probing says, for the nodes that are held
-probed : (c : tie.After-probe)
-    → Probed (now (c .before .before .before .before .before .before .args .table)) (now (c .before .before .before .before .before .before .args .words))
-    (c .before .before .before .before .before .before .args .n) (stateOf (c .before .before .before .before .before .before .args .x)) (c .probe .result)
-probed c =
-    let b = c .before .before .before .before .before .before in
-    c .probe .ensures (b .args .n) (b .pre .2 .1 .tabled)
+probed : (p : tie.After-probe) → let a = begun p .args in
+    Probed (now (a .table)) (now (a .words)) (a .n) (stateOf (a .x)) (p .probe .result)
+probed p = p .probe .ensures (begun p .args .n) (begun p .pre .2 .1 .tabled)
 
 -- the words of the node have 64 bits
 narrow : (b : tie.Start) → Narrow (b .args .x)
@@ -34,19 +35,19 @@ mul-entry c = record { fits = omega (arith, probed c .within) }
 
 slice-read-entry : tie.Need-slice-read-entry
 slice-read-entry c =
-    let b = c .before .before .before .before .before .before .before in
+    let b = begun (c .before) in
     omega (arith, probed (c .before) .within, b .pre .2 .1 .tabled .slots)
 
 cast-entry : tie.Need-cast-entry
 cast-entry c =
-    let b = c .before .before .before .before .before .before .before in
+    let b = begun (c .before) in
     let T = b .pre .2 .1 .tabled in
     record { fits = omega (arith, T .known (c .before .probe .result), T .few) }
 
 lower-requires : tie.Need-lower-requires
 lower-requires c κs =
     let p = c .before .before .before .before in
-    let b = p .before .before .before .before .before .before in
+    let b = begun p in
     let H = b .pre .2 .1 in
     let T = H .tabled in
     (omega (arith, T .known (p .probe .result), T .few), H .long, (openBelow (b .args .n) (b .pre .2 .0), H .played))
@@ -56,7 +57,7 @@ returns c = λ taken H fresh.
     let l = c .before .before .before .before in
     let t = l .before .before .before in
     let p = t .before .before in
-    let b = p .before .before .before .before .before .before in
+    let b = begun p in
     let a = b .args in
     let e = entryAt (now (a .table)) (p .probe .result) in
     let f = found-at (now (a .words)) (a .n) (stateOf (a .x)) e (t .if1 .taken) (probed p .finds) in
@@ -67,7 +68,7 @@ returns-2 : tie.Need-returns-2
 returns-2 c = λ taken H fresh.
     let e = c .before in
     let p = e .before .before in
-    let b = p .before .before .before .before .before .before in
+    let b = begun p in
     let a = b .args in
     met-full (a .limit) H (search needs) (a .x) (narrow b)
     (found-none (now (a .words)) (a .n) (stateOf (a .x)) (entryAt (now (a .table)) (p .probe .result)) (search needs) (probed p .finds))
@@ -76,7 +77,7 @@ returns-2 c = λ taken H fresh.
 add-requires : tie.Need-add-requires
 add-requires c κs =
     let p = c .before .before .before .before .before .before in
-    let b = p .before .before .before .before .before .before in
+    let b = begun p in
     let H = b .pre .2 .1 in
     (search needs, H .long, omega (arith, probed p .within, H .tabled .slots), (openBelow (b .args .n) (b .pre .2 .0), H .played))
 
@@ -85,7 +86,7 @@ returns-3 c = λ taken H fresh.
     let l = c .before .before .before .before .before .before in
     let e = l .before .before .before .before in
     let p = e .before .before .before in
-    let b = p .before .before .before .before .before .before in
+    let b = begun p in
     let a = b .args in
     let empty : entryAt (now (a .table)) (p .probe .result) ≡ 0 = search needs in
     met-new (a .limit) H (search needs) (a .x) (narrow b)

@@ -31,29 +31,35 @@ slice-aggregate-copy-words c = search needs
 
 -- what stands in the words
 module _ (c : tie.After-nodes-in) where
+  abbrev found : tie.After-find
+  found = c .before .before
+
+  abbrev begun : tie.Start
+  begun = found .before .before .before .before .before
+
   abbrev file : List ℕ
-  file = now (c .before .before .before .before .before .before .before .args .file)
+  file = now (begun .args .file)
 
   abbrev limit : ℕ
-  limit = c .before .before .before .before .before .before .before .args .limit
+  limit = begun .args .limit
 
   abbrev list : List ℕ
-  list = now (c .before .before .before .before .before .before .before .args .nodes)
+  list = now (begun .args .nodes)
 
   abbrev words : List ℕ
-  words = c .before .before .find .last .1 .1 .1 .0
+  words = found .find .last .1 .1 .1 .0
 
   abbrev plan : List ℕ
-  plan = c .before .before .find .last .1 .1 .1 .1 .0
+  plan = found .find .last .1 .1 .1 .1 .0
 
   abbrev n : ℕ
   n = c .nodes-in .result
 
-  answers : asSearched plan words (c .before .before .find .result) ≡ searchFile file limit (length list / 4)
-  answers = c .before .before .find .ensures .0
+  answers : asSearched plan words (found .find .result) ≡ searchFile file limit (length list / 4)
+  answers = found .find .ensures .0
 
   holds : nodesOf words n ≡ searchFile file limit (length list / 4) .kept
-  holds = ap (nodesOf words) (c .nodes-in .ensures) ∙ kept-is plan words (c .before .before .find .result) ∙ ap (λ (x : Searched). x .kept) answers
+  holds = ap (nodesOf words) (c .nodes-in .ensures) ∙ kept-is plan words (found .find .result) ∙ ap (λ (x : Searched). x .kept) answers
 
   small : n ≤ 1024
   small = few file limit (length list / 4) words n holds
@@ -62,7 +68,7 @@ module _ (c : tie.After-nodes-in) where
   roomy = omega (arith, fits file limit (length list / 4) words n holds)
 
   long : length plan ≡ 1023
-  long = let e : length (now (c .before .before .before .before .before .before .before .args .plan)) ≡ 1023 = search needs in c .before .before .find .kept .1 .1 .1 .1 .0 ∙ e
+  long = let e : length (now (begun .args .plan)) ≡ 1023 = search needs in found .find .kept .1 .1 .1 .1 .0 ∙ e
 
 mul-copy-words : tie.Need-mul-copy-words
 mul-copy-words c = record { fits = omega (arith, small (c .before)) }
@@ -70,7 +76,7 @@ mul-copy-words c = record { fits = omega (arith, small (c .before)) }
 copy-words-requires : tie.Need-copy-words-requires
 copy-words-requires c κs =
     let k = c .before .before in
-    (omega (arith, small k, k .before .before .find .kept .1 .1 .1 .0), roomy k)
+    (omega (arith, small k, found k .find .kept .1 .1 .1 .0), roomy k)
 
 same-length : tie.Need-same-length
 same-length c = search needs
@@ -78,18 +84,18 @@ same-length c = search needs
 returns : tie.Need-returns
 returns c =
     let k = c .before .before .before .before .before in
-    let s = k .before .before .find .result in
+    let s = found k .find .result in
     let after = c .before .before .copy-words .last .1 .1 .0 in
     let e : after ≡ filled (λ (i : ℕ). getD (words k) i 0) (list k) (4 * n k) = c .before .before .copy-words .ensures in
     let e′ : after ≡ filled (λ (i : ℕ). getD (words k) i 0) (list k) (4 * nodesIn s) = e ∙ ap (λ (m : ℕ). filled (λ (i : ℕ). getD (words k) i 0) (list k) (4 * m)) (k .nodes-in .ensures) in (
       answer-copied (plan k) (words k) (list k) after s e′ ∙ answers k,
       (
-        k .before .before .find .ensures .1 .0,
+        found k .find .ensures .1 .0,
         (
           lent-words (file k) (limit k) (length (list k) / 4) (words k) (list k) after (n k) (holds k) e,
           (
-            k .before .before .find .ensures .1 .1 .0,
-            (search-claim (file k) (limit k) (length (list k) / 4), (k .before .before .find .ensures .1 .1 .1 .0, long k)),
+            found k .find .ensures .1 .1 .0,
+            (search-claim (file k) (limit k) (length (list k) / 4), (found k .find .ensures .1 .1 .1 .0, long k)),
           ),
         ),
       ),
