@@ -28,6 +28,14 @@ Inv-loop marks values starts words₀ table₀ tree₀ place limit x n₀ k₀ w
 abbrev μ-loop : tie.MeasureT-loop
 μ-loop marks values starts words₀ table₀ tree₀ place limit x n₀ k₀ words table tree n k = length starts - k
 
+-- where expand began, from any turn
+abbrev begun : tie.At-loop Inv-loop μ-loop → tie.Start Inv-loop μ-loop
+begun l = l .before .before .before .before .before .before .before .before .before
+
+-- where an action has been tried, from where the limit is compared
+abbrev tried : tie.After-slice-known6 Inv-loop μ-loop → tie.After-try-action Inv-loop μ-loop
+tried d = d .before .before .before .before .before .before
+
 node-at-requires : tie.Need-node-at-requires Inv-loop μ-loop
 node-at-requires c κs =
     let E = c .before .before .before .before .before .before .before .pre .3 in
@@ -38,19 +46,19 @@ loop-holds c = λ t taken L E. tried-first L E
 
 mul-t16 : tie.Need-mul-t16 Inv-loop μ-loop
 mul-t16 c =
-    let L = c .before .before .before .before .before .before .before .before .before .before .pre .2 in
+    let L = begun (c .before) .pre .2 in
     record { fits = omega (arith, L .few-actions) }
 
 link-requires : tie.Need-link-requires Inv-loop μ-loop
 link-requires c κs =
-    let p = c .before .before .before .before .before .before .before .before .before .before .before .pre in
+    let p = begun (c .before .before) .pre in
     (omega (arith, p .3 .placed, p .3 .room, p .3 .limited), omega (arith, p .2 .few-actions))
 
 try-action-requires : tie.Need-try-action-requires Inv-loop μ-loop
 try-action-requires c κs =
     let l = c .before .before .before .before .before .before in
     let d = l .before in
-    let b = d .before .before .before .before .before .before .before .before in
+    let b = begun l in
     let L = b .pre .2 in
     let E = b .pre .3 in
     let h : l .loop .k < length (now (b .args .starts)) = search needs in (
@@ -67,7 +75,7 @@ module _ (m : tie.After-try-action Inv-loop μ-loop) where
   l = k .before .before .before
 
   abbrev s : tie.Start Inv-loop μ-loop
-  s = l .before .before .before .before .before .before .before .before .before
+  s = begun l
 
   abbrev z : Trial
   z = record { from = getD (now (s .args .starts)) (l .loop .k) 0; link = k .link .result; nodes = l .loop .n; limit = s .args .turn .limit }
@@ -89,12 +97,12 @@ module _ (m : tie.After-try-action Inv-loop μ-loop) where
 
 returns : tie.Need-returns Inv-loop μ-loop
 returns c = λ t taken L E.
-    let m = c .before .before .before .before .before .before .before in
+    let m = tried (c .before) in
     tried-out L E (l m .loop .inv t taken L E) (inside m) (z m) (k m .link .ensures) refl (after m taken) (gave m t taken L E) (search needs)
 
 loop-again : tie.Need-loop-again Inv-loop μ-loop
 loop-again c = λ t taken L E.
-    let m = c .before .before .before .before .before .before .before in
+    let m = tried (c .before) in
     tried-on L E (l m .loop .inv t taken L E) (inside m) (z m) (k m .link .ensures) refl (after m taken) (gave m t taken L E) (search needs)
 
 returns-2 : tie.Need-returns-2 Inv-loop μ-loop
@@ -104,7 +112,7 @@ returns-2 c = λ t taken L E. tried-all L E (c .before .loop .inv t taken L E) (
 
 module _ (l : tie.At-loop Inv-loop μ-loop) where
   abbrev b : tie.Start Inv-loop μ-loop
-  b = l .before .before .before .before .before .before .before .before .before
+  b = begun l
 
   held : Held (nodesIn (l .loop .words) (l .loop .table) (l .loop .tree) (l .loop .n) (b .pre .1))
   held = l .loop .inv (b .pre .0) (b .pre .1) (b .pre .2) (b .pre .3) .held
@@ -120,17 +128,17 @@ module _ (l : tie.At-loop Inv-loop μ-loop) where
 
 same-length : tie.Need-same-length Inv-loop μ-loop
 same-length c =
-    let m = c .before .before .before .before .before .before .before in
+    let m = tried (c .before) in
     m .try-action .kept .1 .1 .1 .1 .0 ∙ as-words (l m)
 
 same-length-2 : tie.Need-same-length-2 Inv-loop μ-loop
 same-length-2 c =
-    let m = c .before .before .before .before .before .before .before in
+    let m = tried (c .before) in
     m .try-action .kept .1 .1 .1 .1 .1 .0 ∙ as-table (l m)
 
 same-length-3 : tie.Need-same-length-3 Inv-loop μ-loop
 same-length-3 c =
-    let m = c .before .before .before .before .before .before .before in
+    let m = tried (c .before) in
     m .try-action .kept .1 .1 .1 .1 .1 .1 .0 ∙ as-tree (l m)
 
 pub expand-spec : {M : Type 1} → statement M

@@ -6,10 +6,14 @@ use Rattle.leading.specs.Leading.{LedAs}
 use Rattle.expanding.proofs.try_action.Statement.{statement}
 use Rattle.expanding.proofs.try_action.Tie as tie
 
+-- where it began, from where lead answered
+abbrev begun : tie.After-lead → tie.Start
+begun d = d .before .before .before .before .before .before
+
 returns : tie.Need-returns
 returns c = λ t k taken A T.
     let d = c .before .before in
-    let a = d .before .before .before .before .before .before .args in
+    let a = begun d .args in
     inl (subst (LedAs t k (a .x) (a .trial .link)) (c .enum-told .given .1) (d .lead .ensures t k A), refl)
 
 returns-2 : tie.Need-returns-2
@@ -17,7 +21,7 @@ returns-2 c = λ t k taken A T.
     let m = c .before .before .before .before .before .before in
     let e = m .before .before .before .before .before in
     let d = e .before .before in
-    let a = d .before .before .before .before .before .before .args in
+    let a = begun d .args in
     inr (
       e .led .given .0 .0,
       subst (LedAs t k (a .x) (a .trial .link)) (e .led .given .1) (d .lead .ensures t k A),
@@ -32,7 +36,7 @@ lead-requires c κs =
 meet-requires : tie.Need-meet-requires
 meet-requires c κs =
     let e = c .before .before .before .before in
-    let b = e .before .before .before .before .before .before .before .before in
+    let b = begun (e .before .before) in
     let T = b .pre .1 .1 in
     (T .room, T .limited, (b .pre .1 .0, T .held))
 
