@@ -5,18 +5,6 @@ use borrow.Author.Needs.{needs}
 use Rattle.cheapest.proofs.searched_words.Statement.{statement}
 use Rattle.cheapest.proofs.searched_words.Tie as tie
 
-slice-aggregate-find : tie.Need-slice-aggregate-find
-slice-aggregate-find c = search needs
-
-slice-aggregate-find-2 : tie.Need-slice-aggregate-find-2
-slice-aggregate-find-2 c = search needs
-
-find-requires : tie.Need-find-requires
-find-requires c κs = search needs
-
-nodes-in-requires : tie.Need-nodes-in-requires
-nodes-in-requires c κs = search needs
-
 returns : tie.Need-returns
 returns c =
     let f = c .before .before .before in
@@ -28,4 +16,4 @@ returns c =
 pub searched-words-spec : {M : Type 1} → statement M
 searched-words-spec =
     tie.close
-    (tie.spec slice-aggregate-find slice-aggregate-find-2 find-requires nodes-in-requires returns)
+    (tie.spec (λ c. search needs) (λ c. search needs) (λ c κs. search needs) (λ c κs. search needs) returns)

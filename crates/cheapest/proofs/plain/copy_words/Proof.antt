@@ -27,9 +27,6 @@ loop-holds c = (search needs, refl)
 slice-write-out : tie.Need-slice-write-out Inv-loop μ-loop
 slice-write-out c = let l = c .before .before in omega (arith, size l, l .before .pre .1)
 
-mul-out-2 : tie.Need-mul-out-2 Inv-loop μ-loop
-mul-out-2 c = search needs
-
 loop-again : tie.Need-loop-again Inv-loop μ-loop
 loop-again c =
     let l = c .before .before in
@@ -53,5 +50,5 @@ pub copy-words-spec : {M : Type 1} → statement M
 copy-words-spec =
     tie.close
     (tie.spec
-    Inv-loop μ-loop loop-holds (λ c. search needs) (λ c. search needs) mul-out-2 slice-write-out (λ c. search needs) (λ c. search needs)
+    Inv-loop μ-loop loop-holds (λ c. search needs) (λ c. search needs) (λ c. search needs) slice-write-out (λ c. search needs) (λ c. search needs)
     loop-again same-length returns)

@@ -17,18 +17,6 @@ use borrow.Author.Needs.{needs}
 use Rattle.cheapest.proofs.plain.search.Statement.{statement}
 use Rattle.cheapest.proofs.plain.search.Tie as tie
 
-slice-aggregate-find : tie.Need-slice-aggregate-find
-slice-aggregate-find c = search needs
-
-find-requires : tie.Need-find-requires
-find-requires c κs = search needs
-
-nodes-in-requires : tie.Need-nodes-in-requires
-nodes-in-requires c κs = search needs
-
-slice-aggregate-copy-words : tie.Need-slice-aggregate-copy-words
-slice-aggregate-copy-words c = search needs
-
 -- what stands in the words
 module _ (c : tie.After-nodes-in) where
   abbrev found : tie.After-find
@@ -78,9 +66,6 @@ copy-words-requires c κs =
     let k = c .before .before in
     (omega (arith, small k, found k .find .kept .1 .1 .1 .0), roomy k)
 
-same-length : tie.Need-same-length
-same-length c = search needs
-
 returns : tie.Need-returns
 returns c =
     let k = c .before .before .before .before .before in
@@ -105,4 +90,4 @@ pub search-spec : {M : Type 1} → statement M
 search-spec =
     tie.close
     (tie.spec
-    slice-aggregate-find find-requires nodes-in-requires slice-aggregate-copy-words mul-copy-words copy-words-requires same-length returns)
+    (λ c. search needs) (λ c κs. search needs) (λ c κs. search needs) (λ c. search needs) mul-copy-words copy-words-requires (λ c. search needs) returns)
