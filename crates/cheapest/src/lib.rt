@@ -8,6 +8,7 @@ ghost use Rattle.searched.specs.Claim.{Claim};
 ghost use Rattle.nodes.specs.Nodes.{asNode};
 ghost use Rattle.cheapest.specs.Kept.{answer, byValue, KeptAs};
 use finding::Sought;
+use node_words::limits;
 use nodes;
 use nodes::Node;
 
@@ -15,22 +16,22 @@ use nodes::Node;
 // found.
 pub struct Searched {
     pub sought: Sought,
-    pub steps: [u8; 1023],
+    pub steps: [u8; limits::MAX_FOUND],
 }
 
 // With the words of the nodes kept.
 struct Kept {
     pub searched: Searched,
     pub nodes: usize,
-    pub words: [u64; 4096],
+    pub words: [u64; limits::LIST_WORDS],
 }
 
 // Searches over words of its own, for a list with so much room.
 fn searched_words<'a>(file: &'a [u8], limit: usize, room: usize) -> Kept
     ensures { λ r. ⌜ KeptAs (now (file .entry)) limit room r ⌝ }
 {
-    let mut words: [u64; 4096] = [0; 4096];
-    let mut steps: [u8; 1023] = [0; 1023];
+    let mut words: [u64; limits::LIST_WORDS] = [0; limits::LIST_WORDS];
+    let mut steps: [u8; limits::MAX_FOUND] = [0; limits::MAX_FOUND];
     let sought = finding::find(file, limit, room, &mut words, &mut steps);
     let nodes = plain::nodes_in(sought);
     let searched = Searched { sought, steps };

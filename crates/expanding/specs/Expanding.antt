@@ -7,6 +7,7 @@ use Prim.Native.Nat.{ℕ, _≤_, _<_}
 use lib.ListN.{length}
 use Rattle.meaning.specs.Task.{Task}
 use Rattle.meaning.specs.Meaning.{applies}
+use Rattle.task.specs.Limits.{MAX-ACTIONS}
 use Rattle.task.specs.Rows.{Rows}
 use Rattle.state.specs.Member.{member}
 use Rattle.leading.specs.Leading.{LedTo}
@@ -15,6 +16,7 @@ use Rattle.settling.specs.Amounts.{AMPLE}
 use Rattle.layout.specs.Rows.{Spells}
 use Rattle.layout.specs.Actions
 use Rattle.layout.specs.Actions.{Noted}
+use Rattle.searching.specs.Limits.{MAX-NODES}
 use Rattle.searching.specs.Search.{Node, tried}
 use Rattle.node_words.specs.Words.{packedAt, stateOf, asNode}
 use Rattle.meeting.specs.Meeting.{Nodes, listOf, Held, roomed, keptAs, AllBelow, MetAs}
@@ -26,7 +28,7 @@ pub record Listed (ms vs starts : List ℕ) (t : Task) : Type 0 where
   pub rows : Rows ms vs
   pub spells : Spells ms vs t
   pub all-actions : length starts ≡ length (t .actions)
-  pub few-actions : length starts ≤ 128
+  pub few-actions : length starts ≤ MAX-ACTIONS
   pub noted : Noted t starts
   pub inside : Actions.AllBelow (length ms) starts
 
@@ -36,7 +38,7 @@ pub record Listed (ms vs starts : List ℕ) (t : Task) : Type 0 where
 pub record Trying (limit : ℕ) (x : Packed) (s : Nodes) : Type 0 where
   pub ample : x .cost < AMPLE
   pub room : s .count ≤ limit
-  pub limited : limit ≤ 1024
+  pub limited : limit ≤ MAX-NODES
   pub held : Held s
   pub fresh : s .taken (s .count) ≡ false
 
@@ -51,7 +53,7 @@ Tried z x before after t k =
 -- the place of turn u is taken, and none of its actions tried yet
 pub record Expanding (u : Turn) (s : Nodes) (t : Task) : Type 0 where
   pub room : s .count ≤ u .limit
-  pub limited : u .limit ≤ 1024
+  pub limited : u .limit ≤ MAX-NODES
   pub placed : u .place < s .count
   pub held : Held s
   pub below : AllBelow (t .facts) s

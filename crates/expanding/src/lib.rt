@@ -6,6 +6,7 @@ ghost use lib.ListN.{length};
 ghost use Rattle.meaning.specs.Task.{Task};
 ghost use Rattle.task.specs.Rows.{Rows};
 ghost use Rattle.plan.specs.Steps.{ActionAt, SomeAction};
+ghost use Rattle.searching.specs.Limits.{MAX-NODES};
 ghost use Rattle.meeting.specs.Meeting.{nodesIn};
 ghost use Rattle.expanding.specs.Expanding.{Listed, Trying, Tried, Expanding, Expanded};
 use leading;
@@ -31,7 +32,7 @@ struct Trial {
 
 // The link of a node that an action leads to from a place.
 fn link(place: usize, action: usize) -> u64
-    requires { ⌜ (place < 1024) × (action < 256) ⌝ }
+    requires { ⌜ (place < MAX-NODES) × (action < 256) ⌝ }
     ensures { λ r. ⌜ r ≡ place * 256 + action ⌝ }
 {
     (place as u64) * 256 + (action as u64)

@@ -5,9 +5,10 @@ use Prim.Native.Nat.{ℕ, _≤_}
 use lib.Dec.{T}
 use lib.ListN.{length, take, drop}
 use Rattle.meaning.specs.Task.{Task, wellFormed}
+use Rattle.searching.specs.Limits.{MAX-NODES, MAX-FOUND}
 use Rattle.searching.specs.Search.{explore}
 use Rattle.searched.specs.Searched.{Answer, Searched, found, no-plan, full, refused, refusal}
-use Rattle.node_words.specs.Words.{nodesOf}
+use Rattle.node_words.specs.Words.{LIST-WORDS, nodesOf}
 use Rattle.exploring.specs.Exploring.{asAnswer}
 use Rattle.exploring.specs.declared.Ended.{Ended}
 use Rattle.finding.specs.declared.Sought.{Sought}
@@ -39,9 +40,9 @@ planAfter (refused n i) area = area
 
 -- steps and nodes that have room
 abbrev pub Bounded : Sought → Type 0
-Bounded (Found r n) = (r .steps ≤ 1023) × (n ≤ 1024)
-Bounded (NoPlan n) = n ≤ 1024
-Bounded (Full n) = n ≤ 1024
+Bounded (Found r n) = (r .steps ≤ MAX-FOUND) × (n ≤ MAX-NODES)
+Bounded (NoPlan n) = n ≤ MAX-NODES
+Bounded (Full n) = n ≤ MAX-NODES
 Bounded (Refused r) = Unit {0}
 
 -- a refusal leaves the words as they were
@@ -53,9 +54,9 @@ Kept (Refused r) before after = after ≡ before
 
 -- e is how the search of t ended, which has no preferences
 pub record Ending (words : List ℕ) (e : Ended) (t : Task) (limit : ℕ) : Type 0 where
-  pub long : length words ≡ 4096
+  pub long : length words ≡ LIST-WORDS
   pub some : 1 ≤ limit
-  pub limited : limit ≤ 1024
+  pub limited : limit ≤ MAX-NODES
   pub formed : T (wellFormed t)
   pub plain : t .preferences ≡ []
   pub answers : asAnswer words e ≡ explore t limit

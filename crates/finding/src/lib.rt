@@ -5,12 +5,15 @@ ghost use mathlib.Core.Path.{_≡_};
 ghost use Prim.Native.Nat.{ℕ};
 ghost use lib.ListN.{length};
 ghost use Rattle.meaning.specs.Task.{Task};
+ghost use Rattle.searching.specs.Limits.{MAX-FOUND};
 ghost use Rattle.searching.specs.Search.{explore};
+ghost use Rattle.node_words.specs.Words.{LIST-WORDS};
 ghost use Rattle.searched.specs.Searched.{searched, searchFile};
 ghost use Rattle.finding.specs.declared.Sought.the-variants.{Refused};
 ghost use Rattle.finding.specs.Finding.{asSearched, asSought, planAfter, Bounded, Kept, Ending};
 use exploring::Ended;
 use node_words;
+use node_words::limits;
 use origins;
 use task::Checked;
 use task::Refusal;
@@ -38,7 +41,7 @@ fn refuse(number: u8) -> Sought
 
 // The answer of a search that has ended, its plan written out.
 fn deliver(words: &[u64], e: Ended, plan: &mut [u8]) -> Sought
-    requires { ⌜ (length (now plan) ≡ 1023) × ((t : Task) × (limit : ℕ) × Ending (now words) e t limit) ⌝ }
+    requires { ⌜ (length (now plan) ≡ MAX-FOUND) × ((t : Task) × (limit : ℕ) × Ending (now words) e t limit) ⌝ }
     ensures { λ r. ⌜ Bounded r ⌝ }
     ensures { λ r. ⌜ ((t : Task) (limit : ℕ) → Ending (now (words .entry)) e t limit
         → (asSearched (now (plan .exit)) (now (words .entry)) r ≡ searched (explore t limit))
@@ -58,7 +61,7 @@ fn deliver(words: &[u64], e: Ended, plan: &mut [u8]) -> Sought
 // Searches the task in a file, for a list with so much room: the nodes kept stand in the words, the plan found in `plan`. What the words
 // hold after the nodes is left free, but for a refusal.
 pub fn find(file: &[u8], limit: usize, room: usize, words: &mut [u64], plan: &mut [u8]) -> Sought
-    requires { ⌜ (length (now words) ≡ 4096) × (length (now plan) ≡ 1023) ⌝ }
+    requires { ⌜ (length (now words) ≡ LIST-WORDS) × (length (now plan) ≡ MAX-FOUND) ⌝ }
     ensures { λ r. ⌜ asSearched (now (plan .exit)) (now (words .exit)) r ≡ searchFile (now (file .entry)) limit room ⌝ }
     ensures { λ r. ⌜ r ≡ asSought (searchFile (now (file .entry)) limit room) ⌝ }
     ensures { λ r. ⌜ now (plan .exit) ≡ planAfter (searchFile (now (file .entry)) limit room .answer) (now (plan .entry)) ⌝ }
@@ -71,7 +74,7 @@ pub fn find(file: &[u8], limit: usize, room: usize, words: &mut [u64], plan: &mu
     if z.preferences != 0 {
         return refuse(refused::PREFERENCES);
     }
-    if !((1 <= limit) & (limit <= 1024) & (limit <= room)) {
+    if !((1 <= limit) & (limit <= limits::MAX_NODES) & (limit <= room)) {
         return refuse(refused::LIMIT);
     }
     let middle = 8 + z.rows;

@@ -9,7 +9,7 @@ use lib.ListN.{length}
 use Rattle.state.specs.Member.{member}
 use Rattle.searching.specs.Search.{Node, Kept, meet, fit}
 use Rattle.searching.specs.States.{Below}
-use Rattle.node_words.specs.Words.{packedAt, stateOf, asNode, nodesOf, Written}
+use Rattle.node_words.specs.Words.{LIST-WORDS, packedAt, stateOf, asNode, nodesOf, Written}
 use Rattle.node_words.specs.declared.Packed.{Packed}
 use Rattle.state_table.specs.Table.{Tabled}
 use Rattle.tournament.specs.Tournament.{costAt, Nowhere, Played}
@@ -43,7 +43,7 @@ Narrow x = (x .low < 2 ^ 64) × (x .high < 2 ^ 64)
 
 -- words, table and tree have the nodes
 pub record Held (s : Nodes) : Type 0 where
-  pub long : length (s .words) ≡ 4096
+  pub long : length (s .words) ≡ LIST-WORDS
   pub tabled : Tabled (s .table) (s .words) (s .count)
   pub played : Played (s .tree) (s .words) (openBelow (s .count) (s .taken)) Nowhere
   pub narrow : (p : ℕ) → p < s .count → Narrow (packedAt (s .words) p)

@@ -3,6 +3,7 @@ ghost use mathlib.Core.Path.{_≡_};
 ghost use mathlib.Core.Bool.{Bool, true, false};
 ghost use Prim.Native.Nat.{ℕ, suc, _≤_, _<_};
 ghost use lib.ListN.{length, set};
+ghost use Rattle.searching.specs.Limits.{MAX-NODES};
 ghost use Rattle.node_words.specs.Words.{Written};
 ghost use Rattle.tournament.specs.Tournament.{Nowhere, Played, withLeaf};
 ghost use Rattle.meeting.specs.Meeting.{nodesIn, Lowered, Held, MetAs};
@@ -45,7 +46,7 @@ pub fn meet(
     limit: usize,
     x: Packed,
 ) -> usize
-    requires { ⌜ (n ≤ limit) × (limit ≤ 1024) × ((taken : ℕ → Bool) × Held (nodesIn (now words) (now table) (now tree) n taken)) ⌝ }
+    requires { ⌜ (n ≤ limit) × (limit ≤ MAX-NODES) × ((taken : ℕ → Bool) × Held (nodesIn (now words) (now table) (now tree) n taken)) ⌝ }
     ensures { λ r.
         let before = nodesIn (now (words .entry)) (now (table .entry)) (now (tree .entry)) n in
         let after = nodesIn (now (words .exit)) (now (table .exit)) (now (tree .exit)) r in

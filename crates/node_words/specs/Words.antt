@@ -6,8 +6,13 @@ use lib.ListN.{length, getD}
 use Rattle.lists.specs.Lists.{singleton}
 use Rattle.state.specs.declared.State.{State}
 use Rattle.state.specs.Member.{member}
+use Rattle.searching.specs.Limits.{MAX-NODES}
 use Rattle.searching.specs.Search.{Node}
 use Rattle.node_words.specs.declared.Packed.{Packed}
+
+-- the words of the longest list of nodes
+abbrev pub LIST-WORDS : ℕ
+LIST-WORDS = 4 * MAX-NODES
 
 -- the words at place p
 unfoldable pub packedAt : List ℕ → ℕ → Packed

@@ -8,12 +8,13 @@ use lib.ListN.{length}
 use Rattle.meaning.specs.Meaning.{cost}
 use Rattle.task.specs.File.{taskOf}
 use Rattle.task.specs.Check
+use Rattle.searching.specs.Limits.{MAX-NODES}
 use Rattle.searching.specs.Search
 use Rattle.searching.specs.Search.{Node, explore, planTo}
 use Rattle.searching.specs.Claim
 use Rattle.searching.specs.Claim.{Cheapest}
 use Rattle.searching.proofs.Claim.{claimed}
-use Rattle.searched.specs.Searched.{MAX-NODES, found, no-plan, full, refused, Searched, answerBy, searchFile}
+use Rattle.searched.specs.Searched.{found, no-plan, full, refused, Searched, answerBy, searchFile}
 use Rattle.searched.specs.Claim.{Claim}
 use Rattle.searched.proofs.Made.{by-made}
 

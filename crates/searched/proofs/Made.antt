@@ -13,8 +13,9 @@ use Rattle.task.specs.Check
 use Rattle.task.specs.Check.{check}
 use Rattle.task.specs.Refused.{PREFERENCES, LIMIT}
 use Rattle.task.proofs.Spelled.{accepted-spelling}
+use Rattle.searching.specs.Limits.{MAX-NODES}
 use Rattle.searching.specs.Search.{explore}
-use Rattle.searched.specs.Searched.{MAX-NODES, Searched, searched, refusal, limitAllowed, searchBy, searchFile}
+use Rattle.searched.specs.Searched.{Searched, searched, refusal, limitAllowed, searchBy, searchFile}
 
 pub no-preferences : (ps : List Preference) → length ps ≡ 0 → ps ≡ []
 no-preferences [] e = refl

@@ -8,10 +8,11 @@ use lib.Dec.{T}
 use lib.ListN.{length}
 use Rattle.meaning.specs.Task.{Task, wellFormed}
 use Rattle.task.specs.File.{taskOf}
+use Rattle.searching.specs.Limits.{MAX-NODES}
 use Rattle.searching.specs.Search.{Node, nodeAt, explore}
 use Rattle.searching.proofs.Turns.{Right}
 use Rattle.searching.proofs.Explored.{explored}
-use Rattle.searched.specs.Searched.{MAX-NODES, Searched, searchFile}
+use Rattle.searched.specs.Searched.{Searched, searchFile}
 use Rattle.searched.proofs.Made.{Made, by-made}
 
 pub record Small (room : ℕ) (ns : List Node) : Type 0 where

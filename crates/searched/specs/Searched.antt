@@ -9,12 +9,9 @@ use Rattle.task.specs.File.{taskOf}
 use Rattle.task.specs.Check
 use Rattle.task.specs.Check.{check}
 use Rattle.task.specs.Refused.{PREFERENCES, LIMIT}
+use Rattle.searching.specs.Limits.{MAX-NODES}
 use Rattle.searching.specs.Search
 use Rattle.searching.specs.Search.{Node, nodeAt, explore, planTo}
-
--- the most nodes that a search may keep
-abbrev pub MAX-NODES : ℕ
-MAX-NODES = 1024
 
 -- a plan and its cost, that no plan solves, that a further node had no room, or a refusal with a number and a place
 pub data Answer : Type 0 where

@@ -1,3 +1,4 @@
+pub mod Limits
 -- The search, and what holds of its answer
 pub mod Search
 pub mod Claim

@@ -7,14 +7,16 @@ use lib.Dec.{eqb}
 use lib.ListN.{length, getD}
 use Rattle.state.specs.declared.State.{State}
 use Rattle.fnv.specs.Fnv.{fnv1a, stateBytes}
+use Rattle.searching.specs.Limits.{MAX-NODES}
 use Rattle.node_words.specs.Words.{packedAt, stateOf}
 
 -- the state of the node at place p
 abbrev pub stateAt : List ℕ → ℕ → State
 stateAt ws p = stateOf (packedAt ws p)
 
+-- twice as many as nodes, so that there is always an empty one
 abbrev pub SLOTS : ℕ
-SLOTS = 2048
+SLOTS = 2 * MAX-NODES
 
 -- the slot that the state's hash says
 unfoldable pub homeOf : State → ℕ
@@ -46,7 +48,7 @@ taken (e ∷ es) = cond (eqb e 0) (taken es) (suc (taken es))
 
 -- the table has the first n nodes, each with a state of its own
 pub record Tabled (table ws : List ℕ) (n : ℕ) : Type 0 where
-  pub few : n ≤ 1024
+  pub few : n ≤ MAX-NODES
   pub room : 4 * n ≤ length ws
   pub slots : length table ≡ SLOTS
   pub known : (r : ℕ) → entryAt table r ≤ n

@@ -2,10 +2,11 @@
 ghost use mathlib.Core.Path.{_≡_};
 ghost use Prim.Native.Nat.{ℕ, _*_, _≤_, _<_};
 ghost use lib.ListN.{length};
-ghost use Rattle.state_table.specs.Table.{homeOf, stopsAt, Tabled, Probed};
+ghost use Rattle.state_table.specs.Table.{SLOTS, homeOf, stopsAt, Tabled, Probed};
+use node_words::limits;
 
-// The number of slots.
-pub const SLOTS: usize = 2048;
+// The number of slots: twice as many as nodes, so that there is always an empty one.
+pub const SLOTS: usize = 2 * limits::MAX_NODES;
 
 // Whether a slot with this entry ends the way: it is empty, or the entry's node has the state.
 fn stops(entry: usize, words: &[u64], low: u64, high: u64) -> bool
@@ -21,9 +22,9 @@ fn stops(entry: usize, words: &[u64], low: u64, high: u64) -> bool
 
 // The slot that the hash of a state says.
 fn home(low: u64, high: u64) -> usize
-    ensures { λ r. ⌜ (r ≡ homeOf (record { low = low; high = high })) × (r < 2048) ⌝ }
+    ensures { λ r. ⌜ (r ≡ homeOf (record { low = low; high = high })) × (r < SLOTS) ⌝ }
 {
-    (fnv::of_state(low, high) % 2048) as usize
+    (fnv::of_state(low, high) as usize) % SLOTS
 }
 
 // The slot of a state: the one that has its node's place, or the empty one that it would take.
@@ -35,7 +36,7 @@ pub fn probe(table: &[u16], words: &[u64], low: u64, high: u64) -> usize
     let from = home(low, high);
     let mut d = 0;
     while d < SLOTS {
-        let slot = (from + d) % 2048;
+        let slot = (from + d) % SLOTS;
         if stops(table[slot] as usize, words, low, high) {
             return slot;
         }

@@ -1,5 +1,5 @@
--- A tournament tree over the places of a search: 1,024 leaves from node 1,024 on, and in node k below them the cheaper entry of the nodes
--- 2k and 2k + 1. An entry is 0, or a place + 1.
+-- A tournament tree over the places of a search: a leaf for each from node LEAVES on, and in node k before them the cheaper entry of the
+-- nodes 2k and 2k + 1. An entry is 0, or a place + 1.
 use mathlib.Core.Path.{_≡_}
 use mathlib.Core.Logic.{_⊎_}
 use mathlib.Core.Bool.{Bool, cond}
@@ -8,7 +8,16 @@ use mathlib.Core.Option.{Option, none, some}
 use Prim.Native.Nat.{ℕ, zero, suc, _+_, _*_, _/_, _≤_, _<_}
 use lib.Dec.{eqb, ltb}
 use lib.ListN.{length, getD}
+use Rattle.searching.specs.Limits.{MAX-NODES}
 use Rattle.node_words.specs.Words.{packedAt}
+
+-- the leaf of place 0
+abbrev pub LEAVES : ℕ
+LEAVES = MAX-NODES
+
+-- the entries of a tree; entry 0 is none of its nodes
+abbrev pub ENTRIES : ℕ
+ENTRIES = 2 * LEAVES
 
 abbrev pub costAt : List ℕ → ℕ → ℕ
 costAt ws p = packedAt ws p .cost
@@ -39,14 +48,14 @@ Nowhere k = ⊥
 
 -- an entry whose node is among the words
 abbrev pub Known : List ℕ → ℕ → Type 0
-Known ws e = (e ≤ 1024) × (4 * e ≤ length ws)
+Known ws e = (e ≤ MAX-NODES) × (4 * e ≤ length ws)
 
 -- the tree of the open places: each game is played but where `except` says
 pub record Played (tree ws : List ℕ) (isOpen : ℕ → Bool) (except : ℕ → Type 0) : Type 0 where
-  pub nodes : length tree ≡ 2048
+  pub nodes : length tree ≡ ENTRIES
   pub known : (k : ℕ) → Known ws (entryAt tree k)
-  pub leaves : (p : ℕ) → p < 1024 → entryAt tree (1024 + p) ≡ cond (isOpen p) (suc p) 0
-  pub games : (k : ℕ) → 1 ≤ k → k < 1024 → except k ⊎ Game tree ws k
+  pub leaves : (p : ℕ) → p < MAX-NODES → entryAt tree (LEAVES + p) ≡ cond (isOpen p) (suc p) 0
+  pub games : (k : ℕ) → 1 ≤ k → k < LEAVES → except k ⊎ Game tree ws k
 
 -- the open places, where p is now open or not
 abbrev pub withLeaf : ℕ → Bool → (ℕ → Bool) → ℕ → Bool

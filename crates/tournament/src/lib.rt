@@ -3,11 +3,16 @@ ghost use mathlib.Core.Path.{_≡_};
 ghost use mathlib.Core.Bool.{Bool, cond};
 ghost use Prim.Native.Nat.{ℕ, suc, _+_, _*_, _/_, _≤_, _<_};
 ghost use lib.ListN.{length};
-ghost use Rattle.tournament.specs.Tournament.{cheaper, Known, OnWay, Nowhere, Played, withLeaf};
+ghost use Rattle.searching.specs.Limits.{MAX-NODES};
+ghost use Rattle.tournament.specs.Tournament.{LEAVES, cheaper, Known, OnWay, Nowhere, Played, withLeaf};
 use node_words;
+use node_words::limits;
 
 // The leaf of place 0; the leaf of place p is p after it.
-pub const LEAVES: usize = 1024;
+pub const LEAVES: usize = limits::MAX_NODES;
+
+// The entries of a tree; entry 0 is none of its nodes.
+pub const ENTRIES: usize = 2 * LEAVES;
 
 // The cheaper of two entries, on ties the first; 0 is none, and p + 1 the node at place p.
 fn cheaper(words: &[u64], a: usize, b: usize) -> usize
@@ -29,7 +34,7 @@ fn cheaper(words: &[u64], a: usize, b: usize) -> usize
 
 // Plays the games from node k up to the root again.
 pub fn replay(tree: &mut [u16], words: &[u64], k: usize)
-    requires { ⌜ (k < 1024) × ((o : ℕ → Bool) × Played (now tree) (now words) o (OnWay k)) ⌝ }
+    requires { ⌜ (k < LEAVES) × ((o : ℕ → Bool) × Played (now tree) (now words) o (OnWay k)) ⌝ }
     ensures { λ r. ⌜ ((o : ℕ → Bool) → Played (now (tree .entry)) (now (words .entry)) o (OnWay k)
         → Played (now (tree .exit)) (now (words .entry)) o Nowhere) ⌝ }
 {
@@ -44,7 +49,7 @@ pub fn replay(tree: &mut [u16], words: &[u64], k: usize)
 
 // The entry of place p's leaf.
 fn leaf_entry(p: usize, is_open: bool) -> u16
-    requires { ⌜ p < 1024 ⌝ }
+    requires { ⌜ p < MAX-NODES ⌝ }
     ensures { λ r. ⌜ r ≡ cond is_open (suc p) 0 ⌝ }
 {
     if is_open { (p + 1) as u16 } else { 0 }
@@ -53,8 +58,8 @@ fn leaf_entry(p: usize, is_open: bool) -> u16
 // Makes place p open or not, and plays its games again.
 pub fn set_leaf(tree: &mut [u16], words: &[u64], p: usize, is_open: bool)
     requires { ⌜ (p < 1024) × (4 * p + 4 ≤ length (now words)) ⌝ }
-    requires { ⌜ ((o : ℕ → Bool) × Played (now tree) (now words) o (OnWay ((1024 + p) / 2))) ⌝ }
-    ensures { λ r. ⌜ ((o : ℕ → Bool) → Played (now (tree .entry)) (now (words .entry)) o (OnWay ((1024 + p) / 2))
+    requires { ⌜ ((o : ℕ → Bool) × Played (now tree) (now words) o (OnWay ((LEAVES + p) / 2))) ⌝ }
+    ensures { λ r. ⌜ ((o : ℕ → Bool) → Played (now (tree .entry)) (now (words .entry)) o (OnWay ((LEAVES + p) / 2))
         → Played (now (tree .exit)) (now (words .entry)) (withLeaf p is_open o) Nowhere) ⌝ }
 {
     let leaf = LEAVES + p;

@@ -8,7 +8,8 @@ use denote.Ref.{now}
 use lib.ListN.{length, take, length-take}
 use Rattle.text.specs.Area.{Filled}
 use Rattle.searched.specs.Searched
-use Rattle.searched.specs.Searched.{MAX-NODES, Answer, Searched, searchFile}
+use Rattle.searching.specs.Limits.{MAX-NODES}
+use Rattle.searched.specs.Searched.{Answer, Searched, searchFile}
 use Rattle.finding.specs.Finding.{asSearched, Bounded}
 use Rattle.finding.specs.declared.Sought.{Sought}
 use Rattle.finding.specs.declared.Sought.the-variants.{Found, NoPlan, Full, Refused}

@@ -20,7 +20,7 @@ loop-holds c =
     let b = c .before .before in
     record { below = search needs; long = refl; some = b .pre .1; keeps = λ o P. P }
 
--- entries are at most 1,024
+-- entries are at most MAX-NODES
 cast-a : tie.Need-cast-a Inv-loop μ-loop
 cast-a c =
     let l = c .before .before .loop in
