@@ -1,13 +1,12 @@
 // The search, turn by turn: the cheapest open place is taken.
 ghost use mathlib.Core.Path.{_≡_};
-ghost use Prim.Native.Nat.{_+_, _*_, _≤_, _<_};
-ghost use lib.ListN.{length};
 ghost use Rattle.meaning.specs.Task.{Task};
 ghost use Rattle.task.specs.Rows.{Rows};
 ghost use Rattle.state.specs.Member.{member};
 ghost use Rattle.reading.specs.Conditions.{begin, evaluateAt};
+ghost use Rattle.searching.specs.Limits.{NodeLimit};
 ghost use Rattle.searching.specs.Search;
-ghost use Rattle.node_words.specs.Words.{packedAt, stateOf};
+ghost use Rattle.node_words.specs.Words.{Placed, packedAt, stateOf};
 ghost use Rattle.expanding.specs.Expanding.{Listed};
 ghost use Rattle.exploring.specs.Exploring.{Opened, asAnswer};
 use expanding;
@@ -26,7 +25,7 @@ pub enum Ended {
 
 // Whether the node at place p meets the goal, whose condition stands from row `goal` on.
 fn meets_goal(marks: &[u8], values: &[u8], goal: usize, words: &[u64], p: usize) -> bool
-    requires { ⌜ Rows (now marks) (now values) × (p < 1024) × (4 * p + 4 ≤ length (now words)) ⌝ }
+    requires { ⌜ Rows (now marks) (now values) × Placed (now words) p ⌝ }
     ensures { λ r. ⌜ r ≡ evaluateAt (member (stateOf (packedAt (now (words .entry)) p))) begin (now (marks .entry)) (now (values .entry)) goal .holds ⌝ }
 {
     let x = node_words::node_at(words, p);
@@ -49,7 +48,7 @@ pub fn explore(
     table: &mut [u16],
     tree: &mut [u16],
 ) -> Ended
-    requires { ⌜ (1 ≤ limit) × (limit ≤ 1024) ⌝ }
+    requires { ⌜ NodeLimit limit ⌝ }
     requires { ⌜ ((t : Task) × Listed (now marks) (now values) (now starts) t × Opened goal (now words) (now table) (now tree) t) ⌝ }
     ensures { λ r. ⌜ ((t : Task) → Listed (now (marks .entry)) (now (values .entry)) (now (starts .entry)) t
         → Opened goal (now (words .entry)) (now (table .entry)) (now (tree .entry)) t → asAnswer (now (words .exit)) r ≡ Search.explore t limit) ⌝ }

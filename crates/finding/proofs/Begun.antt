@@ -57,7 +57,7 @@ held-none words table tree f long t0 r0 =
       played =
           record {
             nodes = ap length r0 ∙ length-replicate {A = ℕ} 2048 0;
-            known = λ k. let e = empty k in (omega (arith, e), omega (arith, e));
+            known = λ k. let e = empty k in record { few = omega (arith, e); room = omega (arith, e) };
             leaves = λ p h. empty (1024 + p) ∙ ap (λ (b : Bool). cond (b && not (f p)) (suc p) 0) (sym (le-ltb p 0 (omega arith)));
             games = λ k h g. inr (empty k ∙ sym (empty (2 * k + 1)) ∙ ap (λ (a : ℕ). cheaper words a (getD tree (2 * k + 1) 0)) (sym (empty (2 * k))));
           };

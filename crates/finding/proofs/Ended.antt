@@ -26,7 +26,7 @@ module _ (words : List ℕ) (e : Ended.Ended) (t : Task) (limit : ℕ) (E : Endi
   ns = explore t limit .nodes
 
   right : Right t limit (explore t limit)
-  right = explored t (E .formed) limit (E .some) (E .plain)
+  right = explored t (E .formed) limit (E .allowed .some) (E .plain)
 
   -- so many nodes are kept
   count : (n : ℕ) → nodesOf words n ≡ ns → n ≤ limit
@@ -44,19 +44,19 @@ module _ (words : List ℕ) (e : Ended.Ended) (t : Task) (limit : ℕ) (E : Endi
     outcome = sym (ap (λ (a : Search.Answer). a .outcome) ends)
 
     plan-is : Found t limit ns i
-    plan-is = when-found t (E .formed) limit (E .some) (E .plain) i outcome
+    plan-is = when-found t (E .formed) limit (E .allowed .some) (E .plain) i outcome
 
     pub few : n ≤ 1024
-    few = omega (arith, count n nodes, E .limited)
+    few = omega (arith, count n nodes, E .allowed .few)
 
     pub placed : i < n
     placed = omega (arith, nodes-length words n, ap length nodes, plan-is .inside)
 
     pub inside : Inside (nodesOf words n)
-    inside = subst Inside (sym nodes) (origins-inside t (E .formed) (E .plain) limit (E .some))
+    inside = subst Inside (sym nodes) (origins-inside t (E .formed) (E .plain) limit (E .allowed .some))
 
     pub short : length (planTo (nodesOf words n) i) ≤ 1023
-    short = omega (arith, ap (λ (l : List Node). length (planTo l i)) nodes, plan-is .short, E .limited)
+    short = omega (arith, ap (λ (l : List Node). length (planTo l i)) nodes, plan-is .short, E .allowed .few)
 
     pub delivered : (steps cost : ℕ) (before after : List ℕ) → steps ≡ length (planTo (nodesOf words n) i) → cost ≡ packedAt words i .cost
         → after ≡ planTo (nodesOf words n) i ++ drop steps before
@@ -75,10 +75,10 @@ module _ (words : List ℕ) (e : Ended.Ended) (t : Task) (limit : ℕ) (E : Endi
   -- Without a plan
 
   pub none-few : (n : ℕ) → e ≡ the-variants.NoPlan n → n ≤ 1024
-  none-few n at = omega (arith, count n (ap (λ (a : Search.Answer). a .nodes) (ap (asAnswer words) (sym at) ∙ E .answers)), E .limited)
+  none-few n at = omega (arith, count n (ap (λ (a : Search.Answer). a .nodes) (ap (asAnswer words) (sym at) ∙ E .answers)), E .allowed .few)
 
   pub full-few : (n : ℕ) → e ≡ the-variants.Full n → n ≤ 1024
-  full-few n at = omega (arith, count n (ap (λ (a : Search.Answer). a .nodes) (ap (asAnswer words) (sym at) ∙ E .answers)), E .limited)
+  full-few n at = omega (arith, count n (ap (λ (a : Search.Answer). a .nodes) (ap (asAnswer words) (sym at) ∙ E .answers)), E .allowed .few)
 
   pub none-delivered : (n : ℕ) → e ≡ the-variants.NoPlan n → (area : List ℕ)
       → (_≡_ {A = Searched} (record { answer = Searched.no-plan; kept = nodesOf words n }) (searched (explore t limit)))

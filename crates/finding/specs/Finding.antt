@@ -5,7 +5,7 @@ use Prim.Native.Nat.{ℕ, _≤_}
 use lib.Dec.{T}
 use lib.ListN.{length, take, drop}
 use Rattle.meaning.specs.Task.{Task, wellFormed}
-use Rattle.searching.specs.Limits.{MAX-NODES, MAX-FOUND}
+use Rattle.searching.specs.Limits.{MAX-NODES, MAX-FOUND, NodeLimit}
 use Rattle.searching.specs.Search.{explore}
 use Rattle.searched.specs.Searched.{Answer, Searched, found, no-plan, full, refused, refusal}
 use Rattle.node_words.specs.Words.{LIST-WORDS, nodesOf}
@@ -55,8 +55,7 @@ Kept (Refused r) before after = after ≡ before
 -- e is how the search of t ended, which has no preferences
 pub record Ending (words : List ℕ) (e : Ended) (t : Task) (limit : ℕ) : Type 0 where
   pub long : length words ≡ LIST-WORDS
-  pub some : 1 ≤ limit
-  pub limited : limit ≤ MAX-NODES
+  pub allowed : NodeLimit limit
   pub formed : T (wellFormed t)
   pub plain : t .preferences ≡ []
   pub answers : asAnswer words e ≡ explore t limit

@@ -7,6 +7,7 @@ ghost use Rattle.task.specs.Limits.{MAX-ACTIONS};
 ghost use Rattle.task.specs.Rows.{Rows};
 ghost use Rattle.layout.specs.Rows.{Spells, Spelled};
 ghost use Rattle.layout.specs.Actions.{actionsFrom};
+ghost use Rattle.searching.specs.Limits.{NodeLimit};
 ghost use Rattle.searching.specs.Search;
 ghost use Rattle.node_words.specs.Words.{LIST-WORDS};
 ghost use Rattle.exploring.specs.Exploring.{asAnswer};
@@ -23,7 +24,7 @@ use tournament;
 // Searches the task that the rows spell. The opening node is met as any other, by a table and a tree that hold none.
 pub fn on_rows(marks: &[u8], values: &[u8], limit: usize, words: &mut [u64]) -> Ended
     requires { ⌜ Rows (now marks) (now values) × Spelled (now marks) (now values) × (length (actionsFrom 0 (now marks)) ≤ MAX-ACTIONS) ⌝ }
-    requires { ⌜ (1 ≤ limit) × (limit ≤ 1024) × (length (now words) ≡ LIST-WORDS) ⌝ }
+    requires { ⌜ NodeLimit limit × (length (now words) ≡ LIST-WORDS) ⌝ }
     ensures { λ r. ⌜ ((t : Task) → Spells (now (marks .entry)) (now (values .entry)) t → asAnswer (now (words .exit)) r ≡ Search.explore t limit) ⌝ }
 {
     let start = opening::opening(marks, values);

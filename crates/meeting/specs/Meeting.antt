@@ -41,6 +41,12 @@ openBelow n taken q = ltb q n && not (taken q)
 abbrev pub Narrow : Packed → Type 0
 Narrow x = (x .low < 2 ^ 64) × (x .high < 2 ^ 64)
 
+-- every game of the tree is played, over the words of the longest list
+pub record PlayedOut (words tree : List ℕ) : Type 0 where
+  pub long : length words ≡ LIST-WORDS
+  pub isOpen : ℕ → Bool
+  pub played : Played tree words isOpen Nowhere
+
 -- words, table and tree have the nodes
 pub record Held (s : Nodes) : Type 0 where
   pub long : length (s .words) ≡ LIST-WORDS

@@ -6,7 +6,7 @@ ghost use lib.ListN.{length, set};
 ghost use Rattle.searching.specs.Limits.{MAX-NODES};
 ghost use Rattle.node_words.specs.Words.{Written};
 ghost use Rattle.tournament.specs.Tournament.{Nowhere, Played, withLeaf};
-ghost use Rattle.meeting.specs.Meeting.{nodesIn, Lowered, Held, MetAs};
+ghost use Rattle.meeting.specs.Meeting.{nodesIn, Lowered, PlayedOut, Held, MetAs};
 use node_words;
 use node_words::Packed;
 use state_table;
@@ -14,7 +14,7 @@ use tournament;
 
 // A further way to the state of the node at place p: put in where it costs less.
 fn lower(words: &mut [u64], tree: &mut [u16], p: usize, x: Packed)
-    requires { ⌜ (p < 1024) × (length (now words) ≡ 4096) × ((o : ℕ → Bool) × Played (now tree) (now words) o Nowhere) ⌝ }
+    requires { ⌜ (p < MAX-NODES) × PlayedOut (now words) (now tree) ⌝ }
     ensures { λ r. ⌜ Lowered (now (words .entry)) (now (words .exit)) p x ⌝ }
     ensures { λ r. ⌜ ((o : ℕ → Bool) → Played (now (tree .entry)) (now (words .entry)) o Nowhere
         → Played (now (tree .exit)) (now (words .exit)) o Nowhere) ⌝ }
@@ -27,7 +27,7 @@ fn lower(words: &mut [u64], tree: &mut [u16], p: usize, x: Packed)
 
 // A new node at place n, whose slot is empty.
 fn add(words: &mut [u64], table: &mut [u16], tree: &mut [u16], slot: usize, n: usize, x: Packed)
-    requires { ⌜ (n < 1024) × (length (now words) ≡ 4096) × (slot < length (now table)) × ((o : ℕ → Bool) × Played (now tree) (now words) o Nowhere) ⌝ }
+    requires { ⌜ (n < MAX-NODES) × (slot < length (now table)) × PlayedOut (now words) (now tree) ⌝ }
     ensures { λ r. ⌜ Written (now (words .entry)) (now (words .exit)) n x × (now (table .exit) ≡ set (now (table .entry)) slot (suc n)) ⌝ }
     ensures { λ r. ⌜ ((o : ℕ → Bool) → Played (now (tree .entry)) (now (words .entry)) o Nowhere
         → Played (now (tree .exit)) (now (words .exit)) (withLeaf n true o) Nowhere) ⌝ }

@@ -1,7 +1,7 @@
 -- The nodes of a search as words, four for each.
 use mathlib.Core.Path.{_≡_}
 use mathlib.Core.List.{List, [], _++_}
-use Prim.Native.Nat.{ℕ, zero, suc, _+_, _*_, _/_, _%_}
+use Prim.Native.Nat.{ℕ, zero, suc, _+_, _*_, _/_, _%_, _≤_}
 use lib.ListN.{length, getD}
 use Rattle.lists.specs.Lists.{singleton}
 use Rattle.state.specs.declared.State.{State}
@@ -13,6 +13,15 @@ use Rattle.node_words.specs.declared.Packed.{Packed}
 -- the words of the longest list of nodes
 abbrev pub LIST-WORDS : ℕ
 LIST-WORDS = 4 * MAX-NODES
+
+-- the words of n nodes are there, no more than a search may keep
+pub record RoomFor (ws : List ℕ) (n : ℕ) : Type 0 where
+  pub few : n ≤ MAX-NODES
+  pub room : 4 * n ≤ length ws
+
+-- those of the node at place p, and of all before it
+abbrev pub Placed : List ℕ → ℕ → Type 0
+Placed ws p = RoomFor ws (suc p)
 
 -- the words at place p
 unfoldable pub packedAt : List ℕ → ℕ → Packed

@@ -2,9 +2,7 @@
 pub mod limits;
 
 ghost use mathlib.Core.Path.{_≡_};
-ghost use Prim.Native.Nat.{_+_, _*_, _<_, _≤_};
-ghost use lib.ListN.{length};
-ghost use Rattle.node_words.specs.Words.{packedAt, Written};
+ghost use Rattle.node_words.specs.Words.{Placed, packedAt, Written};
 
 // A node: the two words of its state, its cost, and its origin times 256 plus its action.
 pub struct Packed {
@@ -16,7 +14,7 @@ pub struct Packed {
 
 // The node at place p.
 pub fn node_at(words: &[u64], p: usize) -> Packed
-    requires { ⌜ (p < 1024) × (4 * p + 4 ≤ length (now words)) ⌝ }
+    requires { ⌜ Placed (now words) p ⌝ }
     ensures { λ r. ⌜ r ≡ packedAt (now (words .entry)) p ⌝ }
 {
     let at = 4 * p;
@@ -34,7 +32,7 @@ pub fn node_at(words: &[u64], p: usize) -> Packed
 
 // The cost of the node at place p.
 pub fn cost_at(words: &[u64], p: usize) -> u64
-    requires { ⌜ (p < 1024) × (4 * p + 4 ≤ length (now words)) ⌝ }
+    requires { ⌜ Placed (now words) p ⌝ }
     ensures { λ r. ⌜ r ≡ packedAt (now (words .entry)) p .cost ⌝ }
 {
     words[4 * p + 2]
@@ -42,7 +40,7 @@ pub fn cost_at(words: &[u64], p: usize) -> u64
 
 // Writes a node at place p.
 pub fn put_node(words: &mut [u64], p: usize, x: Packed)
-    requires { ⌜ (p < 1024) × (4 * p + 4 ≤ length (now words)) ⌝ }
+    requires { ⌜ Placed (now words) p ⌝ }
     ensures { λ r. ⌜ Written (now (words .entry)) (now (words .exit)) p x ⌝ }
 {
     let at = 4 * p;

@@ -1,8 +1,9 @@
 // A list of nodes that a caller lends.
 ghost use mathlib.Core.Path.{_≡_};
 ghost use mathlib.Core.List.{_++_};
-ghost use Prim.Native.Nat.{_+_, _*_, _<_, _≤_};
+ghost use Prim.Native.Nat.{_<_, _≤_};
 ghost use lib.ListN.{length, set, drop};
+ghost use Rattle.node_words.specs.Words.{RoomFor, Placed};
 ghost use Rattle.nodes.specs.Nodes.{nodeAt, nodeOf, upTo};
 use node_words;
 use state::State;
@@ -40,7 +41,7 @@ pub fn put_node(nodes: &mut [Node], i: usize, n: Node)
 
 // The node whose words stand at place i.
 pub fn node_of<'a>(i: usize, words: &'a [u64]) -> Node
-    requires { ⌜ (i < 1024) × (4 * i + 4 ≤ length (now words)) ⌝ }
+    requires { ⌜ Placed (now words) i ⌝ }
     ensures { λ r. ⌜ r ≡ nodeOf (now (words .entry)) i ⌝ }
 {
     let x = node_words::node_at(words, i);
@@ -58,7 +59,7 @@ pub fn node_of<'a>(i: usize, words: &'a [u64]) -> Node
 
 // The first n nodes come from their words, and the others are as they were.
 pub fn fill<'b, 'a>(nodes: &'b mut [Node], n: usize, words: &'a [u64])
-    requires { ⌜ (n ≤ length (now nodes)) × (n ≤ 1024) × (4 * n ≤ length (now words)) ⌝ }
+    requires { ⌜ (n ≤ length (now nodes)) × RoomFor (now words) n ⌝ }
     ensures { λ r. ⌜ now (nodes .exit) ≡ upTo (nodeOf (now (words .entry))) n ++ drop n (now (nodes .entry)) ⌝ }
 {
     let mut i = 0;

@@ -1,16 +1,16 @@
 // The plan that leads to a node, read from the origins.
 ghost use mathlib.Core.Path.{_≡_};
 ghost use mathlib.Core.List.{_++_};
-ghost use Prim.Native.Nat.{_+_, _*_, _/_, _%_, _≤_, _<_};
+ghost use Prim.Native.Nat.{_/_, _%_, _≤_};
 ghost use lib.ListN.{length, drop};
 ghost use Rattle.searching.specs.Search.{planTo};
-ghost use Rattle.node_words.specs.Words.{packedAt, nodesOf};
-ghost use Rattle.origins.specs.Origins.{Inside};
+ghost use Rattle.node_words.specs.Words.{Placed, packedAt, nodesOf};
+ghost use Rattle.origins.specs.Origins.{PlaceIn};
 use node_words;
 
 // The place from which the node at place p was reached.
 fn origin_at(words: &[u64], p: usize) -> usize
-    requires { ⌜ (p < 1024) × (4 * p + 4 ≤ length (now words)) ⌝ }
+    requires { ⌜ Placed (now words) p ⌝ }
     ensures { λ r. ⌜ r ≡ packedAt (now (words .entry)) p .link / 256 ⌝ }
 {
     let x = node_words::node_at(words, p);
@@ -19,7 +19,7 @@ fn origin_at(words: &[u64], p: usize) -> usize
 
 // The action that led to it.
 fn action_at(words: &[u64], p: usize) -> u8
-    requires { ⌜ (p < 1024) × (4 * p + 4 ≤ length (now words)) ⌝ }
+    requires { ⌜ Placed (now words) p ⌝ }
     ensures { λ r. ⌜ r ≡ packedAt (now (words .entry)) p .link % 256 ⌝ }
 {
     let x = node_words::node_at(words, p);
@@ -28,7 +28,7 @@ fn action_at(words: &[u64], p: usize) -> u8
 
 // How many steps lead to a place of n nodes.
 fn count_steps(words: &[u64], n: usize, place: usize) -> usize
-    requires { ⌜ (place < n) × (n ≤ 1024) × (4 * n ≤ length (now words)) × Inside (nodesOf (now words) n) ⌝ }
+    requires { ⌜ PlaceIn (now words) n place ⌝ }
     ensures { λ r. ⌜ r ≡ length (planTo (nodesOf (now (words .entry)) n) place) ⌝ }
 {
     let mut i = place;
@@ -45,7 +45,7 @@ fn count_steps(words: &[u64], n: usize, place: usize) -> usize
 
 // Writes the steps that lead to a place of n nodes, from the last one back.
 fn put_steps(words: &[u64], n: usize, place: usize, steps: usize, plan: &mut [u8])
-    requires { ⌜ (place < n) × (n ≤ 1024) × (4 * n ≤ length (now words)) × Inside (nodesOf (now words) n) ⌝ }
+    requires { ⌜ PlaceIn (now words) n place ⌝ }
     requires { ⌜ (steps ≡ length (planTo (nodesOf (now words) n) place)) × (steps ≤ length (now plan)) ⌝ }
     ensures { λ r. ⌜ now (plan .exit) ≡ planTo (nodesOf (now (words .entry)) n) place ++ drop steps (now (plan .entry)) ⌝ }
 {
@@ -60,7 +60,7 @@ fn put_steps(words: &[u64], n: usize, place: usize, steps: usize, plan: &mut [u8
 
 // Writes the plan that leads to a place of n nodes, and answers how many steps it has.
 pub fn put_plan(words: &[u64], n: usize, place: usize, plan: &mut [u8]) -> usize
-    requires { ⌜ (place < n) × (n ≤ 1024) × (4 * n ≤ length (now words)) × Inside (nodesOf (now words) n) ⌝ }
+    requires { ⌜ PlaceIn (now words) n place ⌝ }
     requires { ⌜ length (planTo (nodesOf (now words) n) place) ≤ length (now plan) ⌝ }
     ensures { λ r. ⌜ r ≡ length (planTo (nodesOf (now (words .entry)) n) place) ⌝ }
     ensures { λ r. ⌜ now (plan .exit) ≡ planTo (nodesOf (now (words .entry)) n) place ++ drop r (now (plan .entry)) ⌝ }

@@ -63,4 +63,4 @@ module _ (b : List ℕ) (limit : ℕ) where
 pub search-claim : (b : List ℕ) (limit room : ℕ) → Claim b limit (searchFile b limit room .answer)
 search-claim b limit room =
     by-made b limit room (λ (x : Searched). Claim b limit (x .answer)) (of-refusal b limit)
-    (λ m. of-outcome b limit (m .few) (claimed (taskOf b) (m .formed) (m .plain) limit (m .some)) (explore (taskOf b) limit .outcome) refl)
+    (λ m. of-outcome b limit (m .allowed .few) (claimed (taskOf b) (m .formed) (m .plain) limit (m .allowed .some)) (explore (taskOf b) limit .outcome) refl)

@@ -13,7 +13,7 @@ use Rattle.task.specs.Check
 use Rattle.task.specs.Check.{check}
 use Rattle.task.specs.Refused.{PREFERENCES, LIMIT}
 use Rattle.task.proofs.Spelled.{accepted-spelling}
-use Rattle.searching.specs.Limits.{MAX-NODES}
+use Rattle.searching.specs.Limits.{MAX-NODES, NodeLimit}
 use Rattle.searching.specs.Search.{explore}
 use Rattle.searched.specs.Searched.{Searched, searched, refusal, limitAllowed, searchBy, searchFile}
 
@@ -25,8 +25,7 @@ no-preferences (p ∷ ps) e = absurd (omega arith)
 pub record Made (b : List ℕ) (limit room : ℕ) : Type 0 where
   pub formed : T (wellFormed (taskOf b))
   pub plain : taskOf b .preferences ≡ []
-  pub some : 1 ≤ limit
-  pub few : limit ≤ MAX-NODES
+  pub allowed : NodeLimit limit
   pub roomy : limit ≤ room
 
 module _ (b : List ℕ) (limit room : ℕ) where
@@ -37,8 +36,7 @@ module _ (b : List ℕ) (limit room : ℕ) where
       record {
         formed = s .formed;
         plain = no-preferences (taskOf b .preferences) nothing;
-        some = leb→le 1 limit (search tests);
-        few = leb→le limit MAX-NODES (search tests);
+        allowed = record { some = leb→le 1 limit (search tests); few = leb→le limit MAX-NODES (search tests) };
         roomy = leb→le limit room (search tests);
       }
 

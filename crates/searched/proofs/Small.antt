@@ -39,12 +39,12 @@ module _ (b : List ℕ) (limit room : ℕ) where
   when-made m =
       record {
         roomy = omega (arith, right .listed .room, m .roomy);
-        few = omega (arith, right .listed .room, m .few);
-        inside = origins-inside (taskOf b) (m .formed) (m .plain) limit (m .some);
+        few = omega (arith, right .listed .room, m .allowed .few);
+        inside = origins-inside (taskOf b) (m .formed) (m .plain) limit (m .allowed .some);
       }
     where
       right : Right (taskOf b) limit (explore (taskOf b) limit)
-      right = explored (taskOf b) (m .formed) limit (m .some) (m .plain)
+      right = explored (taskOf b) (m .formed) limit (m .allowed .some) (m .plain)
 
   pub kept-small : Small room (searchFile b limit room .kept)
   kept-small =

@@ -1,7 +1,7 @@
 // A table that finds states by their hash: open addressing, the next slot being tried where one is taken.
 ghost use mathlib.Core.Path.{_≡_};
-ghost use Prim.Native.Nat.{ℕ, _*_, _≤_, _<_};
-ghost use lib.ListN.{length};
+ghost use Prim.Native.Nat.{ℕ, _<_};
+ghost use Rattle.node_words.specs.Words.{RoomFor};
 ghost use Rattle.state_table.specs.Table.{SLOTS, homeOf, stopsAt, Tabled, Probed};
 use node_words::limits;
 
@@ -10,7 +10,7 @@ pub const SLOTS: usize = 2 * limits::MAX_NODES;
 
 // Whether a slot with this entry ends the way: it is empty, or the entry's node has the state.
 fn stops(entry: usize, words: &[u64], low: u64, high: u64) -> bool
-    requires { ⌜ (entry ≤ 1024) × (4 * entry ≤ length (now words)) ⌝ }
+    requires { ⌜ RoomFor (now words) entry ⌝ }
     ensures { λ r. ⌜ r ≡ stopsAt (now (words .entry)) (record { low = low; high = high }) entry ⌝ }
 {
     if entry == 0 {

@@ -10,7 +10,7 @@ use lib.Dec.{ltb}
 use lib.ListN.{length, set, length-set}
 use lib.Seq.{getD-set-same, getD-set-other}
 use borrow.Author.Tests.{eq-eqb, ne-eqb}
-use Rattle.node_words.specs.Words.{packedAt}
+use Rattle.node_words.specs.Words.{Placed, packedAt}
 use Rattle.node_words.specs.declared.Packed.{Packed}
 use Rattle.tournament.specs.Tournament.{cheaper, entryAt, Game, OnWay, Nowhere, Known, Played, withLeaf}
 use Rattle.tournament.proofs.Games.{cheaper-one, up-half}
@@ -72,7 +72,7 @@ module _ (tree ws : List ℕ) (o : ℕ → Bool) (P : Played tree ws o Nowhere) 
     rewritten long =
         record {
           nodes = P .nodes;
-          known = λ k. let h = P .known k in (h .0, omega (arith, h .1));
+          known = λ k. let h = P .known k in record { few = h .few; room = omega (arith, h .room) };
           leaves = P .leaves;
           games = λ k h g. go k h g (ℕ-discrete (entryAt tree (2 * k)) (suc p)) (ℕ-discrete (entryAt tree (2 * k + 1)) (suc p));
         }
@@ -84,8 +84,8 @@ module _ (tree ws : List ℕ) (o : ℕ → Bool) (P : Played tree ws o Nowhere) 
         go k h g (no l) (no r) = inr (game-at k h g ∙ sym (unaffected (entryAt tree (2 * k)) (entryAt tree (2 * k + 1)) l r))
 
 -- a leaf that is set changes the game above it
-module _ (tree ws : List ℕ) (o : ℕ → Bool) (p : ℕ) (P : Played tree ws o (OnWay ((1024 + p) / 2))) (within : p < 1024)
-    (room : 4 * p + 4 ≤ length ws) (b : Bool) where
+module _ (tree ws : List ℕ) (o : ℕ → Bool) (p : ℕ) (P : Played tree ws o (OnWay ((1024 + p) / 2))) (placed : Placed ws p)
+    (b : Bool) where
   abbrev leaf : ℕ
   leaf = cond b (suc p) 0
 
@@ -99,8 +99,8 @@ module _ (tree ws : List ℕ) (o : ℕ → Bool) (p : ℕ) (P : Played tree ws o
   leaf-else k d = getD-set-other tree (1024 + p) k leaf 0 d
 
   leaf-known : (c : Bool) → Known ws (cond c (suc p) 0)
-  leaf-known true = (omega arith, omega arith)
-  leaf-known false = (omega arith, omega arith)
+  leaf-known true = placed
+  leaf-known false = record { few = omega arith; room = omega arith }
 
   new-known : (k : ℕ) → Known ws (entryAt new k)
   new-known k = go (ℕ-discrete k (1024 + p))

@@ -9,7 +9,7 @@ use Prim.Native.Nat.{ℕ, zero, suc, _+_, _*_, _/_, _≤_, _<_}
 use lib.Dec.{eqb, ltb}
 use lib.ListN.{length, getD}
 use Rattle.searching.specs.Limits.{MAX-NODES}
-use Rattle.node_words.specs.Words.{packedAt}
+use Rattle.node_words.specs.Words.{RoomFor, packedAt}
 
 -- the leaf of place 0
 abbrev pub LEAVES : ℕ
@@ -48,7 +48,7 @@ Nowhere k = ⊥
 
 -- an entry whose node is among the words
 abbrev pub Known : List ℕ → ℕ → Type 0
-Known ws e = (e ≤ MAX-NODES) × (4 * e ≤ length ws)
+Known ws e = RoomFor ws e
 
 -- the tree of the open places: each game is played but where `except` says
 pub record Played (tree ws : List ℕ) (isOpen : ℕ → Bool) (except : ℕ → Type 0) : Type 0 where

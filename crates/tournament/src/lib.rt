@@ -1,9 +1,9 @@
 // The open places of a search in a tournament tree, whose root is the cheapest.
 ghost use mathlib.Core.Path.{_≡_};
 ghost use mathlib.Core.Bool.{Bool, cond};
-ghost use Prim.Native.Nat.{ℕ, suc, _+_, _*_, _/_, _≤_, _<_};
-ghost use lib.ListN.{length};
+ghost use Prim.Native.Nat.{ℕ, suc, _+_, _/_, _<_};
 ghost use Rattle.searching.specs.Limits.{MAX-NODES};
+ghost use Rattle.node_words.specs.Words.{Placed};
 ghost use Rattle.tournament.specs.Tournament.{LEAVES, cheaper, Known, OnWay, Nowhere, Played, withLeaf};
 use node_words;
 use node_words::limits;
@@ -57,7 +57,7 @@ fn leaf_entry(p: usize, is_open: bool) -> u16
 
 // Makes place p open or not, and plays its games again.
 pub fn set_leaf(tree: &mut [u16], words: &[u64], p: usize, is_open: bool)
-    requires { ⌜ (p < 1024) × (4 * p + 4 ≤ length (now words)) ⌝ }
+    requires { ⌜ Placed (now words) p ⌝ }
     requires { ⌜ ((o : ℕ → Bool) × Played (now tree) (now words) o (OnWay ((LEAVES + p) / 2))) ⌝ }
     ensures { λ r. ⌜ ((o : ℕ → Bool) → Played (now (tree .entry)) (now (words .entry)) o (OnWay ((LEAVES + p) / 2))
         → Played (now (tree .exit)) (now (words .entry)) (withLeaf p is_open o) Nowhere) ⌝ }

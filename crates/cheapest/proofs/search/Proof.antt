@@ -1,7 +1,7 @@
 -- `cheapest::search` meets its contract: a walk of its MIR, by hand, with two calls and no branch. `searched_words` searches over plain words; the words of the nodes kept are
 -- lent to `nodes::fill`, for a lifetime that is made here, and `fill` is handed the list for good. All that is known of either is its contract.
 use mathlib.Core.Path.{_≡_, refl, sym, ap, subst}
-use Prim.Native.Nat.{ℕ, _*_, _<_, _≤_, _^_}
+use Prim.Native.Nat.{ℕ, _<_, _≤_, _^_}
 use native.Mathlib.Omega.{arith}
 use mathlib.Core.List.{[], _∷_, List, map}
 use lib.ListN.{length}
@@ -45,6 +45,7 @@ use denote.Triple.Table.{entered, cited}
 use denote.Triple.Clauses.{Lasts, ensured, lasts}
 use denote.Triple.Walked.{says, Stays, stay-none, gave-slice, stay-none-slice, walkOf, AllGo, goes-none, goes-gave-slice, goes-none-slice, Walks, ends-at, walked, walk-meets}
 use denote.Exit.{yes}
+use Rattle.node_words.specs.Words.{RoomFor}
 use Rattle.nodes.specs.declared.Node.{Node}
 use Rattle.nodes.specs.Nodes.{nodeOf}
 use Rattle.nodes.proofs.Filling.{filled}
@@ -176,8 +177,8 @@ module _ {M : Type 1} (𝓤 : URA M) (H : Heap 𝓤) (A : Atoms 𝓤) (W : Given
       abbrev Handed : Fml
       Handed = owns (MutSlice (named 0) κ′ N.the-row ∷ usize ∷ ShrSlice (named 1) (α ∷ []) u64 ∷ []) given-fill fill-vals
 
-      enough : (k .nodes ≤ length ys) × (k .nodes ≤ 1024) × (4 * k .nodes ≤ length (k .words))
-      enough = (e .fits, e .few, omega (arith, e .few, e .long))
+      enough : (k .nodes ≤ length ys) × RoomFor (k .words) (k .nodes)
+      enough = (e .fits, record { few = e .few; room = omega (arith, e .few, e .long) })
 
       asked-fill : ent 𝓤 (sep 𝓤 (sep 𝓤 (A .lft κ′ q′) (sep 𝓤 (A .lft (α ∷ []) fullShare) (sem 𝓤 H A ftrue))) (sem 𝓤 H A Handed)) (Fill 𝓤 H A mem run .pre to-fill)
       asked-fill = qed W ((‵ (flft κ′ q′) ⊛ (‵ (flft (α ∷ []) fullShare) ⊛ ‵ ftrue)) ∷ ‵ Handed ∷ []) ∵ says ! enough $ frame ! $ done !

@@ -39,7 +39,7 @@ tried d = d .before .before .before .before .before .before
 node-at-requires : tie.Need-node-at-requires Inv-loop μ-loop
 node-at-requires c κs =
     let E = c .before .before .before .before .before .before .before .pre .3 in
-    (omega (arith, E .placed, E .room, E .limited), omega (arith, E .placed, E .room, E .limited, E .held .long))
+    record { few = omega (arith, E .placed, E .room, E .limited); room = omega (arith, E .placed, E .room, E .limited, E .held .long) }
 
 loop-holds : tie.Need-loop-holds Inv-loop μ-loop
 loop-holds c = λ t taken L E. tried-first L E

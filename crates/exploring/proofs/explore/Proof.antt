@@ -2,14 +2,14 @@
 use borrow.Author.Needs.{needs}
 use mathlib.Core.Path.{_≡_, refl, sym, _∙_}
 use mathlib.Core.Bool.{Bool, true, false}
-use Prim.Native.Nat.{ℕ, suc, _+_, _-_, _*_, _/_, _<_, _≤_}
+use Prim.Native.Nat.{ℕ, suc, _+_, _-_, _/_, _<_, _≤_}
 use native.Mathlib.Omega.{arith}
 use denote.Ref.{now}
 use lib.ListN.{length}
 use Rattle.meaning.specs.Task.{Task}
 use Rattle.meaning.specs.Meaning.{isTrue}
 use Rattle.state.specs.Member.{member}
-use Rattle.node_words.specs.Words.{packedAt, stateOf, nodesOf}
+use Rattle.node_words.specs.Words.{Placed, packedAt, stateOf, nodesOf}
 use Rattle.tournament.specs.Tournament.{entryAt, Nowhere, OnWay, Played, withLeaf}
 use Rattle.tournament.proofs.Owners.{rewritten}
 use Rattle.searching.specs.Search.{full, answer, with-place, explore}
@@ -36,7 +36,7 @@ abbrev tried : tie.After-slice-known8 Inv-loop μ-loop → tie.After-expand Inv-
 tried d = d .before .before .before .before .before .before
 
 loop-holds : tie.Need-loop-holds Inv-loop μ-loop
-loop-holds c = λ t L O. let b = c .before .before .before .before .before .before in (λ i. false, turning-first L O (b .args .limit) (b .pre .0 .0))
+loop-holds c = λ t L O. let b = c .before .before .before .before .before .before in (λ i. false, turning-first L O (b .args .limit) (b .pre .0 .some))
 
 -- before a turn
 module _ (l : tie.At-loop Inv-loop μ-loop) where
@@ -76,11 +76,11 @@ module _ (l : tie.At-loop Inv-loop μ-loop) where
     at : entryAt (l .loop .tree) 1 ≡ suc i
     at = omega arith
 
-    placed : (i < 1024) × (4 * i + 4 ≤ length (l .loop .words))
+    placed : Placed (l .loop .words) i
     placed =
         let R = R (s .pre .1 .0) (s .pre .1 .1) (s .pre .1 .2) in
-        let few : i < 1024 = omega (arith, here (s .pre .0 .1) R left i at, room (s .pre .0 .1) R, s .pre .0 .1) in
-        (few, omega (arith, held .long))
+        let few : i < 1024 = omega (arith, here (s .pre .0 .few) R left i at, room (s .pre .0 .few) R, s .pre .0 .few) in
+        record { few = few; room = omega (arith, held .long) }
 
     games : (t : Task) (L : Rowed t) (O : Begun t) → Played (l .loop .tree) (l .loop .words) (openBelow (l .loop .n) (taken t L O)) (OnWay ((1024 + i) / 2))
     games t L O =
@@ -90,18 +90,17 @@ slice-read-root : tie.Need-slice-read-root Inv-loop μ-loop
 slice-read-root c = omega (arith, held (c .before .before) .played .nodes)
 
 cast-root : tie.Need-cast-root Inv-loop μ-loop
-cast-root c = record { fits = omega (arith, held (c .before .before) .played .known 1 .0) }
+cast-root c = record { fits = omega (arith, held (c .before .before) .played .known 1 .few) }
 
 returns : tie.Need-returns Inv-loop μ-loop
 returns c = λ t L O.
     let l = c .before .before .before in
-    ended-none (s l .pre .0 .1) (R l t L O) (search needs) (c .if1 .taken)
+    ended-none (s l .pre .0 .few) (R l t L O) (search needs) (c .if1 .taken)
 
 meets-goal-requires : tie.Need-meets-goal-requires Inv-loop μ-loop
 meets-goal-requires c κs =
     let l = c .before .before .before .before in
-    let p = placed l (search needs) (c .before .if1 .left) in
-    (s l .pre .1 .1 .rows, p .0, p .1)
+    (s l .pre .1 .1 .rows, placed l (search needs) (c .before .if1 .left))
 
 -- what the goal's condition says of it
 goal-says : (g : tie.After-meets-goal Inv-loop μ-loop) → let l = looked g in
@@ -115,7 +114,7 @@ returns-2 c = λ t L O.
     let g = c .before in
     let l = looked g in
     let left : l .loop .m < s l .args .limit = search needs in
-    ended-found (s l .pre .0 .1) (R l t L O) left (i l) (at l left (g .before .before .if1 .left)) (goal-says g t L O true (c .if2 .taken))
+    ended-found (s l .pre .0 .few) (R l t L O) left (i l) (at l left (g .before .before .if1 .left)) (goal-says g t L O true (c .if2 .taken))
 
 set-leaf-requires : tie.Need-set-leaf-requires Inv-loop μ-loop
 set-leaf-requires c κs =
@@ -149,7 +148,7 @@ module _ (f : tie.After-set-leaf Inv-loop μ-loop) where
 
     starts-turn : Expanding (record { place = i l; nodes = l .loop .n; limit = s l .args .limit })
         (nodesIn (l .loop .words) (l .loop .table) (f .set-leaf .last .0) (l .loop .n) (with-place (i l) (taken l t L O))) t
-    starts-turn = expanding (s l .pre .0 .1) (R l t L O) left (i l) root L (f .set-leaf .last .0) closed
+    starts-turn = expanding (s l .pre .0 .few) (R l t L O) left (i l) root L (f .set-leaf .last .0) closed
 
 expand-requires : tie.Need-expand-requires Inv-loop μ-loop
 expand-requires c κs =
@@ -175,10 +174,10 @@ module _ (x : tie.After-expand Inv-loop μ-loop) where
     ends-turn = x .expand .ensures t (with-place (i (l f)) (taken (l f) t L O)) L (starts-turn f t L O)
 
     is-full : b .args .limit < x .expand .result → answer full (nodesOf (nodes (taken (l f) t L O) .words) (b .args .limit)) ≡ explore t (b .args .limit)
-    is-full = ended-full (b .pre .0 .1) (R (l f) t L O) (left f) (i (l f)) (root f) L (f .set-leaf .last .0) (closed f t L O) (no f t L O) ends-turn
+    is-full = ended-full (b .pre .0 .few) (R (l f) t L O) (left f) (i (l f)) (root f) L (f .set-leaf .last .0) (closed f t L O) (no f t L O) ends-turn
 
     goes-on : x .expand .result ≤ b .args .limit → Turning t (b .args .limit) (l f .loop .m + 1) (nodes (with-place (i (l f)) (taken (l f) t L O)))
-    goes-on = turning-on (b .pre .0 .1) (R (l f) t L O) (left f) (i (l f)) (root f) L (f .set-leaf .last .0) (closed f t L O) (no f t L O) ends-turn
+    goes-on = turning-on (b .pre .0 .few) (R (l f) t L O) (left f) (i (l f)) (root f) L (f .set-leaf .last .0) (closed f t L O) (no f t L O) ends-turn
 
 returns-3 : tie.Need-returns-3 Inv-loop μ-loop
 returns-3 c = λ t L O. is-full (tried (c .before)) t L O (search needs)
@@ -189,7 +188,7 @@ loop-again c = λ t L O.
     (with-place (i (l (f x))) (taken (l (f x)) t L O), goes-on x t L O (search needs))
 
 returns-4 : tie.Need-returns-4 Inv-loop μ-loop
-returns-4 c = λ t L O. let l = c .before in ended-last (s l .pre .0 .1) (R l t L O) (search needs)
+returns-4 c = λ t L O. let l = c .before in ended-last (s l .pre .0 .few) (R l t L O) (search needs)
 
 -- The lengths, where its actions have been tried
 

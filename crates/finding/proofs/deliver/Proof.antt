@@ -12,13 +12,13 @@ put-plan-requires c κs =
     let g = k .before .e .given in
     let b = k .before .before .before .before .before in
     let p = b .pre .1 in
-    let w = now (b .args .words) in (
-      (
-        placed w (b .args .e) (p .0) (p .1) (p .2) (g .0 .0) (g .0 .1 .0) (g .1),
-        few w (b .args .e) (p .0) (p .1) (p .2) (g .0 .0) (g .0 .1 .0) (g .1),
-        omega (arith, few w (b .args .e) (p .0) (p .1) (p .2) (g .0 .0) (g .0 .1 .0) (g .1), p .2 .long),
-        inside w (b .args .e) (p .0) (p .1) (p .2) (g .0 .0) (g .0 .1 .0) (g .1),
-      ),
+    let w = now (b .args .words) in
+    let n = few w (b .args .e) (p .0) (p .1) (p .2) (g .0 .0) (g .0 .1 .0) (g .1) in (
+      record {
+        below = placed w (b .args .e) (p .0) (p .1) (p .2) (g .0 .0) (g .0 .1 .0) (g .1);
+        there = record { few = n; room = omega (arith, n, p .2 .long) };
+        inside = inside w (b .args .e) (p .0) (p .1) (p .2) (g .0 .0) (g .0 .1 .0) (g .1);
+      },
       omega (arith, short w (b .args .e) (p .0) (p .1) (p .2) (g .0 .0) (g .0 .1 .0) (g .1), b .pre .0),
     )
 
@@ -31,7 +31,7 @@ cost-at-requires c κs =
     let w = now (b .args .words) in
     let h = placed w (b .args .e) (p .0) (p .1) (p .2) (g .0 .0) (g .0 .1 .0) (g .1) in
     let n = few w (b .args .e) (p .0) (p .1) (p .2) (g .0 .0) (g .0 .1 .0) (g .1) in
-    (omega (arith, h, n), omega (arith, h, n, p .2 .long))
+    record { few = omega (arith, h, n); room = omega (arith, h, n, p .2 .long) }
 
 returns : tie.Need-returns
 returns c =

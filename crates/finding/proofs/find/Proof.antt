@@ -116,7 +116,7 @@ on-rows-requires c κs =
         (taskOf (file d), spells d),
         few-actions (file d) (b d .args .limit) (b d .args .room) (k d .check .result) (k d .check .ensures) (z d) (n d .before .c .given .1),
       ),
-      (known d .some, known d .few, b d .pre .0),
+      (known d .allowed, b d .pre .0),
     )
 
 ending : (o : tie.After-on-rows) → let d = o .before .before .before .before .before in
@@ -125,8 +125,7 @@ ending o =
     let d = o .before .before .before .before .before in
     record {
       long = o .on-rows .kept .1 .1 .1 .0 ∙ b d .pre .0;
-      some = known d .some;
-      limited = known d .few;
+      allowed = known d .allowed;
       formed = known d .formed;
       plain = known d .plain;
       answers = o .on-rows .ensures (taskOf (file d)) (spells d);

@@ -9,16 +9,15 @@ use Rattle.tournament.proofs.Owners.{rewritten}
 use Rattle.meeting.proofs.add.Statement.{statement}
 use Rattle.meeting.proofs.add.Tie as tie
 
-put-node-requires : tie.Need-put-node-requires
-put-node-requires c κs = (search needs, omega arith)
-
 set-leaf-requires : tie.Need-set-leaf-requires
 set-leaf-requires c κs =
     let p = c .before .before .before .before in
     let b = p .before .before .before .before .before in
     let W = p .put-node .ensures in
-    let o = b .pre .3 .0 in
-    ((search needs, omega (arith, W .long)), (o, rewritten (now (b .args .tree)) (now (b .args .words)) o (b .pre .3 .1) (p .put-node .last .0) (b .args .n) (W .others) (W .long)))
+    let P = b .pre .2 in (
+      record { few = search needs; room = omega (arith, W .long) },
+      (P .isOpen, rewritten (now (b .args .tree)) (now (b .args .words)) (P .isOpen) (P .played) (p .put-node .last .0) (b .args .n) (W .others) (W .long)),
+    )
 
 returns : tie.Need-returns
 returns c =
@@ -38,5 +37,5 @@ pub add-spec : {M : Type 1} → statement M
 add-spec =
     tie.close
     (tie.spec
-    put-node-requires (λ c. search needs) (λ c. search needs) (λ c. search needs) (λ c. search needs) set-leaf-requires
+    (λ c κs. search needs) (λ c. search needs) (λ c. search needs) (λ c. search needs) (λ c. search needs) set-leaf-requires
     (λ c. search needs) (λ c. search needs) (λ c. search needs) returns)

@@ -3,25 +3,19 @@ use borrow.Author.Needs.{needs}
 use mathlib.Core.Path.{refl, subst}
 use mathlib.Core.Logic.{inl, inr}
 use Prim.Native.Nat.{ℕ, _≤_, _<_}
-use native.Mathlib.Omega.{arith}
 use denote.Ref.{now}
 use Rattle.tournament.proofs.Owners.{rewritten}
 use Rattle.meeting.proofs.lower.Statement.{statement}
 use Rattle.meeting.proofs.lower.Tie as tie
-
-cost-at-requires : tie.Need-cost-at-requires
-cost-at-requires c κs = (search needs, omega arith)
-
-put-node-requires : tie.Need-put-node-requires
-put-node-requires c κs = (search needs, omega arith)
 
 replay-requires : tie.Need-replay-requires
 replay-requires c κs =
     let p = c .before .before .before .before in
     let b = p .before .before .before .before .before .before .before .before in
     let W = p .put-node .ensures in
-    let o = b .pre .2 .0 in
-    (search needs, (o, rewritten (now (b .args .tree)) (now (b .args .words)) o (b .pre .2 .1) (p .put-node .last .0) (b .args .p) (W .others) (W .long)))
+    let P = b .pre .1 in
+    let R = rewritten (now (b .args .tree)) (now (b .args .words)) (P .isOpen) (P .played) (p .put-node .last .0) (b .args .p) (W .others) (W .long) in
+    (search needs, (P .isOpen, R))
 
 returns : tie.Need-returns
 returns c =
@@ -46,4 +40,5 @@ pub lower-spec : {M : Type 1} → statement M
 lower-spec =
     tie.close
     (tie.spec
-    cost-at-requires put-node-requires (λ c. search needs) replay-requires (λ c. search needs) (λ c. search needs) returns (λ c. search needs) returns-2)
+    (λ c κs. search needs) (λ c κs. search needs) (λ c. search needs) replay-requires (λ c. search needs) (λ c. search needs) returns
+    (λ c. search needs) returns-2)

@@ -50,7 +50,7 @@ lower-requires c κs =
     let b = begun p in
     let H = b .pre .2 .1 in
     let T = H .tabled in
-    (omega (arith, T .known (p .probe .result), T .few), H .long, (openBelow (b .args .n) (b .pre .2 .0), H .played))
+    (omega (arith, T .known (p .probe .result), T .few), record { long = H .long; isOpen = openBelow (b .args .n) (b .pre .2 .0); played = H .played })
 
 returns : tie.Need-returns
 returns c = λ taken H fresh.
@@ -78,8 +78,11 @@ add-requires : tie.Need-add-requires
 add-requires c κs =
     let p = c .before .before .before .before .before .before in
     let b = begun p in
-    let H = b .pre .2 .1 in
-    (search needs, H .long, omega (arith, probed p .within, H .tabled .slots), (openBelow (b .args .n) (b .pre .2 .0), H .played))
+    let H = b .pre .2 .1 in (
+      search needs,
+      omega (arith, probed p .within, H .tabled .slots),
+      record { long = H .long; isOpen = openBelow (b .args .n) (b .pre .2 .0); played = H .played },
+    )
 
 returns-3 : tie.Need-returns-3
 returns-3 c = λ taken H fresh.

@@ -3,7 +3,7 @@
 -- What the row holds after i turns is `filled i`, a law on plain lists (`proofs/Filling.antt`).
 -- Assumes nothing.
 use mathlib.Core.Path.{_≡_, refl, sym, ap, subst}
-use Prim.Native.Nat.{ℕ, _+_, _-_, _*_, _<_, _≤_, _^_, zero-le}
+use Prim.Native.Nat.{ℕ, _+_, _-_, _<_, _≤_, _^_, zero-le}
 use native.Mathlib.Nat.{le-of-lt, le-antisymm, lt-of-le-of-lt, lt-of-lt-of-le}
 use native.Mathlib.Numerals.{add-one-le}
 use native.Mathlib.Omega.{arith}
@@ -50,6 +50,7 @@ use denote.Triple.Table.{entered, cited}
 use denote.Triple.Clauses.{ensured, lasts}
 use denote.Triple.Walked.{says, needs, Stays, stay-none, stay-slice, stay-none-slice, walkOf, AllGo, goes-none, goes-slice, goes-none-slice, Walks, ends-at, walked, walk-meets}
 use denote.Exit.{yes}
+use Rattle.node_words.specs.Words.{RoomFor, Placed}
 use Rattle.nodes.specs.declared.Node.{Node}
 use Rattle.nodes.specs.Nodes.{noNode, nodeOf}
 use Rattle.nodes.proofs.Elements.{vals, offset-fits}
@@ -82,7 +83,7 @@ module _ {M : Type 1} (𝓤 : URA M) (H : Heap 𝓤) (A : Atoms 𝓤) (mem : Mem
   NodeOf = tripleOf 𝓤 H A node-of.signature (node-of.spec 𝓤 H A mem run)
 
 module _ {M : Type 1} (𝓤 : URA M) (H : Heap 𝓤) (A : Atoms 𝓤) (W : Given 𝓤 H A) (mem : Memory → SProp 𝓤) (run : Routine → Fun 𝓤) (κ κ′ : Lft) (q q′ : Share) (b o : ℕ) (γ : GName) (ys : List Node) (n : ℕ) (ws : RefT (List ℕ))
-    (room : Room T.the-row (length ys)) (n-fits : n < 2 ^ 64) (w-fits : length (ws .now) < 2 ^ 64) (enough : n ≤ length ys) (few : n ≤ 1024) (words : 4 * n ≤ length (ws .now)) where
+    (room : Room T.the-row (length ys)) (n-fits : n < 2 ^ 64) (w-fits : length (ws .now) < 2 ^ 64) (enough : n ≤ length ys) (there : RoomFor (ws .now) n) where
   abbrev Arg : Type 0
   Arg = RefT (List Node) × (ℕ × (RefT (List ℕ) × Unit {0}))
 
@@ -135,8 +136,8 @@ module _ {M : Type 1} (𝓤 : URA M) (H : Heap 𝓤) (A : Atoms 𝓤) (W : Given
   abbrev to : ℕ → NodeOf 𝓤 H A mem run .Ghost
   to i = (((κ′, tt), (q′, tt), tt, (i, (ws, tt)), (vint w64 i ∷ [], (words-val ∷ [], tt))), tt)
 
-  here : (i : ℕ) → i < n → (i < 1024) × (4 * i + 4 ≤ length (ws .now))
-  here i l = (omega arith, omega arith)
+  here : (i : ℕ) → i < n → Placed (ws .now) i
+  here i l = record { few = omega (arith, there .few); room = omega (arith, there .room) }
 
   asked : (i : ℕ) → i < n → ent 𝓤 (sep 𝓤 (A .lft κ′ q′) (sem 𝓤 H A (owns (usize ∷ ShrSlice (named 1) κ′ u64 ∷ []) (i, (ws, tt)) (vint w64 i ∷ [], (words-val ∷ [], tt))))) (NodeOf 𝓤 H A mem run .pre (to i))
   asked i l = qed W (‵ (flft κ′ q′) ∷ ‵ (owns (usize ∷ ShrSlice (named 1) κ′ u64 ∷ []) (i, (ws, tt)) (vint w64 i ∷ [], (words-val ∷ [], tt))) ∷ []) ∵ says ! (here i l) $ nothing ! $ move ! (1 ∷ 0 ∷ []) $ join ! $ frame ! $ done !
@@ -247,9 +248,9 @@ module _ {M : Type 1} (𝓤 : URA M) (H : Heap 𝓤) (A : Atoms 𝓤) (W : Given
   fill-walks 𝓣 known = walked 𝓤 H A fill.ended stayed (fill.clauses 𝓤 H A mem run) (WpFn 𝓤 H (𝓣 .C) (𝓣 .Λ) code.function)
       (λ κs. (slice-vals, (uint-vals w64, (slice-vals, tt))))
       (λ κs. (mut-slice-tells (named 0) (κs .0) T.the-row, (uint-tells w64, (shr-slice-tells (named 1) (κs .1 .0) u64, tt))))
-      (λ κs qs bounds a g are. needs 𝓤 ((a .1 .0 ≤ length (a .0 .now)) × (a .1 .0 ≤ 1024) × (4 * a .1 .0 ≤ length (a .1 .1 .0 .now))) _ (λ need.
+      (λ κs qs bounds a g are. needs 𝓤 ((a .1 .0 ≤ length (a .0 .now)) × RoomFor (a .1 .1 .0 .now) (a .1 .0)) _ (λ need.
       walk 𝓤 H A W mem run (κs .0) (κs .1 .0) (qs .0) (qs .1 .0) (a .0 .ptr .0) (a .0 .ptr .1) (a .0 .name) (a .0 .now) (a .1 .0) (a .1 .1 .0) (are .0 .0 .1) (are .1 .0 .1)
-      (are .1 .1 .0 .0 .1 .0) (need .0) (need .1) (need .2) 𝓣 known))
+      (are .1 .1 .0 .0 .1 .0) (need .0) (need .1) 𝓣 known))
 
   goes : AllGo 𝓤 H A W 2 (fill.signature .params) (fill.ended .kept) stayed
   goes = (

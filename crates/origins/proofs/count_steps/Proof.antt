@@ -17,32 +17,32 @@ abbrev μ-loop : tie.MeasureT-loop
 loop-holds : tie.Need-loop-holds Inv-loop μ-loop
 loop-holds c =
     let b = c .before in
-    counted-first (now (b .args .words)) (b .args .n) (b .args .place) (b .pre .3) (b .pre .0)
+    counted-first (now (b .args .words)) (b .args .n) (b .args .place) (b .pre .inside) (b .pre .below)
 
 returns : tie.Need-returns Inv-loop μ-loop
 returns c =
     let l = c .before .before in
     let b = l .before .before in
-    counted-zero (now (b .args .words)) (b .args .n) (b .args .place) (b .pre .3) (l .loop .d) (l .loop .i) (l .loop .inv) (search needs)
+    counted-zero (now (b .args .words)) (b .args .n) (b .args .place) (b .pre .inside) (l .loop .d) (l .loop .i) (l .loop .inv) (search needs)
 
 origin-at-requires : tie.Need-origin-at-requires Inv-loop μ-loop
 origin-at-requires c κs =
     let l = c .before .before in
     let b = l .before .before in
-    (omega (arith, l .loop .inv .here, b .pre .1), omega (arith, l .loop .inv .here, b .pre .2))
+    record { few = omega (arith, l .loop .inv .here, b .pre .there .few); room = omega (arith, l .loop .inv .here, b .pre .there .room) }
 
 loop-again : tie.Need-loop-again Inv-loop μ-loop
 loop-again c =
     let l = c .before .before .before in
     let b = l .before .before in
     subst (λ (o : ℕ). Counted (now (b .args .words)) (b .args .n) (b .args .place) (l .loop .d + 1) o) (sym (c .origin-at .ensures))
-    (counted-on (now (b .args .words)) (b .args .n) (b .args .place) (b .pre .3) (l .loop .d) (l .loop .i) (l .loop .inv) (search needs) (search needs))
+    (counted-on (now (b .args .words)) (b .args .n) (b .args .place) (b .pre .inside) (l .loop .d) (l .loop .i) (l .loop .inv) (search needs) (search needs))
 
 returns-2 : tie.Need-returns-2 Inv-loop μ-loop
 returns-2 c =
     let l = c .before in
     let b = l .before .before in
-    counted-last (now (b .args .words)) (b .args .n) (b .args .place) (b .pre .3) (l .loop .d) (l .loop .i) (l .loop .inv) (search needs)
+    counted-last (now (b .args .words)) (b .args .n) (b .args .place) (b .pre .inside) (l .loop .d) (l .loop .i) (l .loop .inv) (search needs)
 
 pub count-steps-spec : {M : Type 1} → statement M
 count-steps-spec =

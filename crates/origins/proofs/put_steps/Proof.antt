@@ -16,13 +16,14 @@ abbrev μ-loop : tie.MeasureT-loop
 loop-holds : tie.Need-loop-holds Inv-loop μ-loop
 loop-holds c =
     let b = c .before .before in
-    written-first (now (b .args .words)) (b .args .n) (b .args .place) (b .pre .0 .3) (now (b .args .plan)) (b .args .steps) (b .pre .1 .1) (b .pre .0 .0) (b .pre .1 .0)
+    written-first (now (b .args .words)) (b .args .n) (b .args .place) (b .pre .0 .inside) (now (b .args .plan)) (b .args .steps) (b .pre .1 .1)
+    (b .pre .0 .below) (b .pre .1 .0)
 
 action-at-requires : tie.Need-action-at-requires Inv-loop μ-loop
 action-at-requires c κs =
     let l = c .before in
     let b = l .before .before .before in
-    (omega (arith, l .loop .inv .here, b .pre .0 .1), omega (arith, l .loop .inv .here, b .pre .0 .2))
+    record { few = omega (arith, l .loop .inv .here, b .pre .0 .there .few); room = omega (arith, l .loop .inv .here, b .pre .0 .there .room) }
 
 slice-write-plan : tie.Need-slice-write-plan Inv-loop μ-loop
 slice-write-plan c =
@@ -34,14 +35,14 @@ origin-at-requires : tie.Need-origin-at-requires Inv-loop μ-loop
 origin-at-requires c κs =
     let l = c .before .before in
     let b = l .before .before .before in
-    (omega (arith, l .loop .inv .here, b .pre .0 .1), omega (arith, l .loop .inv .here, b .pre .0 .2))
+    record { few = omega (arith, l .loop .inv .here, b .pre .0 .there .few); room = omega (arith, l .loop .inv .here, b .pre .0 .there .room) }
 
 loop-again : tie.Need-loop-again Inv-loop μ-loop
 loop-again c =
     let a = c .before in
     let l = a .before .before in
     let b = l .before .before .before in
-    written-on (now (b .args .words)) (b .args .n) (b .args .place) (b .pre .0 .3) (now (b .args .plan)) (b .args .steps) (b .pre .1 .1)
+    written-on (now (b .args .words)) (b .args .n) (b .args .place) (b .pre .0 .inside) (now (b .args .plan)) (b .args .steps) (b .pre .1 .1)
     (l .loop .plan) (l .loop .k) (l .loop .i) (l .loop .inv) (search needs) (a .action-at .result) (c .origin-at .result) (a .action-at .ensures) (c .origin-at .ensures)
 
 same-length : tie.Need-same-length Inv-loop μ-loop
@@ -51,7 +52,7 @@ returns : tie.Need-returns Inv-loop μ-loop
 returns c =
     let l = c .before in
     let b = l .before .before .before in
-    written-last (now (b .args .words)) (b .args .n) (b .args .place) (b .pre .0 .3) (now (b .args .plan)) (b .args .steps) (b .pre .1 .1)
+    written-last (now (b .args .words)) (b .args .n) (b .args .place) (b .pre .0 .inside) (now (b .args .plan)) (b .args .steps) (b .pre .1 .1)
     (l .loop .plan) (l .loop .k) (l .loop .i) (l .loop .inv) (search needs)
 
 pub put-steps-spec : {M : Type 1} → statement M

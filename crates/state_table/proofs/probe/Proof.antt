@@ -38,7 +38,7 @@ stops-requires c κs =
     let h = c .before .before .before in
     let T = h .before .before .before .pre .1 in
     let r : ℕ = (h .home .result + c .before .before .loop .d) % 2048 in
-    (omega (arith, T .known r, T .few), omega (arith, T .known r, T .room))
+    record { few = omega (arith, T .known r, T .few); room = omega (arith, T .known r, T .room) }
 
 -- the slot of the code is the one at distance d
 module _ (table ws : List ℕ) (s : State) (from d : ℕ) (home : from ≡ homeOf s) where

@@ -24,7 +24,7 @@ loop-holds c =
 cast-a : tie.Need-cast-a Inv-loop μ-loop
 cast-a c =
     let l = c .before .before .loop in
-    record { fits = omega (arith, l .inv .some .1 .known (2 * l .i) .0) }
+    record { fits = omega (arith, l .inv .some .1 .known (2 * l .i) .few) }
 
 slice-read-a : tie.Need-slice-read-a Inv-loop μ-loop
 slice-read-a c =
@@ -34,7 +34,7 @@ slice-read-a c =
 cast-b : tie.Need-cast-b Inv-loop μ-loop
 cast-b c =
     let l = c .before .before .before .loop in
-    record { fits = omega (arith, l .inv .some .1 .known (2 * l .i + 1) .0) }
+    record { fits = omega (arith, l .inv .some .1 .known (2 * l .i + 1) .few) }
 
 slice-read-b : tie.Need-slice-read-b Inv-loop μ-loop
 slice-read-b c =

@@ -55,7 +55,7 @@ module _ (n : tie.After-note-actions) where
 meet-requires : tie.Need-meet-requires
 meet-requires c κs =
     let b = c .before .before .before .before .before .before .before .before .before .before .before .before in
-    (omega arith, b .pre .1 .1, ((λ i. false), held-none (now (b .args .words)) _ _ (λ i. false) (b .pre .1 .2) refl refl))
+    (omega arith, b .pre .1 .0 .few, ((λ i. false), held-none (now (b .args .words)) _ _ (λ i. false) (b .pre .1 .1) refl refl))
 
 -- the opening node has been met
 begun : (m : tie.After-meet) → let n = m .before .before .before .before .before in
@@ -66,15 +66,15 @@ begun m t R =
     let n = m .before .before .before .before .before in
     let o = n .before .before .before .before in
     let read = o .opening .ensures ∙ opening-read t (now (b n .args .marks)) (now (b n .args .values)) R in
-    opened t (R .formed) (ap (λ (r : Result). r .next + 1) read) (o .opening .result .state) (ap (λ (r : Result). r .state) read) (b n .pre .1 .0)
-    (m .meet .ensures (λ i. false) (held-none (now (b n .args .words)) _ _ (λ i. false) (b n .pre .1 .2) refl refl) refl)
+    opened t (R .formed) (ap (λ (r : Result). r .next + 1) read) (o .opening .result .state) (ap (λ (r : Result). r .state) read) (b n .pre .1 .0 .some)
+    (m .meet .ensures (λ i. false) (held-none (now (b n .args .words)) _ _ (λ i. false) (b n .pre .1 .1) refl refl) refl)
 
 explore-requires : tie.Need-explore-requires
 explore-requires c κs =
     let m = c .before .before .before .before .before .before .before .before .before in
     let n = m .before .before .before .before .before in
     let p = b n .pre in
-    ((p .1 .0, p .1 .1), (p .0 .1 .0, listed n (p .0 .1 .0) (p .0 .1 .1), begun m (p .0 .1 .0) (p .0 .1 .1)))
+    (p .1 .0, (p .0 .1 .0, listed n (p .0 .1 .0) (p .0 .1 .1), begun m (p .0 .1 .0) (p .0 .1 .1)))
 
 returns : tie.Need-returns
 returns c = λ t R.
