@@ -67,8 +67,8 @@ module _ (s t : Task) (e : Alike s t) where
         (λ q r a. λ i. cond (same-met q r a i) 0 (a .weight i))
         (s .preferences) (t .preferences) (e .preferences))
 
-    same-gained : metWeight s p ≡ metWeight t p
-    same-gained =
+    same-met-weight : metWeight s p ≡ metWeight t p
+    same-met-weight =
         ap sum (each-map AlikePreference
         (λ (q : Preference). cond (isMet s p q) (q .weight) 0)
         (λ (r : Preference). cond (isMet t p r) (r .weight) 0)
@@ -85,7 +85,7 @@ module _ (s t : Task) (e : Alike s t) where
     same-metric = λ i. same-cost i + same-missed i
 
     same-utility : utility s p ≡ utility t p
-    same-utility = λ i. pos (same-gained i) -ℤ pos (same-cost i)
+    same-utility = λ i. pos (same-met-weight i) -ℤ pos (same-cost i)
 
     same-kept : (q r : Preference) → AlikePreference q r → isKept s p q ≡ isKept t p r
     same-kept q r a = λ i. not (a .hard i) || same-met q r a i

@@ -23,9 +23,6 @@ either true b t = inl t
 either false b t = inr t
 
 module _ {A : Type 0} where
-  pub same-itself : (xs : List A) → SameMembers xs xs
-  same-itself xs x = (λ m. m, λ m. m)
-
   -- two lists with the members of a third
   pub same-common : (xs ys zs : List A) → SameMembers xs zs → SameMembers ys zs → SameMembers xs ys
   same-common xs ys zs e f x = (λ m. f x .1 (e x .0 m), λ m. e x .1 (f x .0 m))

@@ -9,7 +9,7 @@ use Rattle.lists.specs.Lists.{singleton, all, concatMap, elem, filter, range}
 use Rattle.meaning.specs.Task.{Clause, Condition, Effect, Action, Preference, Task}
 use Rattle.task.specs.File.{Sizes, fileOf, taskOf}
 use Rattle.task.specs.Check.{Answer, accepted, refused, check, checkRows}
-use Rattle.lists.proofs.Tests.{tests}
+use Rattle.lists.proofs.Tests.{tests, denied}
 use Rattle.classical.proofs.Refuted.{isAccepted}
 use Rattle.canonical.specs.Canonical.{inOrder, literal, sameLiteral, canonicalFacts, canonicalCondition, canonical, respelled}
 use Rattle.canonical.specs.SameSpelling.{SameSpelling}
@@ -173,10 +173,6 @@ mistakes =
 
 -- What the evidence means
 
-not-both : (b : Bool) → T (not b) → T b → ⊥
-not-both true n t = n
-not-both false n t = t
-
 same-itself : (xs : List ℕ) → T (sameBytes xs xs)
 same-itself [] = tt
 same-itself (x ∷ xs) = search (tests, eqb-refl x, same-itself xs)
@@ -188,7 +184,7 @@ same-equal (x ∷ xs) [] h = absurd h
 same-equal (x ∷ xs) (y ∷ ys) h = ap₂ _∷_ (eqb→eq x y (search tests)) (same-equal xs ys (search tests))
 
 apart : (xs ys : List ℕ) → T (not (sameBytes xs ys)) → xs ≡ ys → ⊥
-apart xs ys h e = not-both (sameBytes xs ys) h (subst (λ (zs : List ℕ). T (sameBytes xs zs)) e (same-itself xs))
+apart xs ys h e = denied (sameBytes xs ys) h (subst (λ (zs : List ℕ). T (sameBytes xs zs)) e (same-itself xs))
 
 accepted-by : (x : Answer) → T (isAccepted x) → (z : Sizes) × (x ≡ accepted z)
 accepted-by (accepted z) h = (z, refl)
@@ -207,7 +203,7 @@ refute p (joined s t) h one =
     apart (respelled (fileOf s)) (respelled (fileOf t)) (search tests)
     (equal-bytes (fileOf s) (fileOf t) (y .0) (z .0) (y .1) (z .1) .1
     (one .equal (fileOf s) (fileOf t) (y .0) (z .0) (y .1) (z .1) .0 (same-equal (written p s) (written p t) (search tests))))
-refute p (unordered t) h one = not-both (agreed (spelledBy p t)) h (one .ordered t)
+refute p (unordered t) h one = denied (agreed (spelledBy p t)) h (one .ordered t)
 
 abbrev pub Refuted : List (Parts × Evidence) → Type 0
 Refuted [] = Unit {0}

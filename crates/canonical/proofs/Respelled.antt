@@ -9,7 +9,7 @@ use lib.Dec.{T, leb→le}
 use lib.ListN.{length, length-map}
 use Rattle.meaning.specs.Task.{Task, wellFormed}
 use Rattle.task.specs.TaskRows.{taskRows}
-use Rattle.task.specs.File.{Sizes, sizesOf, taskOf, fileOf}
+use Rattle.task.specs.File.{Sizes, sizesOf, taskOf, fileOf, withRows}
 use Rattle.task.specs.Check.{check, accepted, sizesAllowed}
 use Rattle.task.specs.Spelling.{spellable}
 use Rattle.lists.proofs.Tests.{tests}
@@ -18,7 +18,7 @@ use Rattle.task.proofs.Spelled.{Spelling, accepted-spelling, allowed-within, re
 use Rattle.classical.specs.Claim.{Faithful}
 use Rattle.alike.specs.Alike.{Alike, JudgedAlike}
 use Rattle.alike.proofs.Verdict.{judged-alike}
-use Rattle.canonical.specs.Canonical.{canonicalAction, canonicalPreference, canonical, respelled, respelledRows, respelledSizes}
+use Rattle.canonical.specs.Canonical.{canonicalAction, canonicalPreference, canonical, respelled, respelledRows}
 use Rattle.canonical.specs.SameSpelling.{SameSpelling}
 use Rattle.canonical.specs.SharedSolutions.{SharedSolutions}
 use Rattle.canonical.proofs.Same.{same-canonical, canonical-kept, one-spelling}
@@ -30,7 +30,7 @@ use Rattle.canonical.proofs.SharedSolutions.{solutions-shared}
 pub canonical-alike : (t : Task) → T (wellFormed t) → Alike t (canonical t)
 canonical-alike t w = spelling-alike t (canonical t) (canonical-kept t w)
 
-pub canonical-sizes : (t : Task) → sizesOf (canonical t) ≡ respelledSizes (sizesOf t) (length (taskRows (canonical t)))
+pub canonical-sizes : (t : Task) → sizesOf (canonical t) ≡ withRows (sizesOf t) (length (taskRows (canonical t)))
 unfolding canonical
 canonical-sizes t = λ i. record {
   facts = t .facts;
@@ -52,7 +52,7 @@ canonical-spellable t w s = ok-spellable (canonical t) (canonical-ok t w s)
 
 -- F, A and P stay, and N does not grow
 pub record Respelled (b : List ℕ) (z : Sizes) : Type 0 where
-  pub accepting : check (respelled b) ≡ accepted (respelledSizes z (respelledRows b))
+  pub accepting : check (respelled b) ≡ accepted (withRows z (respelledRows b))
   pub fewer : respelledRows b ≤ z .rows
   pub reading : taskOf (respelled b) ≡ canonical (taskOf b)
   pub again : respelled (respelled b) ≡ respelled b
@@ -62,7 +62,7 @@ pub respelled-file : (b : List ℕ) (z : Sizes) → check b ≡ accepted z → R
 respelled-file b z h = build (accepted-spelling b z h)
   where
     z′ : Sizes
-    z′ = respelledSizes z (respelledRows b)
+    z′ = withRows z (respelledRows b)
 
     build : Spelling b z → Respelled b z
     build s =
@@ -72,7 +72,7 @@ respelled-file b z h = build (accepted-spelling b z h)
         let fine : T (sizesAllowed z′) =
         allowed-within z′ (leb→le 1 (z .facts) (search tests)) (leb→le (z .facts) 128 (search tests)) (leb→le (z .actions) 128 (search tests))
         (leb→le (z .preferences) 16 (search tests)) few′ in
-        let e : sizesOf (canonical t) ≡ z′ = canonical-sizes t ∙ ap (λ (z : Sizes). respelledSizes z (respelledRows b)) (s .sized) in
+        let e : sizesOf (canonical t) ≡ z′ = canonical-sizes t ∙ ap (λ (z : Sizes). withRows z (respelledRows b)) (s .sized) in
         let ok : T (sizesAllowed (sizesOf (canonical t))) = subst⁻¹ (λ (z : Sizes). T (sizesAllowed z)) e fine in
         let formed : T (wellFormed (canonical t)) = canonical-formed t (s .formed) (s .spelling) in
         let spelling : T (spellable (canonical t)) = canonical-spellable t (s .formed) (s .spelling) in

@@ -8,7 +8,7 @@ use lib.ListN.{length}
 use Rattle.lists.specs.Lists.{any, filter, concatMap, range}
 use Rattle.meaning.specs.Task.{Literal, Clause, Condition, Effect, Action, Preference, Task}
 use Rattle.task.specs.TaskRows.{taskRows}
-use Rattle.task.specs.File.{Sizes, fileOf, taskOf}
+use Rattle.task.specs.File.{fileOf, taskOf}
 
 -- those of a list in order that are in xs, by a test of sameness
 abbrev pub inOrder : {A : Type 0} → (A → A → Bool) → List A → List A → List A
@@ -85,7 +85,3 @@ respelled b = fileOf (canonical (taskOf b))
 
 abbrev pub respelledRows : List ℕ → ℕ
 respelledRows b = length (taskRows (canonical (taskOf b)))
-
--- the sizes of a spelling of n rows, by the sizes of its source
-abbrev pub respelledSizes : Sizes → ℕ → Sizes
-respelledSizes z n = record { facts = z .facts; actions = z .actions; preferences = z .preferences; rows = n }

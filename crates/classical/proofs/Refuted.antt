@@ -12,7 +12,7 @@ use Rattle.task.specs.Check.{Answer, accepted, refused, check, checkRows}
 use Rattle.meaning.specs.Meaning.{State, isTrue, opening, after, noAction, actionAt, applies, keepsRules, solves, cost, metric}
 use Rattle.classical.specs.Translation.{holdsFact, alone, effect, translated}
 use Rattle.classical.specs.Claim.{Faithful, sourcePart}
-use Rattle.lists.proofs.Tests.{and-left, and-right, all-at}
+use Rattle.lists.proofs.Tests.{and-left, and-right, all-at, denied}
 use Rattle.classical.proofs.Runs.{wins, solves-win}
 use Rattle.classical.proofs.Faithful.{faithful}
 use Rattle.classical.proofs.Wrong.{Translator, translatedBy, opens, inSource, inEnd, ends, forgone, right}
@@ -102,14 +102,10 @@ attacks =
 
 -- What the evidence means
 
-not-true : (b : Bool) → T (not b) → T b → ⊥
-not-true true n t = n
-not-true false n t = t
-
 -- nothing wins from a dead state
 never-wins : (c : Task) (n : ℕ) (s : State) → T (dead c n s) → (x : List ℕ) → T (wins c s x) → ⊥
 never-wins c zero s d x w = d
-never-wins c (suc n) s d [] w = not-true (isTrue s (c .goal)) (and-left (not (isTrue s (c .goal))) _ d) w
+never-wins c (suc n) s d [] w = denied (isTrue s (c .goal)) (and-left (not (isTrue s (c .goal))) _ d) w
 never-wins c (suc n) s d (k ∷ ks) w =
     let a : Action = actionAt c k in
     let here : T (applies c s k) = and-left (applies c s k) _ w in
@@ -127,14 +123,14 @@ never-wins c (suc n) s d (k ∷ ks) w =
 unfaithful : (s c : Task) (e : Evidence) → T (shows s c e) → Faithful s c → ⊥
 unfaithful s c (mispriced x) h f =
     let solved : T (solves c x) = and-left (solves c x) _ h in
-    not-true (eqb (cost c x) (metric s (sourcePart s x))) (and-right (solves c x) _ h)
+    denied (eqb (cost c x) (metric s (sourcePart s x))) (and-right (solves c x) _ h)
     (subst (λ (m : ℕ). T (eqb (cost c x) m)) (f .costPreserved x solved) (eqb-refl (cost c x)))
 unfaithful s c (unsolved p) h f =
     let x : (x : List ℕ) × T (solves c x) × (sourcePart s x ≡ p) = f .onto p .1 (and-left (solves s p) _ h) in
     let won : T (wins c (opening c) (x .0)) = and-left (wins c (opening c) (x .0)) (keepsRules c (x .0)) (subst T (solves-win c (x .0)) (x .1)) in
     never-wins c 2 (opening c) (and-right (solves s p) _ h) (x .0) won
 unfaithful s c (unearned x) h f =
-    not-true (solves s (sourcePart s x)) (and-right (solves c x) _ h) (f .onto (sourcePart s x) .0 (x, and-left (solves c x) _ h, refl))
+    denied (solves s (sourcePart s x)) (and-right (solves c x) _ h) (f .onto (sourcePart s x) .0 (x, and-left (solves c x) _ h, refl))
 
 -- The claim
 

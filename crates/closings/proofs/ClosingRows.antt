@@ -18,7 +18,7 @@ use Rattle.meaning.specs.Meaning.{noPreference}
 use Rattle.task.specs.Rows.{valueAt, stepsAt}
 use Rattle.task.specs.Spelling.{kindSpellable}
 use Rattle.lists.proofs.Tests.{concat-append, all-at}
-use Rattle.task.proofs.Reading.{row-at}
+use Rattle.task.proofs.Reading.{value-at}
 use Rattle.task.proofs.Steps.{hard-at, kind-at}
 use Rattle.classical.specs.Translation.{lacksFact, alone, factS, factB, factC, ended, metClause}
 use Rattle.classical.specs.Translation.{closing, collect, forgo, closings}
@@ -72,11 +72,6 @@ closings-are F P k E q e =
     ∙ closing-is F P k (q .weight) (missed S B (q .kind) ++ never) S E refl e in
     (λ z. collected z ++ (forgone ∙ sym (append-nil (actionRows (forgo F P k q)))) z)
 
--- the value of the first row
-abbrev headValue : List Row → ℕ
-headValue [] = 0
-headValue (x ∷ xs) = x .value
-
 -- by the mark and the value that were read
 closings-read : (ms vs : List ℕ) (at : ℕ) (first : Bool) (s E : ℕ) (q : Preference) (qs : List Preference)
     → drop at (paired ms vs) ≡ concatMap preferenceRows (q ∷ qs) → T (kindSpellable (q .kind)) → closingsAt ms vs at first s E ≡ preferenceClosings first s E q
@@ -84,7 +79,7 @@ closings-read ms vs at first s E q qs e fine =
     let h : at < length ms = within-rows ms vs at q qs e in
     let rule : opensHard (getD ms at 0) ≡ q .hard = hard-at ms vs at q (concatMap preferenceRows qs) e h in
     let kind : kindOf (softMark (getD ms at 0)) (stepsAt ms vs at) ≡ q .kind = kind-at ms vs at q (concatMap preferenceRows qs) e h fine in
-    let weight : valueAt vs at ≡ q .weight = ap headValue (sym (row-at ms vs at h) ∙ e) in
+    let weight : valueAt vs at ≡ q .weight = value-at ms vs at h e in
     rw (lt-leb (length ms) at h)
     (λ z. closingRows 0 first s E (clauseRows (metClause s (s + 1) (kind z)))
     ++ closingRows (weight z) first s E (conditionRows (missed s (s + 1) (kind z)) ++ neverRows (rule z) E))

@@ -1,7 +1,7 @@
 -- Collect and forgo as rows, from the row that opens a preference.
 use mathlib.Core.Bool.{Bool, cond}
 use mathlib.Core.List.{List, [], _∷_, _++_, map}
-use Prim.Native.Nat.{ℕ, _+_, _-_}
+use Prim.Native.Nat.{ℕ, _+_, _-_, _≤_, _<_}
 use lib.Dec.{leb, eqb}
 use lib.ListN.{length, getD}
 use Rattle.task.specs.Marks.{ACTION, EFFECT, HOLDS, LACKS, ADD}
@@ -12,7 +12,13 @@ use Rattle.task.specs.Rows.{valueAt, stepsAt}
 use Rattle.task.specs.Answers.{asKind}
 use Rattle.classical.specs.Translation.{deny, alone, metClause}
 use Rattle.effects.specs.Effects.{singleRows}
+use Rattle.kind_trackers.specs.Rows.{BEYOND}
 use Rattle.closings.specs.declared.Closing.{Closing}
+
+-- s, the first fact of a preference, has one before it
+pub record Preceded (s : ℕ) : Type 0 where
+  pub later : 1 ≤ s
+  pub small : s < BEYOND
 
 -- the literals of the met clause denied, each a clause
 abbrev pub missed : ℕ → ℕ → Kind → Condition

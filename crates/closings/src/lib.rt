@@ -9,7 +9,7 @@ ghost use Rattle.task.specs.Rows.{Rows};
 ghost use Rattle.writer.specs.Writer.{Room, Wrote};
 ghost use Rattle.kind_trackers.specs.Rows.{BEYOND};
 ghost use Rattle.trackers.specs.Trackers.{Noted};
-ghost use Rattle.closings.specs.Closings.{missed, neverRows, closingHead, forgoneRows};
+ghost use Rattle.closings.specs.Closings.{missed, neverRows, closingHead, forgoneRows, Preceded};
 ghost use Rattle.closings.specs.Closings.{preferenceClosings, closed, closingsAt, closingBy};
 use task::kinds::Kind;
 use task::marks;
@@ -71,7 +71,7 @@ fn put_missed(out: &mut [u8], c: Cursor, kind: Kind, s: u32) -> Cursor
 
 // What collect and forgo have before the outcome; the preference before it, if there is one, closes with fact s - 1.
 fn open_closing(out: &mut [u8], c: Cursor, cost: u32, x: Closing) -> Cursor
-    requires { ⌜ Room c (now out) × (1 ≤ x .s) × (x .s < BEYOND) ⌝ }
+    requires { ⌜ Room c (now out) × Preceded (x .s) ⌝ }
     ensures { λ r. ⌜ Wrote (now (out .entry)) c (closingHead cost (x .first) (x .s) (x .ended)) r (now (out .exit)) ⌝ }
 {
     let s = x.s;
@@ -116,7 +116,7 @@ fn put_closed(out: &mut [u8], c: Cursor, s: u32) -> Cursor
 
 // Collect and forgo of one preference.
 fn put_closing(out: &mut [u8], c: Cursor, x: Closing) -> Cursor
-    requires { ⌜ Room c (now out) × (1 ≤ x .s) × (x .s < BEYOND) ⌝ }
+    requires { ⌜ Room c (now out) × Preceded (x .s) ⌝ }
     ensures { λ r. ⌜ Wrote (now (out .entry)) c (preferenceClosings (x .first) (x .s) (x .ended) (closed x)) r (now (out .exit)) ⌝ }
 {
     let kind = x.kind;
@@ -140,7 +140,7 @@ fn closing_at(
     s: u32,
     ended: u32,
 ) -> Cursor
-    requires { ⌜ Room c (now out) × Rows (now marks) (now values) × (1 ≤ s) × (s < BEYOND) ⌝ }
+    requires { ⌜ Room c (now out) × Rows (now marks) (now values) × Preceded s ⌝ }
     ensures { λ r. ⌜ Wrote (now (out .entry)) c (closingsAt (now (marks .entry)) (now (values .entry)) at first s ended) r (now (out .exit)) ⌝ }
 {
     if marks.len() <= at {
@@ -177,7 +177,7 @@ pub fn put_closings(
     let mut s = facts;
     let mut i = 0;
     while i < starts.len() {
-        if writer::TOO_MANY <= k.next {
+        if writer::OVERFULL <= k.next {
             return k;
         }
         k = closing_at(&mut *out, k, marks, values, starts[i], s == facts, s, ended);

@@ -5,11 +5,11 @@ use libc::STDOUT_FILENO;
 use outcome::Outcome;
 use plan::Verdict;
 use plan::Walked;
+use task::limits;
 
 // Prints the report of a plan on a task: one line where it does not solve.
 fn say_report(task: &[u8], plan: &[u8]) {
-    // This holds every report.
-    let mut out = [0u8; 2048];
+    let mut out = [0u8; report::MAX_REPORT];
     let answer = report::write_report(task, plan, &mut out);
     match answer {
         Outcome::Written(n) => {
@@ -21,7 +21,7 @@ fn say_report(task: &[u8], plan: &[u8]) {
 
 // Prints what the planner paid for a plan, and where that is not its metric, what it is worth.
 fn say_paid(task: &[u8], plan: &[u8], cost: u64) {
-    let mut out = [0u8; 64];
+    let mut out = [0u8; paid_line::MAX_LINE];
     let n = paid_line::put_paid(task, plan, cost, &mut out);
     io::write_all(STDOUT_FILENO, text::front(&out, n));
 }
@@ -29,7 +29,7 @@ fn say_paid(task: &[u8], plan: &[u8], cost: u64) {
 // Prints what is said of a list that solves the translation at a cost: the report on its source part, and that cost, which by
 // paid-in-full of paid_line is its metric.
 fn confirm(task: &[u8], planned: &[u8], cost: u64) {
-    let mut plan = [0u8; 2048];
+    let mut plan = [0u8; limits::MAX_STEPS];
     let part = source::source(task, planned, &mut plan);
     match part {
         Outcome::Written(n) => {
@@ -42,7 +42,7 @@ fn confirm(task: &[u8], planned: &[u8], cost: u64) {
 
 // Prints where a list stops in the translation, or that it misses the goal there.
 fn deny(compiled: &[u8], planned: &[u8]) {
-    let mut list = [0u8; 2048];
+    let mut list = [0u8; limits::MAX_STEPS];
     let steps = plan_text::read(planned, &mut list);
     match steps {
         Outcome::Written(n) => say_report(compiled, text::front(&list, n)),
@@ -66,7 +66,7 @@ fn main() {
     // The buffers have room for more than any accepted file and any text that is read, so that a longer one gets the answer of the whole
     // file.
     let mut task = io::large_buffer();
-    let mut planned = [0u8; 65537];
+    let mut planned = [0u8; limits::MAX_TEXT + 1];
     let of_task = files::read(b"task", &mut task);
     let of_planned = files::read(b"planned", &mut planned);
     let Content::Bytes(n) = of_task else {

@@ -151,7 +151,7 @@ pub fn each_false(out: &mut [u8], c: Cursor, marks: &[u8], values: &[u8], e: Eff
     let mut k = c;
     let mut j = condition.from;
     while j < to {
-        if writer::TOO_MANY <= k.next {
+        if writer::OVERFULL <= k.next {
             return k;
         }
         k = false_row(&mut *out, k, marks, values, e, j, begun);

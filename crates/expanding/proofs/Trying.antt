@@ -20,8 +20,8 @@ use Rattle.meeting.specs.Meeting.{Nodes, listOf, Held, roomed, keptAs, AllBelow
 use Rattle.meeting.proofs.Meeting.{roomed-is}
 use Rattle.leading.specs.Leading.{LedTo}
 use Rattle.lists.proofs.Tests.{all-at}
-use Rattle.settling.specs.Amounts.{AMPLE}
-use Rattle.plan.specs.Steps.{ActionAt}
+use Rattle.layout.specs.Counting.{AMPLE}
+use Rattle.layout.specs.Actions.{ActionAt}
 use Rattle.expanding.specs.declared.Trial.{Trial}
 use Rattle.expanding.specs.declared.Turn.{Turn}
 use Rattle.expanding.specs.Expanding.{Listed, Trying, Tried, Expanding, nodeOf, Expanded}

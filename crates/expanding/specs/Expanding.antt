@@ -12,7 +12,7 @@ use Rattle.task.specs.Rows.{Rows}
 use Rattle.state.specs.Member.{member}
 use Rattle.leading.specs.Leading.{LedTo}
 use Rattle.node_words.specs.declared.Packed.{Packed}
-use Rattle.settling.specs.Amounts.{AMPLE}
+use Rattle.layout.specs.Counting.{AMPLE}
 use Rattle.layout.specs.Rows.{Spells}
 use Rattle.layout.specs.Actions
 use Rattle.layout.specs.Actions.{Noted}

@@ -5,7 +5,7 @@ ghost use Prim.Native.Nat.{ℕ, _+_, _*_, _<_};
 ghost use lib.ListN.{length};
 ghost use Rattle.meaning.specs.Task.{Task};
 ghost use Rattle.task.specs.Rows.{Rows};
-ghost use Rattle.plan.specs.Steps.{ActionAt, SomeAction};
+ghost use Rattle.layout.specs.Actions.{ActionAt, SomeAction};
 ghost use Rattle.searching.specs.Limits.{MAX-NODES};
 ghost use Rattle.meeting.specs.Meeting.{nodesIn};
 ghost use Rattle.expanding.specs.Expanding.{Listed, Trying, Tried, Expanding, Expanded};

@@ -15,8 +15,8 @@ use Rattle.task.specs.Limits.{MAX-AMOUNT}
 use Rattle.task.specs.Spelling.{spellable}
 use Rattle.reading.specs.Conditions.{begin, evaluateAt}
 use Rattle.reading.specs.declared.conditions.Evaluated.{Evaluated}
-use Rattle.plan.proofs.TaskRead.{goal-read}
-use Rattle.plan.proofs.ThenSettled.{cost-bound}
+use Rattle.monitors.proofs.TaskRead.{goal-read}
+use Rattle.task.proofs.Amounts.{cost-bound}
 use Rattle.state.specs.Member.{member}
 use Rattle.searching.specs.Search.{Node, nodeAt, cheapest, tried, Kept, found, no-plan, full, Answer, answer, with-place, goOn, turn, turns, explore}
 use Rattle.searching.specs.States.{Below}

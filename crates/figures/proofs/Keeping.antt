@@ -15,7 +15,7 @@ use Rattle.figures.specs.Reordered.{Reordered}
 use Rattle.figures.specs.Figures.{Solution, solution, solutions, meeting, metrics, overall, least, greatest, solve, amountsOf}
 use Rattle.figures.specs.Figures.{figuresOver, figures}
 use Rattle.figures.specs.Sound.{Sound, SoundIn}
-use Rattle.figures.proofs.Numbered.{length-range}
+use Rattle.lists.proofs.Ranges.{length-range}
 use Rattle.figures.proofs.Sums.{sum-at-most, sum-at-least, least-low, greatest-high}
 use Rattle.figures.proofs.Reorder.{same, concatenated}
 

@@ -18,9 +18,10 @@ use Rattle.task.proofs.Checking.{within}
 use Rattle.task.proofs.Spelled.{accepted-spelling}
 use Rattle.plan.specs.Judged.{judged}
 use Rattle.figures.specs.Plans.{count, entryAt, entries, stepBytes, planOf, plans, headed, stands, readable}
-use Rattle.figures.specs.Week.{given, refused, weekBy, weekOf}
+use Rattle.figures.specs.Week.{given, refused, weekOf}
 use Rattle.figures.specs.Pass.{Tally, noPlans, closed, turned, passOn, pass, passAt}
-use Rattle.figures.proofs.Numbered.{drop-range, drop-map, length-entries}
+use Rattle.lists.proofs.Ranges.{drop-range, drop-map}
+use Rattle.figures.proofs.Numbered.{length-entries}
 use Rattle.figures.proofs.Passing.{pass-is}
 
 module _ (f : List ℕ) (i : ℕ) where
@@ -100,10 +101,6 @@ module _ (f : List ℕ) (r : readable f ≡ true) where
 -- The answer, in the order of the refusals
 
 module _ (b f : List ℕ) where
-  pub week-refused : (n i : ℕ) → check b ≡ Check.refused n i → weekOf b f ≡ refused n i
-  unfolding weekOf
-  week-refused n i h = ap (weekBy b f) h
-
   module _ (z : Sizes) (h : check b ≡ Check.accepted z) where
     pub week-unreadable : readable f ≡ false → weekOf b f ≡ refused 18 0
     unfolding weekOf

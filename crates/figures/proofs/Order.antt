@@ -1,9 +1,8 @@
 -- The figures do not hang on the order of the plans.
 use mathlib.Core.Path.{_≡_, refl, sym, ap, ap₂, subst⁻¹, _∙_}
-use mathlib.Core.Bool.{Bool, true, false, cond, _&&_, _||_}
+use mathlib.Core.Bool.{Bool, true, false, cond, _&&_, _||_, true≢false}
 use mathlib.Core.List.{List, [], map}
 use Prim.Native.Nat.{ℕ, suc, _+_, _*_}
-use native.Mathlib.Omega.{arith}
 use lib.Dec.{leb}
 use lib.ListN.{length, getD}
 use Rattle.lists.specs.Lists.{all, any}
@@ -36,9 +35,6 @@ module _ {A : Type 0} (p : A → Bool) {xs ys : List A} (r : Reordered xs ys) wh
       go true false c = refl
       go false b c = refl
 
-never-given : (n i : ℕ) (x : Figures) → refused n i ≡ given x → ⊥
-never-given n i x e = let z : _≡_ {A = ℕ} 0 1 = cc in omega arith
-
 pub of-reordered : (b : List ℕ) (z : Sizes) (x : Figures) {ps qs : List (List ℕ)} → Reordered ps qs → ofPlans b z ps ≡ given x → ofPlans b z qs ≡ given x
 of-reordered b z x {ps} {qs} r = rw (any-reordered (isFaulty (z .actions)) r) (go (any (isFaulty (z .actions)) qs))
   where
@@ -47,7 +43,7 @@ of-reordered b z x {ps} {qs} r = rw (any-reordered (isFaulty (z .actions)) r) (g
 
     go : (c : Bool) → cond c (refused (faultNumber (getD ps (firstFaulty A ps) [])) (firstFaulty A ps)) (given (figures (z .preferences) (map (verdict (taskOf b)) ps))) ≡ given x
         → cond c (refused (faultNumber (getD qs (firstFaulty A qs) [])) (firstFaulty A qs)) (given (figures (z .preferences) (map (verdict (taskOf b)) qs))) ≡ given x
-    go true e = absurd (never-given (faultNumber (getD ps (firstFaulty A ps) [])) (firstFaulty A ps) x e)
+    go true e = absurd (true≢false (cc))
     go false e = ap given (sym (figures-reordered (z .preferences) (mapped (verdict (taskOf b)) r))) ∙ e
 
 -- f and g have the same step bytes, and the same entries in another order

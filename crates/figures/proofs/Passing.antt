@@ -19,7 +19,7 @@ use Rattle.figures.specs.Reordered.{Reordered, then}
 use Rattle.figures.specs.Figures.{Solution, solution, solutions, meeting, metrics, least, greatest, figuresOver}
 use Rattle.figures.specs.Week.{Answer, given, refused, isFaulty, firstFaulty, faultNumber, ofPlans}
 use Rattle.figures.specs.Pass.{Tally, noPlans, raised, counted, taken, closed, turned, passOn, pass}
-use Rattle.figures.proofs.Numbered.{take-numbered}
+use Rattle.lists.proofs.Ranges.{take-numbered}
 use Rattle.figures.proofs.Reorder.{as-was, other-way, past}
 use Rattle.figures.proofs.Keeping.{over-reordered}
 use Rattle.figures.proofs.Judging.{faultPlace, judged-as}
@@ -43,9 +43,6 @@ tallyOf xs =
       total = sum (metrics xs);
       meetings = map (meeting xs) (range 0 16);
     }
-
-of-none : noPlans ≡ tallyOf []
-of-none = refl
 
 raised-numbered : (met : ℕ → Bool) (g : ℕ → ℕ) (k n : ℕ) → raised met k (map g (range k n)) ≡ map (λ (j : ℕ). cond (met j) (g j + 1) (g j)) (range k n)
 raised-numbered met g k zero = refl

@@ -19,7 +19,7 @@ use Rattle.task.proofs.Spelled.{accepted-spelling}
 use Rattle.figures.specs.Plans.{count, entries, stepBytes, planOf, plans, readable}
 use Rattle.figures.specs.Figures.{Solution, solutions, Amounts, Figures, solve, figuresOver, figures, metrics}
 use Rattle.figures.specs.Week.{Answer, given, refused, isFaulty, firstFaulty, faultNumber, ofPlans, weekBy, weekOf}
-use Rattle.figures.specs.Sound.{SoundIn, FitsIn, IfGiven}
+use Rattle.figures.specs.Sound.{SoundIn, SumsWithin, IfGiven}
 use Rattle.figures.proofs.Numbered.{length-entries}
 use Rattle.figures.proofs.Sums.{greatest-sum}
 use Rattle.figures.proofs.Reorder.{same}
@@ -78,13 +78,13 @@ week-few b f = if-given b f (λ (x : Figures). (count f ≤ 64) × (sizes b .pre
         let s = accepted-spelling b z h in
         (omega (arith, few-plans f r, count-plans f), omega (arith, Sized.within z (s .allowed) .4, ap (λ (x : Sizes). x .preferences) (s .same)))
 
-fits-in : (M P : ℕ) (xs : List Solution) → length xs ≤ 64 → sum (metrics xs) ≤ M → FitsIn M (figuresOver P xs)
+fits-in : (M P : ℕ) (xs : List Solution) → length xs ≤ 64 → sum (metrics xs) ≤ M → SumsWithin M (figuresOver P xs)
 fits-in M P [] n s = tt
 fits-in M P (x ∷ xs) n s = record { few = n; small = s; within = greatest-sum (x .metric) (metrics xs) }
 
 -- at most 64 plans of 2,048 steps and 16 preferences, at the limit of costs and weights
-pub week-fits : (b f : List ℕ) → IfGiven (FitsIn (132096 * MAX-AMOUNT)) (weekOf b f)
-week-fits b f = if-given b f (FitsIn (132096 * MAX-AMOUNT)) on
+pub week-fits : (b f : List ℕ) → IfGiven (SumsWithin (132096 * MAX-AMOUNT)) (weekOf b f)
+week-fits b f = if-given b f (SumsWithin (132096 * MAX-AMOUNT)) on
   where
     count-solving : length (solutions (map (verdict (taskOf b)) (plans f))) ≤ length (plans f)
     count-solving =
@@ -92,7 +92,7 @@ week-fits b f = if-given b f (FitsIn (132096 * MAX-AMOUNT)) on
         (omega (arith, length-map (filter (solves (taskOf b)) (plans f)) (solutionOf (taskOf b)), filter-fewer (solves (taskOf b)) (plans f)))
 
     on : (z : Sizes) → check b ≡ Check.accepted z → T (readable f) → T (noneOf (isFaulty (z .actions)) (plans f))
-        → FitsIn (132096 * MAX-AMOUNT) (figures (z .preferences) (map (verdict (taskOf b)) (plans f)))
+        → SumsWithin (132096 * MAX-AMOUNT) (figures (z .preferences) (map (verdict (taskOf b)) (plans f)))
     on z h r n =
         fits-in (132096 * MAX-AMOUNT) (z .preferences) (solutions (map (verdict (taskOf b)) (plans f))) (omega (arith, count-solving, few-plans f r))
         (total-most (taskOf b) MAX-AMOUNT (accepted-limited b z h) (plans f) (few-plans f r)
@@ -100,7 +100,7 @@ week-fits b f = if-given b f (FitsIn (132096 * MAX-AMOUNT)) on
 
 -- so the sum is a number of 64 bits
 pub week-64 : (b f : List ℕ) (n : ℕ) (a : Amounts) → weekOf b f ≡ given (solve n a) → a .total < 18446744073709551616
-week-64 b f n a e = total-fits MAX-AMOUNT (a .total) (omega arith) (subst (IfGiven (FitsIn (132096 * MAX-AMOUNT))) e (week-fits b f) .small)
+week-64 b f n a e = total-fits MAX-AMOUNT (a .total) (omega arith) (subst (IfGiven (SumsWithin (132096 * MAX-AMOUNT))) e (week-fits b f) .small)
 
 -- Behind 18, a refusal is by the first faulty plan: its number is the place
 

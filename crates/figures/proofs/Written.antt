@@ -2,21 +2,20 @@
 use mathlib.Core.Path.{_≡_, refl, sym, ap, ap₂, _∙_}
 use mathlib.Core.Bool.{Bool, _&&_}
 use mathlib.Core.List.{List, [], _∷_, _++_, append-assoc}
-use Prim.Native.Nat.{ℕ, zero, suc, _+_, _*_, _/_, _%_, _≤_, _<_}
+use Prim.Native.Nat.{ℕ, zero, suc, _+_, _*_, _≤_, _<_}
 use native.Mathlib.Nat.{zero-add}
 use native.Mathlib.Omega.{arith}
 use lib.Dec.{T, ltb, ltb→lt}
 use lib.ListN.{length, getD, drop, length-append}
 use lib.Seq.{getD-append-add, drop-at, ext-getD}
 use Rattle.lists.specs.Lists.{all, concatMap, range}
+use Rattle.task.proofs.Bytes.{word16-back}
 use Rattle.task.specs.File.{word16, bytes16}
 use Rattle.lists.proofs.Tests.{tests, all-implies}
 use Rattle.lists.proofs.Entries.{getD-map}
 use Rattle.figures.specs.Plans.{Entry, count, entryAt, entries, stepBytes, starts, lengths, fileOf}
-use Rattle.figures.proofs.Numbered.{length-range, getD-range, length-entries}
-
-word-back : (n : ℕ) → n < 65536 → n % 256 + 256 * (n / 256 % 256) ≡ n
-word-back n h = omega arith
+use Rattle.lists.proofs.Ranges.{length-range, getD-range}
+use Rattle.figures.proofs.Numbered.{length-entries}
 
 -- a number of 16 bits after xs
 word-after : (xs ys : List ℕ) (i : ℕ) → word16 (xs ++ ys) (length xs + i) ≡ word16 ys i
@@ -37,7 +36,7 @@ module _ (g : Entry → ℕ) where
       → word16 (words es ++ rest) (2 * i) ≡ g (getD es i d)
   word-of [] rest d t i h = absurd (omega arith)
   word-of (e ∷ es) rest d t zero h =
-      word-back (g e) (ltb→lt (g e) 65536 (search tests))
+      word16-back (g e) (ltb→lt (g e) 65536 (search tests))
   word-of (e ∷ es) rest d t (suc i) h =
       let at : 2 * suc i ≡ 2 + 2 * i = omega arith in
       ap (word16 (bytes16 (g e) ++ (words es ++ rest))) at
@@ -56,7 +55,7 @@ module _ (es : List Entry) (bytes : List ℕ) (few : length es ≤ 64) where
   f = fileOf es bytes
 
   pub count-back : count f ≡ length es
-  count-back = word-back (length es) (omega arith)
+  count-back = word16-back (length es) (omega arith)
 
   pub steps-back : stepBytes f ≡ bytes
   steps-back =

@@ -6,7 +6,7 @@ use Prim.Native.Nat.{ℕ, _+_, _*_, _-_, _/_, _%_, _≤_}
 use lib.Dec.{T, eqb, ltb, leb}
 use lib.ListN.{length, take, drop, replicate}
 use Rattle.lists.specs.Lists.{all}
-use Rattle.task.specs.Limits.{MAX-AMOUNT}
+use Rattle.task.specs.Limits.{MAX-AMOUNT, MAX-PREFERENCES}
 use Rattle.meaning.specs.Verdict.{Verdict, solved, stopped, goal-missed, rule-missed}
 use Rattle.plan.specs.Judged
 use Rattle.plan.specs.Judged.{Judged, judged}
@@ -23,7 +23,7 @@ pub record Tally : Type 0 where
   pub meetings : List ℕ
 
 abbrev pub noPlans : Tally
-noPlans = record { solving = 0; lowest = 0; highest = 0; total = 0; meetings = replicate 16 0 }
+noPlans = record { solving = 0; lowest = 0; highest = 0; total = 0; meetings = replicate MAX-PREFERENCES 0 }
 
 -- one more at each number in a set, the first of the list being number k
 abbrev pub raised : (ℕ → Bool) → ℕ → List ℕ → List ℕ
@@ -101,13 +101,13 @@ pub record Small (most i : ℕ) (a : Tally) : Type 0 where
   pub few : a .solving ≤ i
   pub sum : a .total ≤ i * most
   pub counts : AtMost i (a .meetings)
-  pub sixteen : length (a .meetings) ≡ 16
+  pub sixteen : length (a .meetings) ≡ MAX-PREFERENCES
 
 -- What is counted, of P preferences: no preference from P on, and none where no plan solves
 pub record Counting (P : ℕ) (a : Tally) : Type 0 where
-  pub sixteen : length (a .meetings) ≡ 16
-  pub beyond : drop P (a .meetings) ≡ replicate (16 - P) 0
-  pub unsolved : a .solving ≡ 0 → a .meetings ≡ replicate 16 0
+  pub sixteen : length (a .meetings) ≡ MAX-PREFERENCES
+  pub beyond : drop P (a .meetings) ≡ replicate (MAX-PREFERENCES - P) 0
+  pub unsolved : a .solving ≡ 0 → a .meetings ≡ replicate MAX-PREFERENCES 0
 
 abbrev pub CountingIn : ℕ → Turn → Type 0
 CountingIn P (on a) = Counting P a

@@ -6,6 +6,7 @@ use lib.Dec.{leb}
 use lib.ListN.{length, take, drop}
 use Rattle.lists.specs.Lists.{all, concatMap, range}
 use Rattle.task.specs.File.{word16, bytes16}
+use Rattle.task.specs.Limits.{MAX-PLANS}
 
 abbrev pub count : List ℕ → ℕ
 count f = word16 f 0
@@ -35,7 +36,7 @@ plans f = map (planOf (stepBytes f)) (entries f)
 
 -- a count from 1 to 64, and a file long enough for it and for the arrays
 abbrev pub headed : List ℕ → Bool
-headed f = leb 2 (length f) && leb 1 (count f) && leb (count f) 64 && leb (2 + 4 * count f) (length f)
+headed f = leb 2 (length f) && leb 1 (count f) && leb (count f) MAX-PLANS && leb (2 + 4 * count f) (length f)
 
 -- the plan stands within the step bytes, one of no steps too
 abbrev pub stands : List ℕ → Entry → Bool

@@ -6,6 +6,7 @@ use lib.ListN.{length}
 use Rattle.lists.specs.Lists.{all}
 use Rattle.figures.specs.Figures.{Amounts, Figures, none-solves, solve}
 use Rattle.figures.specs.Week.{Answer, given, refused}
+use Rattle.task.specs.Limits.{MAX-PLANS}
 
 -- where n plans solve, of P preferences
 pub record Sound (P n : ℕ) (a : Amounts) : Type 0 where
@@ -25,14 +26,14 @@ SoundIn P none-solves = Unit {0}
 SoundIn P (solve n a) = Sound P n a
 
 -- at most 64 plans, a sum that is at most this, and no metric over the sum
-pub record Fits (most n : ℕ) (a : Amounts) : Type 0 where
-  pub few : n ≤ 64
+pub record SumWithin (most n : ℕ) (a : Amounts) : Type 0 where
+  pub few : n ≤ MAX-PLANS
   pub small : a .total ≤ most
   pub within : a .highest ≤ a .total
 
-abbrev pub FitsIn : ℕ → Figures → Type 0
-FitsIn most none-solves = Unit {0}
-FitsIn most (solve n a) = Fits most n a
+abbrev pub SumsWithin : ℕ → Figures → Type 0
+SumsWithin most none-solves = Unit {0}
+SumsWithin most (solve n a) = SumWithin most n a
 
 abbrev pub IfGiven : (Figures → Type 0) → Answer → Type 0
 IfGiven holds (given x) = holds x

@@ -6,6 +6,6 @@ use Rattle.files.specs.declared.Content.{Content}
 use Rattle.files.specs.declared.Content.the-variants.{Bytes, Missing}
 
 -- the bytes that were read lie within the buffer
-abbrev pub Fits : Content → List ℕ → Type 0
-Fits (Bytes n) buf = n ≤ length buf
-Fits Missing buf = Unit {0}
+abbrev pub WithinBuffer : Content → List ℕ → Type 0
+WithinBuffer (Bytes n) buf = n ≤ length buf
+WithinBuffer Missing buf = Unit {0}

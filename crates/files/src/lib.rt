@@ -1,5 +1,5 @@
 // Files by name, and the lines that every program prints.
-ghost use Rattle.files.specs.Content.{Fits};
+ghost use Rattle.files.specs.Content.{WithinBuffer};
 use libc::STDOUT_FILENO;
 use task::Refusal;
 
@@ -12,7 +12,7 @@ pub enum Content {
 // Reads an open file to its end, or as much of it as the buffer has room for. A read that fails counts for the whole file: what
 // came before it is no file.
 fn read_open(fd: i32, buf: &mut [u8]) -> Content
-    ensures { λ r. ⌜ Fits r (now (buf .exit)) ⌝ }
+    ensures { λ r. ⌜ WithinBuffer r (now (buf .exit)) ⌝ }
 {
     let mut done = 0;
     while done < buf.len() {
@@ -31,7 +31,7 @@ fn read_open(fd: i32, buf: &mut [u8]) -> Content
 
 // Reads a file into the start of a buffer, as much of it as fits.
 pub fn read(name: &[u8], buf: &mut [u8]) -> Content
-    ensures { λ r. ⌜ Fits r (now (buf .exit)) ⌝ }
+    ensures { λ r. ⌜ WithinBuffer r (now (buf .exit)) ⌝ }
 {
     let fd = os::open_read(name);
     if fd < 0 {

@@ -17,8 +17,7 @@ fn main() {
         files::say_missing();
         return;
     };
-    // This holds every report.
-    let mut out = [0u8; 2048];
+    let mut out = [0u8; report::MAX_REPORT];
     let answer = report::write_report(text::front(&task, n), text::front(&plan, m), &mut out);
     match answer {
         Outcome::Written(k) => {

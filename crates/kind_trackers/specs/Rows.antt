@@ -7,10 +7,12 @@ use lib.ListN.{length}
 use Rattle.task.specs.Marks.{EFFECT, HOLDS, LACKS, ADD, DELETE}
 use Rattle.task.specs.Marks.{ALWAYS, SOMETIME, AT-END, AT-MOST-ONCE, SOMETIME-BEFORE, SOMETIME-AFTER, WITHIN, ALWAYS-WITHIN}
 use Rattle.task.specs.TaskRows.{Row, row}
+use Rattle.task.specs.Limits.{MAX-DEADLINE}
 use Rattle.lists.specs.Lists.{range, concatMap}
 use Rattle.classical.specs.Translation.{factD}
 use Rattle.layout.specs.Sides.{part}
 use Rattle.layout.specs.declared.sides.Sides.{Sides}
+use Rattle.layout.specs.declared.sides.Span.{Span}
 use Rattle.kind_trackers.specs.declared.Facts.{Facts}
 use Rattle.effects.specs.Effects.{singleRows, bothRows, falseRows}
 
@@ -22,6 +24,17 @@ pub record Small (f : Facts) : Type 0 where
   pub small-s : f .s < BEYOND
   pub small-b : f .b < BEYOND
   pub small-d : f .d < BEYOND
+
+-- the facts D that count so many steps; d is the fact before D1
+pub record Timed (d steps : ℕ) : Type 0 where
+  pub small : d < BEYOND
+  pub few : steps ≤ MAX-DEADLINE
+
+-- ψ is waited for so many steps
+pub record Waits (ms : List ℕ) (psi : Span) (f : Facts) (steps : ℕ) : Type 0 where
+  pub inside : psi .to ≤ length ms
+  pub facts : Small f
+  pub few : steps ≤ MAX-DEADLINE
 
 -- both sides are among the source's rows
 pub record SidesInside (ms : List ℕ) (p : Sides) : Type 0 where

@@ -2,15 +2,15 @@
 ghost use mathlib.Core.Path.{_≡_};
 ghost use mathlib.Core.List.{map};
 ghost use Prim.Native.Nat.{_+_, _<_, _≤_};
-ghost use lib.ListN.{length};
 ghost use Rattle.lists.specs.Lists.{range, concatMap};
 ghost use Rattle.task.specs.Marks.{DELETE};
 ghost use Rattle.task.specs.TaskRows.{row};
 ghost use Rattle.classical.specs.Translation.{factD};
 ghost use Rattle.task.specs.Rows.{Rows};
+ghost use Rattle.task.specs.Limits.{MAX-DEADLINE};
 ghost use Rattle.layout.specs.Sides.{part};
 ghost use Rattle.writer.specs.Writer.{Room, Wrote};
-ghost use Rattle.kind_trackers.specs.Rows.{SidesInside, sided, BEYOND, Small, onwardRows, countRows, withinRows, waitRows, allWaitRows, resetRows, soonRows};
+ghost use Rattle.kind_trackers.specs.Rows.{SidesInside, sided, BEYOND, Small, onwardRows, countRows, withinRows, waitRows, allWaitRows, resetRows, soonRows, Timed, Waits};
 use super::Facts;
 use effects::Change;
 use effects::Effect;
@@ -31,7 +31,7 @@ fn put_onward(out: &mut [u8], c: Cursor, d: u32, j: u32) -> Cursor
 }
 
 fn onwards(out: &mut [u8], c: Cursor, d: u32, steps: u32) -> Cursor
-    requires { ⌜ Room c (now out) × (d < BEYOND) × (steps < 16) ⌝ }
+    requires { ⌜ Room c (now out) × Timed d steps ⌝ }
     ensures { λ r. ⌜ Wrote (now (out .entry)) c (concatMap (onwardRows d) (range 1 steps)) r (now (out .exit)) ⌝ }
 {
     let mut k = c;
@@ -45,7 +45,7 @@ fn onwards(out: &mut [u8], c: Cursor, d: u32, steps: u32) -> Cursor
 
 // D1, D2 and so on count the states.
 fn put_count(out: &mut [u8], c: Cursor, d: u32, steps: u32) -> Cursor
-    requires { ⌜ Room c (now out) × (d < BEYOND) × (steps < 16) ⌝ }
+    requires { ⌜ Room c (now out) × Timed d steps ⌝ }
     ensures { λ r. ⌜ Wrote (now (out .entry)) c (countRows d steps) r (now (out .exit)) ⌝ }
 {
     let k = writer::put_row(&mut *out, c, marks::EFFECT, 0);
@@ -62,7 +62,7 @@ pub fn within(
     f: Facts,
     steps: u32,
 ) -> Cursor
-    requires { ⌜ Room c (now out) × Rows (now marks) (now values) × SidesInside (now marks) p × Small f × (steps < 16) ⌝ }
+    requires { ⌜ Room c (now out) × Rows (now marks) (now values) × SidesInside (now marks) p × Small f × (steps ≤ MAX-DEADLINE) ⌝ }
     ensures { λ r. ⌜ Wrote (now (out .entry)) c (sided (now (marks .entry)) (now (values .entry)) p (withinRows f steps)) r (now (out .exit)) ⌝ }
 {
     let phi = p.first;
@@ -95,7 +95,7 @@ fn put_wait(
     steps: u32,
     j: u32,
 ) -> Cursor
-    requires { ⌜ Room c (now out) × Rows (now marks) (now values) × (psi .to ≤ length (now marks)) × Small f × (j < 16) ⌝ }
+    requires { ⌜ Room c (now out) × Rows (now marks) (now values) × Waits (now marks) psi f j ⌝ }
     ensures { λ r. ⌜ Wrote (now (out .entry)) c (waitRows f steps (part (now (marks .entry)) (now (values .entry)) psi) j) r (now (out .exit)) ⌝ }
 {
     let next = fact_d(f, steps, j + 1);
@@ -116,7 +116,7 @@ fn put_waits(
     f: Facts,
     steps: u32,
 ) -> Cursor
-    requires { ⌜ Room c (now out) × Rows (now marks) (now values) × (psi .to ≤ length (now marks)) × Small f × (steps < 16) ⌝ }
+    requires { ⌜ Room c (now out) × Rows (now marks) (now values) × Waits (now marks) psi f steps ⌝ }
     ensures { λ r. ⌜ Wrote (now (out .entry)) c (allWaitRows f steps (part (now (marks .entry)) (now (values .entry)) psi)) r (now (out .exit)) ⌝ }
 {
     let mut k = c;
@@ -130,7 +130,7 @@ fn put_waits(
 
 // Deletes D1, D2 and so on.
 fn put_deletes(out: &mut [u8], c: Cursor, d: u32, steps: u32) -> Cursor
-    requires { ⌜ Room c (now out) × (d < BEYOND) × (steps < 16) ⌝ }
+    requires { ⌜ Room c (now out) × Timed d steps ⌝ }
     ensures { λ r. ⌜ Wrote (now (out .entry)) c (map (row DELETE) (range (d + 1) steps)) r (now (out .exit)) ⌝ }
 {
     let mut k = c;
@@ -152,7 +152,7 @@ fn put_reset(
     f: Facts,
     steps: u32,
 ) -> Cursor
-    requires { ⌜ Room c (now out) × Rows (now marks) (now values) × (psi .to ≤ length (now marks)) × Small f × (steps < 16) ⌝ }
+    requires { ⌜ Room c (now out) × Rows (now marks) (now values) × Waits (now marks) psi f steps ⌝ }
     ensures { λ r. ⌜ Wrote (now (out .entry)) c (resetRows f steps (part (now (marks .entry)) (now (values .entry)) psi)) r (now (out .exit)) ⌝ }
 {
     let in_time = Effect {
@@ -173,7 +173,7 @@ pub fn always_within(
     f: Facts,
     steps: u32,
 ) -> Cursor
-    requires { ⌜ Room c (now out) × Rows (now marks) (now values) × SidesInside (now marks) p × Small f × (steps < 16) ⌝ }
+    requires { ⌜ Room c (now out) × Rows (now marks) (now values) × SidesInside (now marks) p × Small f × (steps ≤ MAX-DEADLINE) ⌝ }
     ensures { λ r. ⌜ Wrote (now (out .entry)) c (sided (now (marks .entry)) (now (values .entry)) p (soonRows f steps)) r (now (out .exit)) ⌝ }
 {
     let phi = p.first;

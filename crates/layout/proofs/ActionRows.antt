@@ -37,7 +37,7 @@ preference-no-action q =
     (sides-pass (without (hasMark ACTION)) (λ v. tt) (λ v. tt) (λ v. tt) (λ v. tt) (λ v. tt) q)
 
 -- START, GOAL and the goal's condition
-abbrev opened : Task → List Row
+abbrev pub opened : Task → List Row
 opened t = map (row START) (t .start) ++ (row GOAL 0 ∷ conditionRows (t .goal))
 
 opened-no-action : (t : Task) → T (noneOf (hasMark ACTION) (opened t))

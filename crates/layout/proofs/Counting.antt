@@ -7,7 +7,8 @@ use lib.Dec.{T}
 use lib.ListN.{length, drop}
 use Rattle.lists.specs.Lists.{all, concatMap}
 use Rattle.meaning.specs.Task.{Preference, Task}
-use Rattle.task.specs.TaskRows.{Row, row, openingMark, preferenceRows, taskRows}
+use Rattle.task.proofs.RoundTrip.{openingRow}
+use Rattle.task.specs.TaskRows.{Row, preferenceRows, taskRows}
 use Rattle.task.specs.File.{paired, isPreference}
 use Rattle.task.specs.Rows.{run, runAt}
 use Rattle.lists.proofs.Tests.{tests, noneOf, without, as-true, as-false}
@@ -19,9 +20,6 @@ use Rattle.layout.specs.Counting.{counting, countAt}
 all-go : (xs : List Row) → T (all (passes (λ (m : ℕ). true)) xs)
 all-go [] = tt
 all-go (x ∷ xs) = all-go xs
-
-abbrev pub openingRow : Preference → Row
-openingRow q = row (openingMark (q .hard) (q .kind)) (q .weight)
 
 module _ {W : Type 0} (one : W → Row → W) where
   others : (w : W) (xs : List Row) → T (noneOf isPreference xs) → fold (counting one) w xs ≡ w

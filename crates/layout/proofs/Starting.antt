@@ -1,26 +1,19 @@
 -- Where preferences begin, noted one after the other.
-use mathlib.Core.Path.{_≡_, sym, ap, _∙_, subst⁻¹}
+use mathlib.Core.Path.{_≡_, sym, ap, _∙_}
 use mathlib.Core.List.{List, [], _∷_, _++_, append-assoc, append-nil}
 use Prim.Native.Nat.{ℕ, suc, _+_, _-_, _≤_, _<_}
 use native.Mathlib.Numerals.{add-one}
 use native.Mathlib.Omega.{arith}
-use lib.Dec.{T}
 use lib.ListN.{length, take, drop, set, length-drop}
 use lib.Seq.{take-suc-set}
 use borrow.Author.Tests.{lt-leb}
-use Rattle.lists.specs.Lists.{concatMap, nonEmpty}
+use Rattle.lists.specs.Lists.{concatMap}
 use Rattle.meaning.specs.Task.{Preference}
-use Rattle.task.specs.TaskRows.{Row, preferenceRows}
+use Rattle.task.specs.TaskRows.{preferenceRows}
 use Rattle.task.specs.File.{paired}
 use Rattle.task.proofs.Bytes.{length-paired}
-use Rattle.task.proofs.Reading.{row-end}
 use Rattle.layout.specs.Sides.{afterPreference, startsFrom, Located, sidesAt}
 use Rattle.layout.proofs.Ends.{located}
-
--- after the rows there is no preference
-pub no-preference : {A : Type 0} (ms vs : List ℕ) (at : ℕ) (q : Preference) (qs : List Preference)
-    → drop at (paired ms vs) ≡ concatMap preferenceRows (q ∷ qs) → length ms ≤ at → A
-no-preference ms vs at q qs e h = absurd (subst⁻¹ (λ (l : List Row). T (nonEmpty l)) (sym (row-end ms vs at h) ∙ e) tt)
 
 -- The loop
 

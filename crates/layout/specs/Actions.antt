@@ -9,6 +9,7 @@ use Rattle.lists.specs.Lists.{all, concatMap}
 use Rattle.task.specs.Marks.{ACTION, GOAL, START}
 use Rattle.meaning.specs.Task.{Task}
 use Rattle.task.specs.TaskRows.{row, conditionRows, actionRows}
+use Rattle.layout.specs.Rows.{Spells}
 
 -- the rows whose mark is ACTION, of marks of which the first is row i's
 unfoldable pub actionsFrom : ℕ → List ℕ → List ℕ
@@ -23,6 +24,15 @@ actionRow t k =
 -- entry k is the row of action k
 abbrev pub Noted : Task → List ℕ → Type 0
 Noted t starts = (k : ℕ) → k < length (t .actions) → getD starts k 0 ≡ actionRow t k
+
+-- row i opens action k of t
+pub record ActionAt (ms vs : List ℕ) (i : ℕ) (t : Task) (k : ℕ) : Type 0 where
+  pub spells : Spells ms vs t
+  pub known : k < length (t .actions)
+  pub begins : i ≡ actionRow t k
+
+abbrev pub SomeAction : List ℕ → List ℕ → ℕ → Type 0
+SomeAction ms vs i = (t : Task) × (k : ℕ) × ActionAt ms vs i t k
 
 abbrev pub AllBelow : ℕ → List ℕ → Type 0
 AllBelow n ns = T (all (λ (k : ℕ). ltb k n) ns)

@@ -2,6 +2,7 @@
 ghost use mathlib.Core.Path.{_≡_};
 ghost use Prim.Native.Nat.{_≤_, _<_};
 ghost use lib.ListN.{length, take};
+ghost use Rattle.task.specs.Limits.{MAX-PREFERENCES};
 ghost use Rattle.layout.specs.Sides.{endAt, sidesAt, InOrder, afterPreference, startsFrom};
 use task::marks;
 
@@ -72,7 +73,7 @@ fn after_preference(marks: &[u8], at: usize) -> usize
 
 // Notes at which rows so many preferences begin; the first one begins at row `at`.
 pub fn note_starts(marks: &[u8], at: usize, many: usize, starts: &mut [usize])
-    requires { ⌜ (many ≤ length (now starts)) × (many ≤ 16) ⌝ }
+    requires { ⌜ (many ≤ length (now starts)) × (many ≤ MAX-PREFERENCES) ⌝ }
     ensures { λ r. ⌜ take many (now (starts .exit)) ≡ startsFrom (now (marks .entry)) at many ⌝ }
 {
     let mut c = 0;

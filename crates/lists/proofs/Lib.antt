@@ -1,3 +1,4 @@
 pub mod Tests
 pub mod First
 pub mod Entries
+pub mod Ranges

@@ -26,6 +26,10 @@ as-T e = rw e tt
 pub never : {b : Bool} → T b → b ≡ false → ⊥
 never t e = subst T e t
 
+pub denied : (b : Bool) → T (not b) → T b → ⊥
+denied true n t = n
+denied false n t = t
+
 pub not-both : {b : Bool} → b ≡ true → b ≡ false → ⊥
 not-both p q = true≢false (sym p ∙ q)
 

@@ -20,7 +20,7 @@ use Rattle.classical.proofs.Applies.{isAccepting, closer, goal-open}
 use Rattle.classical.proofs.Runs.{wins, solves-win}
 use Rattle.classical.proofs.Plans.{closer-cost}
 use Rattle.losses.specs.Losses.{isLost, lostOf, lostIn}
-use Rattle.losses.proofs.Shown.{shows-losable, shown-bad, shown-stays}
+use Rattle.losses.proofs.Shown.{shows-losable, shown-not-accepting, shown-stays}
 use Rattle.losses.proofs.Moves.{stateAfter, shown, Move, by-source, by-end, by-closing, move, Simulated, moved, broken-is}
 
 -- Sums of g and of h over the range below P
@@ -142,15 +142,15 @@ module _ (t : Task) (wf : T (wellFormed t)) where
         price : actionAt c j .cost ≡ cond (isAccepting t m k) 0 (preferenceAt t k .weight)
         price = ap (λ (n : ℕ). actionAt c n .cost) e ∙ closer-cost t (isAccepting t m k) k below
 
-        bad : T (isLost t τ k) → T (not (isAccepting t m k))
-        bad l =
+        missed : T (isLost t τ k) → T (not (isAccepting t m k))
+        missed l =
             let q : Preference = preferenceAt t k in
             let s : T (shown t m k) = and-right (not (q .hard)) (shown t m k) (and-left (counted t m k) (leb k k) (subst T (lost-is m r k σ τ M k below) l)) in
-            subst T (shown-bad (q .kind) (shows-losable (q .kind) (m q .S) (m q .B) s) (m q)) s
+            subst T (shown-not-accepting (q .kind) (shows-losable (q .kind) (m q .S) (m q .B) s) (m q)) s
 
         paid : lostOf t τ k ≤ actionAt c j .cost + lostOf t next k
         paid =
-            let enough : lostOf t τ k ≤ cond (isAccepting t m k) 0 (preferenceAt t k .weight) = weight-paid (isLost t τ k) (isAccepting t m k) (preferenceAt t k .weight) bad in
+            let enough : lostOf t τ k ≤ cond (isAccepting t m k) 0 (preferenceAt t k .weight) = weight-paid (isLost t τ k) (isAccepting t m k) (preferenceAt t k .weight) missed in
             omega (arith, price)
 
         still : (i : ℕ) → i < P → i ≢ k → T (isLost t τ i) → T (isLost t next i)

@@ -36,15 +36,15 @@ once-bool true false = refl
 once-bool false true = refl
 once-bool false false = refl
 
-pub shown-bad : (k : Kind) → T (losable k) → (m : Monitor) → shownBy k m ≡ not (accepting k m)
-shown-bad always l m = lacks-twice (m .B)
-shown-bad sometime l m = absurd l
-shown-bad at-end l m = absurd l
-shown-bad at-most-once l m = once-bool (m .S) (m .B)
-shown-bad sometime-before l m = lacks-twice (m .B)
-shown-bad sometime-after l m = absurd l
-shown-bad (within t) l m = absurd l
-shown-bad (always-within t) l m = absurd l
+pub shown-not-accepting : (k : Kind) → T (losable k) → (m : Monitor) → shownBy k m ≡ not (accepting k m)
+shown-not-accepting always l m = lacks-twice (m .B)
+shown-not-accepting sometime l m = absurd l
+shown-not-accepting at-end l m = absurd l
+shown-not-accepting at-most-once l m = once-bool (m .S) (m .B)
+shown-not-accepting sometime-before l m = lacks-twice (m .B)
+shown-not-accepting sometime-after l m = absurd l
+shown-not-accepting (within t) l m = absurd l
+shown-not-accepting (always-within t) l m = absurd l
 
 -- it stays
 
@@ -99,7 +99,7 @@ none-missed (always-within t) l = absurd l
 pub shown-missed : (k : Kind) → T (losable k) → (xs : List Observation) → shownBy k (through k fresh xs) ≡ not (met k xs)
 shown-missed k l [] = none-missed k l
 shown-missed k l (x ∷ xs) =
-    shown-bad k l (through k fresh (x ∷ xs))
+    shown-not-accepting k l (through k fresh (x ∷ xs))
     ∙ ap (λ (m : Monitor). not (accepting k m)) (through-watch k l fresh x xs)
     ∙ ap not (watched k x xs)
 

@@ -1,6 +1,6 @@
 -- A list of translated actions of the task in a file, from what measure answers.
 use mathlib.Core.Path.{_≡_, refl, sym, ap, _∙_}
-use mathlib.Core.Bool.{Bool, true, false, true≢false}
+use mathlib.Core.Bool.{true≢false}
 use mathlib.Core.List.{List}
 use Prim.Native.Nat.{ℕ, _≤_, _<_}
 use native.Mathlib.Omega.{arith}
@@ -20,6 +20,7 @@ use Rattle.layout.proofs.Parts.{marksOf, valuesOf, parts-spelled}
 use Rattle.layout.proofs.ActionRows.{as-many}
 use Rattle.plan.specs.Judged.{stepsKnown}
 use Rattle.plan.proofs.Walking.{all-known, not-all-known}
+use Rattle.classical.specs.Translation.{translatedActions}
 use Rattle.classical.proofs.Written.{written}
 use Rattle.translation.specs.Measured
 use Rattle.translation.specs.Measured.{Measured, within, measured}
@@ -29,7 +30,7 @@ use Rattle.losses.specs.Following.{first, followed}
 use Rattle.losses.proofs.Following.{followed-is}
 use Rattle.losses.proofs.Claim.{losses-written}
 use Rattle.lost_run.specs.Run.{Source}
-use Rattle.lost.specs.Answered.{Answered, given, refused, actionsOf, answeredBy, answered, Claimed}
+use Rattle.lost.specs.Answered.{given, refused, answeredBy, answered, Claimed}
 
 -- a refusal of the task
 pub turned-down : (b p : List ℕ) (n i : ℕ) → Measured.refused n i ≡ measured b → refused n i ≡ answered b p
@@ -44,17 +45,17 @@ module _ (b p : List ℕ) (z : Sizes) (e : measured b ≡ within z) where
   pub accepted : check b ≡ Check.accepted z
   accepted = translatable b z e .accepting
 
-  pub few-actions : actionsOf z ≤ 128
+  pub few-actions : translatedActions z ≤ 128
   few-actions = translatable b z e .few-actions
 
   pub too-long : 2048 < length p → refused 10 0 ≡ answered b p
   too-long h = (rw (lt-leb (length p) 2048 h) at on-task)
 
   module _ (fits : length p ≤ 2048) where
-    pub unknown : stepsKnown (actionsOf z) p < length p → refused 11 (stepsKnown (actionsOf z) p) ≡ answered b p
-    unknown h = (rw (le-leb (length p) 2048 fits, not-all-known (actionsOf z) p h) at on-task)
+    pub unknown : stepsKnown (translatedActions z) p < length p → refused 11 (stepsKnown (translatedActions z) p) ≡ answered b p
+    unknown h = (rw (le-leb (length p) 2048 fits, not-all-known (translatedActions z) p h) at on-task)
 
-    module _ (h : length p ≤ stepsKnown (actionsOf z) p) where
+    module _ (h : length p ≤ stepsKnown (translatedActions z) p) where
       abbrev ms : List ℕ
       ms = marksOf b z
 
@@ -75,20 +76,16 @@ module _ (b p : List ℕ) (z : Sizes) (e : measured b ≡ within z) where
       pub run-on : (v : Lost) → ((t : Task) → Source ms vs (z .preferences) t → v ≡ followed t (first t) 0 p) → given v ≡ answered b p
       run-on v says =
           ap given (says (taskOf b) source ∙ followed-is (taskOf b) (spelling .formed) p)
-          ∙ (rw (le-leb (length p) 2048 fits, as-true (all (λ (k : ℕ). ltb k (actionsOf z)) p) (all-known (actionsOf z) p h)) at on-task)
+          ∙ (rw (le-leb (length p) 2048 fits, as-true (all (λ (k : ℕ). ltb k (translatedActions z)) p) (all-known (translatedActions z) p h)) at on-task)
 
 -- The claim
 
-isGiven : Answered → Bool
-isGiven (given v) = true
-isGiven (refused n i) = false
-
 pub claimed : (b p : List ℕ) (v : Lost) → answered b p ≡ given v → Claimed b
-unfolding answered isGiven
+unfolding answered
 claimed b p v e = go (measured b) refl e
   where
     go : (m : Measured) → measured b ≡ m → answeredBy b p m ≡ given v → Claimed b
-    go (Measured.refused n i) h e = absurd (true≢false (sym (ap isGiven e)))
+    go (Measured.refused n i) h e = absurd (true≢false (cc))
     go (within z) h e =
         let T : Translatable b z = translatable b z h in
         record {

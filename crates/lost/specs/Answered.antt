@@ -2,15 +2,15 @@
 use mathlib.Core.Path.{_≡_}
 use mathlib.Core.Bool.{cond}
 use mathlib.Core.List.{List}
-use Prim.Native.Nat.{ℕ, _+_, _*_}
+use Prim.Native.Nat.{ℕ}
 use lib.Dec.{leb, ltb}
 use lib.ListN.{length}
 use Rattle.lists.specs.Lists.{all}
-use Rattle.task.specs.File.{Sizes, taskOf}
+use Rattle.task.specs.File.{taskOf}
 use Rattle.task.specs.Limits.{MAX-STEPS}
 use Rattle.task.specs.Refused.{LONG-PLAN, STEP}
 use Rattle.plan.specs.Judged.{stepsKnown}
-use Rattle.classical.specs.Translation.{translated, compiled}
+use Rattle.classical.specs.Translation.{translated, compiled, translatedActions}
 use Rattle.translation.specs.Measured
 use Rattle.translation.specs.Measured.{Measured, measured}
 use Rattle.losses.specs.Losses.{Lost, lostAfter, Losses}
@@ -20,16 +20,12 @@ pub data Answered : Type 0 where
   given : Lost → Answered
   refused : ℕ → ℕ → Answered
 
--- how many actions the translation of a task of these sizes has
-abbrev pub actionsOf : Sizes → ℕ
-actionsOf z = z .actions + 2 * z .preferences + 1
-
 -- 1 to 8 are those of translating
 abbrev pub answeredBy : List ℕ → List ℕ → Measured → Answered
 answeredBy b p (Measured.refused n i) = refused n i
 answeredBy b p (Measured.within z) =
     cond (leb (length p) MAX-STEPS)
-    (cond (all (λ (k : ℕ). ltb k (actionsOf z)) p) (given (lostAfter (taskOf b) p)) (refused STEP (stepsKnown (actionsOf z) p)))
+    (cond (all (λ (k : ℕ). ltb k (translatedActions z)) p) (given (lostAfter (taskOf b) p)) (refused STEP (stepsKnown (translatedActions z) p)))
     (refused LONG-PLAN 0)
 
 unfoldable pub answered : List ℕ → List ℕ → Answered

@@ -1,6 +1,6 @@
 -- A rule read with its monitor.
-use mathlib.Core.Path.{_≡_, sym, ap, _∙_}
-use mathlib.Core.List.{List, [], _∷_}
+use mathlib.Core.Path.{_≡_, ap, _∙_}
+use mathlib.Core.List.{List}
 use Prim.Native.Nat.{ℕ, _<_}
 use lib.ListN.{length, getD}
 use Rattle.lists.specs.Lists.{concatMap}
@@ -9,17 +9,12 @@ use Rattle.meaning.specs.Monitor.{Monitor, accepting}
 use Rattle.task.specs.TaskRows.{Row, preferenceRows}
 use Rattle.task.specs.File.{opensHard, softMark, kindOf}
 use Rattle.task.specs.Rows.{valueAt, stepsAt}
-use Rattle.task.proofs.Reading.{row-at}
+use Rattle.task.proofs.Reading.{value-at}
 use Rattle.task.proofs.Steps.{hard-at, kind-at}
 use Rattle.layout.proofs.Starting.{within-rows}
 use Rattle.losses.specs.Losses.{shows}
 use Rattle.lost_run.specs.Run.{RuleAt, SeenBy}
 use Rattle.lost_run.specs.declared.rules.Rule.{Rule}
-
--- the value of the first row
-abbrev headValue : List Row → ℕ
-headValue [] = 0
-headValue (x ∷ xs) = x .value
 
 module _ (ms vs : List ℕ) (i : ℕ) (q : Preference) (R : RuleAt ms vs i q) where
   abbrev after : List Row
@@ -29,7 +24,7 @@ module _ (ms vs : List ℕ) (i : ℕ) (q : Preference) (R : RuleAt ms vs i q) wh
   inside = within-rows ms vs i q (R .rest) (R .spelled)
 
   pub weighs : valueAt vs i ≡ q .weight
-  weighs = ap headValue (sym (row-at ms vs i inside) ∙ R .spelled)
+  weighs = value-at ms vs i inside (R .spelled)
 
   pub seen-by : (m : Monitor) (k : Kind) (r : Rule) → k ≡ kindOf (softMark (getD ms i 0)) (stepsAt ms vs i) → r .hard ≡ opensHard (getD ms i 0)
       → r .weight ≡ valueAt vs i → r .met ≡ accepting k m → r .broken ≡ shows k (m .S) (m .B) → SeenBy q m r

@@ -12,10 +12,12 @@ use Rattle.meaning.specs.Monitor.{Monitor, accepting}
 use Rattle.task.specs.TaskRows.{preferenceRows}
 use Rattle.task.specs.File.{paired}
 use Rattle.task.specs.Spelling.{kindSpellable}
+use Rattle.task.specs.Limits.{MAX-ACTIONS, MAX-PREFERENCES}
 use Rattle.layout.specs.Rows.{Spells, PreferencesAt}
 use Rattle.layout.specs.Actions.{Noted}
 use Rattle.state.specs.Member.{member}
 use Rattle.state.specs.declared.State.{State}
+use Rattle.layout.specs.Counting.{AMPLE}
 use Rattle.plan.specs.Steps.{MonitorsAre}
 use Rattle.losses.specs.Losses.{Lost, lost, stopped, shows}
 use Rattle.losses.specs.Following.{Position, first, goes, led, followed}
@@ -49,7 +51,7 @@ lostOf r due = cond (not (r .hard) && r .broken && due) (r .weight) 0
 -- entry k is the row of rule k of t
 pub record Rules (ms vs rules : List ℕ) (t : Task) : Type 0 where
   pub many : length rules ≡ length (t .preferences)
-  pub few : length rules ≤ 16
+  pub few : length rules ≤ MAX-PREFERENCES
   pub each : (k : ℕ) → k < length (t .preferences) → RuleAt ms vs (getD rules k 0) (preferenceAt t k)
 
 abbrev pub SomeRules : List ℕ → List ℕ → List ℕ → Type 0
@@ -91,6 +93,11 @@ abbrev pub SteppedAs : Task → ℕ → Place → Taken → Type 0
 SteppedAs t k p (To q) = SourceTaken t k p q
 SteppedAs t k p the-variants.Stopped = applies t (member (p .state)) k ≡ false
 
+-- a rule can be closed from p without a number too large
+pub record Payable (A : ℕ) (p : Place) : Type 0 where
+  pub few : A ≤ MAX-ACTIONS
+  pub cheap : p .cost < AMPLE
+
 -- by action j where x is the next rule, of a task with A actions
 abbrev pub closedBy : Rule → ℕ → ℕ → Place → Taken
 closedBy x A j p =
@@ -111,7 +118,7 @@ pub record Setting (ms vs : List ℕ) (at : ℕ) (starts rules : List ℕ) (t : 
   pub spells : Spells ms vs t
   pub preferences : PreferencesAt t ms vs at
   pub all-actions : length starts ≡ length (t .actions)
-  pub few-actions : length starts ≤ 128
+  pub few-actions : length starts ≤ MAX-ACTIONS
   pub actions : Noted t starts
   pub all-rules : Rules ms vs rules t
 

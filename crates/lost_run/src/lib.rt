@@ -6,6 +6,7 @@ ghost use Prim.Native.Nat.{_≤_};
 ghost use lib.ListN.{length};
 ghost use Rattle.meaning.specs.Task.{Task};
 ghost use Rattle.task.specs.Rows.{Rows};
+ghost use Rattle.task.specs.Limits.{MAX-ACTIONS, MAX-STEPS};
 ghost use Rattle.layout.specs.Actions.{actionsFrom, AllBelow};
 ghost use Rattle.plan.specs.Steps.{AllFresh};
 ghost use Rattle.lost_run.specs.Run.{Setting, Opens, Source, RunAs};
@@ -16,6 +17,7 @@ use reading::opening;
 use state::State;
 use taking::Place;
 use taking::Taken;
+use task::limits;
 
 // The cost so far and the lost weights.
 pub struct Amounts {
@@ -41,7 +43,7 @@ fn follow(
     list: &[u8],
     ms: &mut [u8],
 ) -> Run
-    requires { ⌜ Rows (now marks) (now values) × (length (now list) ≤ 2048) × AllFresh (now ms) ⌝ }
+    requires { ⌜ Rows (now marks) (now values) × (length (now list) ≤ MAX-STEPS) × AllFresh (now ms) ⌝ }
     requires { ⌜ AllBelow (length (now marks)) (now starts) × ((t : Task) × Setting (now marks) (now values) at (now starts) (now rules) t × Opens s t) ⌝ }
     ensures { λ r. ⌜ ((t : Task) → Setting (now (marks .entry)) (now (values .entry)) at (now (starts .entry)) (now (rules .entry)) t
         → Opens s t → RunAs t (now (list .entry)) r) ⌝ }
@@ -82,17 +84,17 @@ fn follow(
 
 // What a list comes to on the task that the rows spell, with so many rules.
 pub fn run_list(marks: &[u8], values: &[u8], many: usize, list: &[u8]) -> Run
-    requires { ⌜ Rows (now marks) (now values) × (length (now list) ≤ 2048) × (length (actionsFrom 0 (now marks)) ≤ 128) ⌝ }
+    requires { ⌜ Rows (now marks) (now values) × (length (now list) ≤ MAX-STEPS) × (length (actionsFrom 0 (now marks)) ≤ MAX-ACTIONS) ⌝ }
     requires { ⌜ ((t : Task) × Source (now marks) (now values) many t) ⌝ }
     ensures { λ r. ⌜ ((t : Task) → Source (now (marks .entry)) (now (values .entry)) many t → RunAs t (now (list .entry)) r) ⌝ }
 {
     let start = opening::opening(marks, values);
     let at = actions::first_preference(marks);
-    let mut starts: [usize; 128] = [0; 128];
+    let mut starts: [usize; limits::MAX_ACTIONS] = [0; limits::MAX_ACTIONS];
     let acting = actions::note_actions(marks, &mut starts);
-    let mut table: [usize; 16] = [0; 16];
+    let mut table: [usize; limits::MAX_PREFERENCES] = [0; limits::MAX_PREFERENCES];
     sides::note_starts(marks, at, many, &mut table);
-    let mut ms: [u8; 16] = [0; 16];
+    let mut ms: [u8; limits::MAX_PREFERENCES] = [0; limits::MAX_PREFERENCES];
     follow(
         marks,
         values,

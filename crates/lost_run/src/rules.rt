@@ -5,6 +5,7 @@ ghost use lib.ListN.{length};
 ghost use Rattle.meaning.specs.Task.{Task, Preference};
 ghost use Rattle.task.specs.Answers.{asKind};
 ghost use Rattle.task.specs.Rows.{Rows};
+ghost use Rattle.task.specs.Limits.{MAX-PREFERENCES};
 ghost use Rattle.monitor.specs.Packed.{monitorAt};
 ghost use Rattle.losses.specs.Losses.{shows};
 ghost use Rattle.losses.specs.Following.{Position, lostHere};
@@ -40,7 +41,7 @@ fn is_broken(kind: Kind, m: Monitor) -> bool
 
 // Rule k, which row `from` opens.
 pub fn rule_at(marks: &[u8], values: &[u8], from: usize, k: usize, ms: &[u8]) -> Rule
-    requires { ⌜ Rows (now marks) (now values) × (from < length (now marks)) × (k < 16) ⌝ }
+    requires { ⌜ Rows (now marks) (now values) × (from < length (now marks)) × (k < MAX-PREFERENCES) ⌝ }
     ensures { λ r. ⌜ ((q : Preference) → RuleAt (now (marks .entry)) (now (values .entry)) from q → SeenBy q (monitorAt (now (ms .entry)) k) r) ⌝ }
 {
     let kind = kinds::kind_at(marks, values, from);

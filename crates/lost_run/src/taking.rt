@@ -5,11 +5,11 @@ ghost use Prim.Native.Nat.{ℕ, _+_, _*_, _≤_, _<_};
 ghost use lib.ListN.{length};
 ghost use Rattle.meaning.specs.Task.{Task};
 ghost use Rattle.task.specs.Rows.{Rows};
-ghost use Rattle.layout.specs.Actions.{AllBelow};
-ghost use Rattle.settling.specs.Amounts.{AMPLE};
-ghost use Rattle.plan.specs.Steps.{ActionAt, SomeAction};
+ghost use Rattle.task.specs.Limits.{MAX-ACTIONS, MAX-PREFERENCES};
+ghost use Rattle.layout.specs.Actions.{AllBelow, ActionAt, SomeAction};
+ghost use Rattle.layout.specs.Counting.{AMPLE};
 ghost use Rattle.losses.specs.Following.{Position};
-ghost use Rattle.lost_run.specs.Run.{SteppedAs, closedBy, SomeRules, Rules, Ended, Setting, Stands, TakenAs, Little};
+ghost use Rattle.lost_run.specs.Run.{SteppedAs, closedBy, SomeRules, Rules, Ended, Setting, Stands, TakenAs, Little, Payable};
 use super::rules;
 use super::rules::Rule;
 use plan::steps;
@@ -66,7 +66,7 @@ fn step(marks: &[u8], values: &[u8], from: usize, p: Place) -> Taken
 
 // The action that closes rule k: collect where it is met, forgo where it is missed.
 fn closing(actions: usize, met: bool, k: usize) -> usize
-    requires { ⌜ (actions ≤ 128) × (k < 16) ⌝ }
+    requires { ⌜ (actions ≤ MAX-ACTIONS) × (k < MAX-PREFERENCES) ⌝ }
     ensures { λ r. ⌜ r ≡ actions + cond met 1 2 + 2 * k ⌝ }
 {
     if met {
@@ -85,7 +85,7 @@ fn paid(x: Rule) -> u64
 
 // Action j, where the next rule is x: the one that closes it goes, but for forgo of a hard rule.
 fn close(x: Rule, actions: usize, j: usize, p: Place) -> Taken
-    requires { ⌜ (actions ≤ 128) × (p .closed < 16) × (p .cost < AMPLE) ⌝ }
+    requires { ⌜ Payable actions p × (p .closed < MAX-PREFERENCES) ⌝ }
     ensures { λ r. ⌜ (r ≡ closedBy x actions j p) × Little p r ⌝ }
 {
     let k = p.closed;
@@ -112,7 +112,7 @@ fn close_next(
     p: Place,
     ms: &[u8],
 ) -> Taken
-    requires { ⌜ Rows (now marks) (now values) × SomeRules (now marks) (now values) (now rules) × (actions ≤ 128) × (p .cost < AMPLE) ⌝ }
+    requires { ⌜ Rows (now marks) (now values) × SomeRules (now marks) (now values) (now rules) × Payable actions p ⌝ }
     ensures { λ r. ⌜ Little p r ⌝ }
     ensures { λ r. ⌜ ((t : Task) (q : Position) → Rules (now (marks .entry)) (now (values .entry)) (now (rules .entry)) t
         → Ended t (now (ms .entry)) actions p q → TakenAs t (now (ms .entry)) q j r) ⌝ }
@@ -136,7 +136,7 @@ pub fn take(
     p: Place,
     ms: &mut [u8],
 ) -> Taken
-    requires { ⌜ Rows (now marks) (now values) × (length (now ms) ≡ 16) × (p .cost < AMPLE) × AllBelow (length (now marks)) (now starts) ⌝ }
+    requires { ⌜ Rows (now marks) (now values) × (length (now ms) ≡ MAX-PREFERENCES) × (p .cost < AMPLE) × AllBelow (length (now marks)) (now starts) ⌝ }
     requires { ⌜ ((t : Task) × Setting (now marks) (now values) at (now starts) (now rules) t) ⌝ }
     ensures { λ r. ⌜ Little p r ⌝ }
     ensures { λ r. ⌜ ((t : Task) (q : Position) → Setting (now (marks .entry)) (now (values .entry)) at (now (starts .entry)) (now (rules .entry)) t

@@ -1,4 +1,4 @@
--- The monitors of within and always-within are good exactly where the preference is met.
+-- The monitors of within and always-within accept exactly where the preference is met.
 use mathlib.Core.Path.{_≡_, refl, sym, _∙_, ap, ap₂}
 use mathlib.Core.Bool.{Bool, true, false, not, cond, _&&_, _||_, or-false, or-true, and-false}
 use mathlib.Core.List.{List, [], _∷_}

@@ -12,14 +12,8 @@ use Rattle.lists.specs.Lists.{sum, lastOr}
 use Rattle.meaning.specs.Task.{Task, Preference}
 use Rattle.meaning.specs.Meaning.{State, isTrue, opening, after, actionAt, applies, runs, reached, final, solves, cost, noPreference, isMet, isKept, keepsRules, missedWeight, metWeight}
 use Rattle.meaning.specs.Meaning.{metric, utility}
-use Rattle.meaning.specs.Verdict.{Verdict, solved, stopped, goal-missed, rule-missed, stepsApplied, metSet, missedRule, verdictBy, verdict}
+use Rattle.meaning.specs.Verdict.{solved, rule-missed, stepsApplied, metSet, missedRule, verdictBy, verdict}
 use Rattle.lists.proofs.First.{Lowest, lowest}
-
-abbrev isSolved : Verdict → Bool
-isSolved (solved c m u s) = true
-isSolved (stopped i) = false
-isSolved goal-missed = false
-isSolved (rule-missed i) = false
 
 -- solved is the verdict on the plans that solve, and on no others
 pub solved-iff : (t : Task) (p : List ℕ) → (verdict t p ≡ solved (cost t p) (metric t p) (utility t p) (metSet t p)) ↔ T (solves t p)
@@ -28,10 +22,10 @@ solved-iff t p = go (runs t (opening t) p) (isTrue (final t p) (t .goal)) (keeps
   where
     go : (a b c : Bool) → (verdictBy t p a b c ≡ solved (cost t p) (metric t p) (utility t p) (metSet t p)) ↔ T (a && b && c)
     go true true true = (λ e. tt, λ h. refl)
-    go true true false = (λ e. subst (λ (v : Verdict). T (isSolved v)) (sym e) tt, λ h. absurd h)
-    go true false true = (λ e. subst (λ (v : Verdict). T (isSolved v)) (sym e) tt, λ h. absurd h)
-    go true false false = (λ e. subst (λ (v : Verdict). T (isSolved v)) (sym e) tt, λ h. absurd h)
-    go false b c = (λ e. subst (λ (v : Verdict). T (isSolved v)) (sym e) tt, λ h. absurd h)
+    go true true false = (λ e. true≢false (cc), λ h. absurd h)
+    go true false true = (λ e. true≢false (cc), λ h. absurd h)
+    go true false false = (λ e. true≢false (cc), λ h. absurd h)
+    go false b c = (λ e. true≢false (cc), λ h. absurd h)
 
 -- where the verdict is solved with metric m, the plan solves and m is its metric
 pub solved-only : (t : Task) (p : List ℕ) (c m : ℕ) (u : ℤ) (s : ℕ → Bool) → verdict t p ≡ solved c m u s → T (solves t p) × (metric t p ≡ m)
@@ -40,10 +34,10 @@ solved-only t p c m u s = go (runs t (opening t) p) (isTrue (final t p) (t .goal
   where
     go : (a b k : Bool) → verdictBy t p a b k ≡ solved c m u s → T (a && b && k) × (metric t p ≡ m)
     go true true true e = (tt, cc)
-    go true true false e = absurd (subst (λ (v : Verdict). T (isSolved v)) (sym e) tt)
-    go true false true e = absurd (subst (λ (v : Verdict). T (isSolved v)) (sym e) tt)
-    go true false false e = absurd (subst (λ (v : Verdict). T (isSolved v)) (sym e) tt)
-    go false b k e = absurd (subst (λ (v : Verdict). T (isSolved v)) (sym e) tt)
+    go true true false e = absurd (true≢false (cc))
+    go true false true e = absurd (true≢false (cc))
+    go true false false e = absurd (true≢false (cc))
+    go false b k e = absurd (true≢false (cc))
 
 -- p stops at step i from s on: the steps before it apply in turn, and it doesn't apply
 pub record Stops (t : Task) (s : State) (p : List ℕ) (i : ℕ) : Type 0 where
@@ -63,13 +57,6 @@ stops t s (k ∷ ks) e = go (applies t s k) refl e (stops t (after s (actionAt t
         record { within = omega (arith, r .within); before = ap₂ _&&_ a (r .before); here = r .here }
     go false a e rest = record { within = omega arith; before = refl; here = a }
 
--- the number of a missed rule, from 1 on; 0 where the verdict is another
-abbrev ruleIn : Verdict → ℕ
-ruleIn (solved c m u s) = 0
-ruleIn (stopped i) = 0
-ruleIn goal-missed = 0
-ruleIn (rule-missed i) = suc i
-
 -- where the verdict is rule missed, the steps apply, the goal holds, and the number is that of the lowest hard preference missed
 pub rule-missed-only : (t : Task) (p : List ℕ) (i : ℕ) → verdict t p ≡ rule-missed i
     → T (runs t (opening t) p && isTrue (final t p) (t .goal)) × Lowest (isKept t p) (t .preferences) noPreference i
@@ -78,13 +65,13 @@ rule-missed-only t p i = go (runs t (opening t) p) (isTrue (final t p) (t .goal)
   where
     go : (a b k : Bool) → keepsRules t p ≡ k → verdictBy t p a b k ≡ rule-missed i
         → T (a && b) × Lowest (isKept t p) (t .preferences) noPreference i
-    go true true true q e = absurd (omega (arith, ap ruleIn e))
+    go true true true q e = absurd (true≢false (cc))
     go true true false q e =
-        let same : missedRule t p ≡ i = omega (arith, ap ruleIn e) in
+        let same : missedRule t p ≡ i = cc in
         (tt, subst (Lowest (isKept t p) (t .preferences) noPreference) same (lowest (isKept t p) (t .preferences) noPreference q))
-    go true false true q e = absurd (omega (arith, ap ruleIn e))
-    go true false false q e = absurd (omega (arith, ap ruleIn e))
-    go false b k q e = absurd (omega (arith, ap ruleIn e))
+    go true false true q e = absurd (true≢false (cc))
+    go true false false q e = absurd (true≢false (cc))
+    go false b k q e = absurd (true≢false (cc))
 
 -- every weight is that of a met preference or of a missed one
 module _ (t : Task) (p : List ℕ) where

@@ -1,4 +1,4 @@
--- A monitor that has watched all states is good exactly where the preference is met.
+-- A monitor that has watched all states accepts exactly where the preference is met.
 use mathlib.Core.Path.{_≡_, refl, sym, _∙_, ap}
 use mathlib.Core.Bool.{Bool, true, false, not, _&&_, _||_, or-false, or-comm, and-true}
 use mathlib.Core.List.{List, [], _∷_, map}
@@ -94,7 +94,7 @@ sometime-after-law m x (y ∷ ys) =
     sometime-after-law (step sometime-after false m x) y ys
     ∙ after-bool (x .φ) (x .ψ) (m .B) (any isψ (y ∷ ys)) (follows (y ∷ ys))
 
--- a monitor that has watched all states is good just where the preference is met
+-- a monitor that has watched all states accepts just where the preference is met
 pub watched : (k : Kind) (x : Observation) (xs : List Observation) → accepting k (watch k fresh x xs) ≡ met k (x ∷ xs)
 watched always x xs = always-law fresh x xs
 watched sometime x xs = sometime-law fresh x xs
@@ -115,7 +115,7 @@ stepAll last m σ q = step (q .kind) last (m q) (seen q σ)
 abbrev pub watchAll : Task → (Preference → Monitor) → State → List ℕ → Preference → Monitor
 watchAll t m σ p q = watch (q .kind) (m q) (seen q σ) (map (seen q) (reached t σ p))
 
--- those that have watched a whole plan are good just where it meets their preference
+-- those that have watched a whole plan accept just where it meets their preference
 pub accepting-watched : (t : Task) (p : List ℕ) (q : Preference)
     → accepting (q .kind) (watchAll t (λ (q : Preference). fresh) (opening t) p q) ≡ isMet t p q
 accepting-watched t p q = watched (q .kind) (seen q (opening t)) (map (seen q) (reached t (opening t) p))

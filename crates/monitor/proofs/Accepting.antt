@@ -6,13 +6,13 @@ use Rattle.task.specs.TaskRows.{kindMark}
 use Rattle.task.specs.File.{kindOf}
 use Rattle.meaning.specs.Monitor.{Monitor, accepting}
 
--- whether a monitor is good does not hang on the steps
-pub good-by-mark : (k : Kind) (t : ℕ) (x : Monitor) → accepting (kindOf (kindMark k) t) x ≡ accepting k x
-good-by-mark always t x = refl
-good-by-mark sometime t x = refl
-good-by-mark at-end t x = refl
-good-by-mark at-most-once t x = refl
-good-by-mark sometime-before t x = refl
-good-by-mark sometime-after t x = refl
-good-by-mark (within n) t x = refl
-good-by-mark (always-within n) t x = refl
+-- whether a monitor accepts does not hang on the steps
+pub accepting-by-mark : (k : Kind) (t : ℕ) (x : Monitor) → accepting (kindOf (kindMark k) t) x ≡ accepting k x
+accepting-by-mark always t x = refl
+accepting-by-mark sometime t x = refl
+accepting-by-mark at-end t x = refl
+accepting-by-mark at-most-once t x = refl
+accepting-by-mark sometime-before t x = refl
+accepting-by-mark sometime-after t x = refl
+accepting-by-mark (within n) t x = refl
+accepting-by-mark (always-within n) t x = refl

@@ -1,10 +1,20 @@
 -- What a monitor of the code stands for, and the byte that it is kept as.
 use mathlib.Core.List.{List}
-use Prim.Native.Nat.{ℕ, _/_, _%_}
+use Prim.Native.Nat.{ℕ, _/_, _%_, _≤_, _<_}
 use lib.Dec.{eqb}
 use lib.ListN.{getD}
+use Rattle.task.specs.Limits.{MAX-DEADLINE}
 use Rattle.meaning.specs.Monitor
 use Rattle.monitor.specs.declared.Monitor.{Monitor}
+
+-- the ages that six bits of a byte can hold
+abbrev pub AGES : ℕ
+AGES = 64
+
+-- a deadline, and an age that the byte has room for
+pub record Aging (steps age : ℕ) : Type 0 where
+  pub few : steps ≤ MAX-DEADLINE
+  pub short : age < AGES
 
 abbrev pub asMonitor : Monitor → Monitor.Monitor
 asMonitor m = record { S = m .s; B = m .b; age = m .age }

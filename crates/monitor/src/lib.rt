@@ -7,7 +7,7 @@ ghost use Rattle.meaning.specs.Task.{always-within};
 ghost use Rattle.meaning.specs.Monitor.{older, nextAge, step, accepting};
 ghost use Rattle.task.specs.Spelling.{kindSpellable};
 ghost use Rattle.task.specs.Answers.{asKind};
-ghost use Rattle.monitor.specs.Packed.{asMonitor, monitorOf, monitorAt};
+ghost use Rattle.monitor.specs.Packed.{AGES, Aging, asMonitor, monitorOf, monitorAt};
 use task::kinds::Kind;
 
 // D of j holds where j is at most the age.
@@ -19,7 +19,7 @@ pub struct Monitor {
 
 // The monitor that a byte stands for.
 pub fn unpacked(x: u8) -> Monitor
-    ensures { λ r. ⌜ (asMonitor r ≡ monitorOf x) × (r .age < 64) ⌝ }
+    ensures { λ r. ⌜ (asMonitor r ≡ monitorOf x) × (r .age < AGES) ⌝ }
 {
     Monitor {
         s: x % 2 == 1,
@@ -30,7 +30,7 @@ pub fn unpacked(x: u8) -> Monitor
 
 // The byte of a monitor: one for S, two for B, and four for each state of the age.
 pub fn packed(m: Monitor) -> u8
-    requires { ⌜ m .age < 64 ⌝ }
+    requires { ⌜ m .age < AGES ⌝ }
     ensures { λ r. ⌜ monitorOf r ≡ asMonitor m ⌝ }
 {
     4 * m.age + 2 * (m.b as u8) + (m.s as u8)
@@ -38,16 +38,16 @@ pub fn packed(m: Monitor) -> u8
 
 // One state more, up to one more than the steps.
 fn older(steps: u8, age: u8) -> u8
-    requires { ⌜ (steps < 16) × (age < 64) ⌝ }
-    ensures { λ r. ⌜ (r ≡ older steps age) × (r < 64) ⌝ }
+    requires { ⌜ Aging steps age ⌝ }
+    ensures { λ r. ⌜ (r ≡ older steps age) × (r < AGES) ⌝ }
 {
     if age <= steps { age + 1 } else { age }
 }
 
 // How long a state with φ has waited for ψ, after one more state.
 fn waited(steps: u8, m: Monitor, phi: bool, psi: bool) -> u8
-    requires { ⌜ (steps < 16) × (m .age < 64) ⌝ }
-    ensures { λ r. ⌜ (r ≡ nextAge (always-within steps) (m .s) (m .age) phi psi) × (r < 64) ⌝ }
+    requires { ⌜ Aging steps (m .age) ⌝ }
+    ensures { λ r. ⌜ (r ≡ nextAge (always-within steps) (m .s) (m .age) phi psi) × (r < AGES) ⌝ }
 {
     if psi {
         return if m.s { m.age } else { 0 };
@@ -68,8 +68,8 @@ fn is_due(steps: u8, age: u8, phi: bool) -> bool
 
 // The monitor of always-within after one more state.
 fn waiting(steps: u8, m: Monitor, phi: bool, psi: bool) -> Monitor
-    requires { ⌜ (steps < 16) × (m .age < 64) ⌝ }
-    ensures { λ r. ⌜ ((last : Bool) → asMonitor r ≡ step (always-within steps) last (asMonitor m) (record { φ = phi; ψ = psi })) × (r .age < 64) ⌝ }
+    requires { ⌜ Aging steps (m .age) ⌝ }
+    ensures { λ r. ⌜ ((last : Bool) → asMonitor r ≡ step (always-within steps) last (asMonitor m) (record { φ = phi; ψ = psi })) × (r .age < AGES) ⌝ }
 {
     let s = m.s;
     let b = m.b;
@@ -84,8 +84,8 @@ fn waiting(steps: u8, m: Monitor, phi: bool, psi: bool) -> Monitor
 
 // A monitor after one more state; last says that it is the last.
 pub fn stepped(kind: Kind, last: bool, m: Monitor, phi: bool, psi: bool) -> Monitor
-    requires { ⌜ T (kindSpellable (asKind kind)) × (m .age < 64) ⌝ }
-    ensures { λ r. ⌜ (asMonitor r ≡ step (asKind kind) last (asMonitor m) (record { φ = phi; ψ = psi })) × (r .age < 64) ⌝ }
+    requires { ⌜ T (kindSpellable (asKind kind)) × (m .age < AGES) ⌝ }
+    ensures { λ r. ⌜ (asMonitor r ≡ step (asKind kind) last (asMonitor m) (record { φ = phi; ψ = psi })) × (r .age < AGES) ⌝ }
 {
     let s = m.s;
     let b = m.b;

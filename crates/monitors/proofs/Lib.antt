@@ -5,3 +5,5 @@ pub mod SidesRead
 pub mod Watching
 -- The preferences that they say are met
 pub mod Meeting
+-- What the readers give on rows that spell a task
+pub mod TaskRead

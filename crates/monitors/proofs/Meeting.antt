@@ -19,7 +19,7 @@ use Rattle.layout.specs.Counting.{countAt}
 use Rattle.monitors.specs.Met.{Met, keptWith, one, noneMet, found, asFound}
 use Rattle.monitors.specs.declared.met.Found.{Found}
 use Rattle.task.proofs.Hard.{soft-back, hard-back}
-use Rattle.monitor.proofs.Accepting.{good-by-mark}
+use Rattle.monitor.proofs.Accepting.{accepting-by-mark}
 use Rattle.layout.proofs.Counting.{countAll, preferences-counted}
 
 -- what holds before row i is read
@@ -60,7 +60,7 @@ module _ (f : List ℕ) (μ : Preference → Monitor) where
   by-monitors t (q ∷ qs) m =
       let e : accepting (kindOf (softMark (openingMark (q .hard) (q .kind))) 0) (monitorAt f (t .number)) ≡ ok q =
       ap (λ (m : ℕ). accepting (kindOf m 0) (monitorAt f (t .number))) (soft-back (q .hard) (q .kind))
-      ∙ good-by-mark (q .kind) 0 (monitorAt f (t .number)) ∙ ap (accepting (q .kind)) (ap (monitorAt f) (sym (add-zero (t .number))) ∙ m 0 (omega arith)) in
+      ∙ accepting-by-mark (q .kind) 0 (monitorAt f (t .number)) ∙ ap (accepting (q .kind)) (ap (monitorAt f) (sym (add-zero (t .number))) ∙ m 0 (omega arith)) in
       ap₂ (λ (h b : Bool). countAll (found f) (one t h b) qs) (hard-back (q .hard) (q .kind)) e
       ∙ by-monitors (one t (q .hard) (ok q)) qs
       (λ j h. ap (λ (n : ℕ). monitorAt f (n + j)) (one-number t (q .hard) (ok q)) ∙ ap (monitorAt f) (shift (t .number) j) ∙ m (suc j) (omega arith))

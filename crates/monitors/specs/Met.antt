@@ -1,13 +1,14 @@
 -- The met preferences, by monitors that have seen all states.
 use mathlib.Core.Bool.{Bool, not, cond, _&&_, _||_}
 use mathlib.Core.List.{List}
-use Prim.Native.Nat.{ℕ, _+_}
+use Prim.Native.Nat.{ℕ, _+_, _<_}
 use lib.Dec.{eqb}
 use Rattle.task.specs.TaskRows.{Row}
 use Rattle.task.specs.File.{opensHard, softMark, kindOf}
 use Rattle.meaning.specs.Meaning.{State as Facts}
 use Rattle.meaning.specs.Monitor.{accepting}
 use Rattle.state.specs.Member.{member, empty, single, union}
+use Rattle.layout.specs.Counting.{MANY}
 use Rattle.monitor.specs.Packed.{monitorAt}
 use Rattle.monitors.specs.declared.met.Found.{Found}
 
@@ -16,6 +17,11 @@ pub record Met : Type 0 where
   pub number : ℕ
   pub kept : ℕ
   pub met : Facts
+
+-- so few that one more can be counted
+pub record Countable (f : Found) : Type 0 where
+  pub number : f .number < MANY
+  pub kept : f .kept < MANY
 
 abbrev pub noneMet : Met
 noneMet = record { number = 0; kept = 0; met = empty }

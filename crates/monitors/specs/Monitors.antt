@@ -11,6 +11,7 @@ use Rattle.meaning.specs.Task.{Preference}
 use Rattle.task.specs.TaskRows.{preferenceRows}
 use Rattle.task.specs.File.{paired, softMark}
 use Rattle.task.specs.Spelling.{preferenceSpellable}
+use Rattle.task.specs.Limits.{MAX-PREFERENCES}
 use Rattle.meaning.specs.Meaning.{State as Facts, seen, noPreference}
 use Rattle.meaning.specs.Literals.{lookedPreferences}
 use Rattle.meaning.specs.Monitor.{step}
@@ -58,7 +59,7 @@ MOST-LOOKED = 24000
 pub record PreferencesFrom (ms vs : List ℕ) (i : ℕ) (qs : List Preference) : Type 0 where
   pub spelled : drop i (paired ms vs) ≡ concatMap preferenceRows qs
   pub spelling : T (all preferenceSpellable qs)
-  pub few : length qs ≤ 16
+  pub few : length qs ≤ MAX-PREFERENCES
 
 abbrev pub SomePreferences : List ℕ → List ℕ → ℕ → Type 0
 SomePreferences ms vs i = (qs : List Preference) × PreferencesFrom ms vs i qs

@@ -6,6 +6,7 @@ ghost use mathlib.Core.Path.{_≡_};
 ghost use Prim.Native.Nat.{_*_, _≤_, _<_};
 ghost use lib.ListN.{length};
 ghost use Rattle.task.specs.Rows.{Rows};
+ghost use Rattle.task.specs.Limits.{MAX-PREFERENCES};
 ghost use Rattle.state.specs.Member.{member};
 ghost use Rattle.monitors.specs.Monitors.{headRows, isTwoSided, sidesAt, MOST-LOOKED, SomePreferences, ForPreferences, Watched};
 use reading::conditions;
@@ -69,9 +70,9 @@ fn read_sides(marks: &[u8], values: &[u8], i: usize, s: State) -> Sides
 
 // The monitors of the preferences that stand from row `at` on see state s, and so many literals are looked at.
 pub fn watch(marks: &[u8], values: &[u8], at: usize, s: State, last: bool, ms: &mut [u8]) -> usize
-    requires { ⌜ Rows (now marks) (now values) × (length (now ms) ≡ 16) ⌝ }
+    requires { ⌜ Rows (now marks) (now values) × (length (now ms) ≡ MAX-PREFERENCES) ⌝ }
     requires { ⌜ SomePreferences (now marks) (now values) at ⌝ }
-    ensures { λ r. ⌜ r ≤ 16 * MOST-LOOKED ⌝ }
+    ensures { λ r. ⌜ r ≤ MAX-PREFERENCES * MOST-LOOKED ⌝ }
     ensures { λ r. ⌜ ForPreferences (now (marks .entry)) (now (values .entry)) at (Watched last (member s) (now (ms .entry)) (now (ms .exit)) r) ⌝ }
 {
     let mut looked = 0;

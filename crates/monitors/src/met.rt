@@ -2,10 +2,10 @@
 ghost use mathlib.Core.Path.{_≡_};
 ghost use mathlib.Core.List.{List};
 ghost use Prim.Native.Nat.{ℕ, _+_, _≤_, _<_};
-ghost use lib.ListN.{length};
 ghost use Rattle.task.specs.TaskRows.{row};
+ghost use Rattle.task.specs.Rows.{MarksTo};
 ghost use Rattle.layout.specs.Counting.{MANY, counting, countAt};
-ghost use Rattle.monitors.specs.Met.{keptWith, noneMet, found, asFound};
+ghost use Rattle.monitors.specs.Met.{Countable, keptWith, noneMet, found, asFound};
 use state::State;
 
 // So many preferences, how many of them stand before the first hard one that is missed, and those that are met.
@@ -29,7 +29,7 @@ fn kept_with(number: u32, kept: u32, hard: bool, accepting: bool) -> u32
 
 // One preference more.
 fn find_one(f: Found, mark: u8, ms: &[u8]) -> Found
-    requires { ⌜ (f .number < MANY) × (f .kept < MANY) ⌝ }
+    requires { ⌜ Countable f ⌝ }
     ensures { λ r. ⌜ ((v : ℕ) → asFound r ≡ found (now (ms .entry)) (asFound f) (row mark v)) ⌝ }
     ensures { λ r. ⌜ (r .number ≤ f .number + 1) × (r .kept ≤ f .kept + 1) ⌝ }
 {
@@ -55,7 +55,7 @@ fn find_one(f: Found, mark: u8, ms: &[u8]) -> Found
 
 // One row more: each that opens a preference counts.
 fn find_row(f: Found, mark: u8, ms: &[u8]) -> Found
-    requires { ⌜ (f .number < MANY) × (f .kept < MANY) ⌝ }
+    requires { ⌜ Countable f ⌝ }
     ensures { λ r. ⌜ ((v : ℕ) → asFound r ≡ counting (found (now (ms .entry))) (asFound f) (row mark v)) ⌝ }
     ensures { λ r. ⌜ (r .number ≤ f .number + 1) × (r .kept ≤ f .kept + 1) ⌝ }
 {
@@ -68,7 +68,7 @@ fn find_row(f: Found, mark: u8, ms: &[u8]) -> Found
 
 // The met preferences of those that stand from row `at` on. The rows' values don't matter.
 pub fn find(marks: &[u8], at: usize, ms: &[u8]) -> Found
-    requires { ⌜ (length (now marks) ≤ 12000) × (at ≤ length (now marks)) ⌝ }
+    requires { ⌜ MarksTo at (now marks) ⌝ }
     ensures { λ r. ⌜ ((vs : List ℕ) → asFound r ≡ countAt (found (now (ms .entry))) noneMet (now (marks .entry)) vs at) ⌝ }
 {
     let mut f = Found {

@@ -1,19 +1,16 @@
--- Which of the two an outcome is, and what it leaves in the area.
+-- What an outcome says of the room, and what it leaves in the area.
 use mathlib.Core.Path.{_≡_, sym, ap, _∙_}
 use mathlib.Core.Bool.{true≢false}
 use mathlib.Core.List.{List, _++_}
-use Prim.Native.Nat.{ℕ}
+use Prim.Native.Nat.{ℕ, _≤_}
 use lib.ListN.{length, drop}
-use Rattle.outcome.specs.Outcome.{Outcome, written, refused, areaAfter}
+use borrow.Author.Tests.{le-leb}
+use Rattle.task.specs.Refused.{SHORT-OUTPUT}
+use Rattle.outcome.specs.Outcome.{Outcome, written, refused, fitted, areaAfter}
 
-pub not-written : (k i n : ℕ) → refused k i ≡ written n → ⊥
-not-written k i n e = true≢false cc
-
-pub same-written : (m n : ℕ) → written m ≡ written n → m ≡ n
-same-written m n e = cc
-
-pub same-refused : (m i n j : ℕ) → refused m i ≡ refused n j → m ≡ n
-same-refused m i n j e = cc
+-- what has room is not refused by 9
+pub has-room : (bytes room i : ℕ) → bytes ≤ room → fitted bytes room ≡ refused SHORT-OUTPUT i → ⊥
+has-room bytes room i h e = true≢false (cc (le-leb bytes room h))
 
 -- The answer a of a call, and the area then, where o is due
 

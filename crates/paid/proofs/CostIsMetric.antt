@@ -1,6 +1,6 @@
 -- The corollary that cost is metric, from faithfulness (demand 3) and from what walk and settle answer.
 use mathlib.Core.Path.{_≡_, refl, sym, ap, _∙_, subst}
-use mathlib.Core.Bool.{Bool, true, false, cond}
+use mathlib.Core.Bool.{Bool, true, false, cond, true≢false}
 use mathlib.Core.List.{List}
 use Prim.Native.Nat.{ℕ, _≤_}
 use lib.Dec.{T, leb, ltb}
@@ -25,7 +25,6 @@ use Rattle.settling.specs.Settled.{worth}
 use Rattle.plan.specs.ThenSettled.{priced, thenSettle}
 use Rattle.plan.proofs.ThenSettled.{settled-plan, walk-then-settle}
 use Rattle.outcome.specs.Outcome.{written}
-use Rattle.outcome.proofs.Outcomes.{not-written}
 use Rattle.translation.specs.Translated.{outcomeBy, outcome, Delivered}
 use Rattle.single_effects.specs.Claim as Single
 use Rattle.paid.specs.CostIsMetric.{SettledAt, CostIsMetric, StillPaid}
@@ -109,7 +108,7 @@ written-paid b area room n e d = go (check b) refl e
   where
     go : (a : Answer) → check b ≡ a → outcomeBy b room a ≡ written n → CostIsMetric b area n
     go (accepted z) h w = paid-as-settled b area n z h d
-    go (refused k i) h w = absurd (not-written k i n w)
+    go (refused k i) h w = absurd (true≢false (cc))
 
 -- what single has written of a translation has its solutions, at their costs
 pub still-paid : (b area : List ℕ) (n : ℕ) → Single.Delivered b area n → StillPaid b area n

@@ -1,5 +1,5 @@
 -- The line is `paid N` exactly where walk and settle give the plan the metric N.
-use mathlib.Core.Path.{_≡_, refl, sym, ap, _∙_}
+use mathlib.Core.Path.{_≡_, refl, ap}
 use mathlib.Core.Bool.{Bool, true, false, cond, true≢false}
 use mathlib.Core.Logic.{_↔_}
 use mathlib.Core.List.{List, _++_}
@@ -20,16 +20,6 @@ use Rattle.paid_line.specs.Paid.{Metric, metric, unsolved, metricIn, met
 
 -- The metric is what walk and settle give
 
-no-metric : (m : ℕ) → unsolved ≡ metric m → ⊥
-no-metric m e = true≢false (ap solves-at-all (sym e))
-  where
-    solves-at-all : Metric → Bool
-    solves-at-all (metric k) = true
-    solves-at-all unsolved = false
-
-same-metric : (k m : ℕ) → metric k ≡ metric m → k ≡ m
-same-metric k m e = cc
-
 module _ (b p : List ℕ) (m : ℕ) where
   pub settled-metric : SettledAt b p m → metricOf b p ≡ metric m
   unfolding metricOf
@@ -37,15 +27,15 @@ module _ (b p : List ℕ) (m : ℕ) where
 
   by-settle : (c : ℕ) (met : ℕ → Bool) (looked : ℕ) → walked b p ≡ given (solved c met) looked
       → (s : Settled) → settled b c met ≡ s → metricIn (priced c met s) ≡ metric m → SettledAt b p m
-  by-settle c met looked walks (worth k u) settles e = (c, u, met, looked, walks, settles ∙ ap (λ (n : ℕ). worth n u) (same-metric k m e))
-  by-settle c met looked walks (Settled.refused n i) settles e = absurd (no-metric m e)
+  by-settle c met looked walks (worth k u) settles e = (c, u, met, looked, walks, cc)
+  by-settle c met looked walks (Settled.refused n i) settles e = absurd (true≢false (cc))
 
   by-walk : (w : Walked) → walked b p ≡ w → metricIn (thenSettle b w) ≡ metric m → SettledAt b p m
   by-walk (given (solved c met) looked) walks e = by-settle c met looked walks (settled b c met) refl e
-  by-walk (given (stopped i) looked) walks e = absurd (no-metric m e)
-  by-walk (given goal-missed looked) walks e = absurd (no-metric m e)
-  by-walk (given (rule-missed i) looked) walks e = absurd (no-metric m e)
-  by-walk (Walked.refused n i) walks e = absurd (no-metric m e)
+  by-walk (given (stopped i) looked) walks e = absurd (true≢false (cc))
+  by-walk (given goal-missed looked) walks e = absurd (true≢false (cc))
+  by-walk (given (rule-missed i) looked) walks e = absurd (true≢false (cc))
+  by-walk (Walked.refused n i) walks e = absurd (true≢false (cc))
 
   pub metric-settled : metricOf b p ≡ metric m → SettledAt b p m
   unfolding metricOf

@@ -37,6 +37,10 @@ otherwiseLine cost m = ascii "paid " ++ decimal cost ++ ascii " but worth " ++ d
 unfoldable pub unsolvedLine : ℕ → List ℕ
 unsolvedLine cost = ascii "paid " ++ decimal cost ++ ascii " but not solved\n"
 
+-- no line is longer: two numbers of 20 digits, and the words
+abbrev pub LONGEST : ℕ
+LONGEST = 57
+
 abbrev pub heldTo : Metric → ℕ → List ℕ
 heldTo (metric m) cost = cond (eqb cost m) (paidLine cost) (otherwiseLine cost m)
 heldTo unsolved cost = unsolvedLine cost

@@ -6,11 +6,14 @@ ghost use lib.ListN.{length, drop};
 ghost use Rattle.plan.specs.Answers.{asVerdict};
 ghost use Rattle.plan.specs.ThenSettled.{withAmounts};
 ghost use Rattle.text.specs.Area.{Wrote};
-ghost use Rattle.paid_line.specs.Paid.{metric, metricIn, metricOf, heldTo, lineOn};
+ghost use Rattle.paid_line.specs.Paid.{LONGEST, metric, metricIn, metricOf, heldTo, lineOn};
 ghost use Rattle.paid_line.specs.Answers.{metricAs};
 use plan::Verdict;
 use plan::Walked;
 use settling::Settled;
+
+// An area of this length holds every such line.
+pub const MAX_LINE: usize = 64;
 
 // The metric of a plan, where it solves.
 enum Metric {
@@ -50,7 +53,7 @@ fn metric_of(file: &[u8], plan: &[u8]) -> Metric
 // Writes the line of a plan that is worth so much.
 fn put_solved(out: &mut [u8], worth: u64, cost: u64) -> usize
     ensures { λ r. ⌜ Wrote (now (out .entry)) 0 (heldTo (metric worth) cost) r (now (out .exit)) ⌝ }
-    ensures { λ r. ⌜ r ≤ 57 ⌝ }
+    ensures { λ r. ⌜ r ≤ LONGEST ⌝ }
 {
     if cost == worth {
         return text::put_number(&mut *out, 0, b"paid ", cost, b"\n");
@@ -63,7 +66,7 @@ fn put_solved(out: &mut [u8], worth: u64, cost: u64) -> usize
 // Writes the line of a plan of this metric.
 fn put_held(out: &mut [u8], m: Metric, cost: u64) -> usize
     ensures { λ r. ⌜ Wrote (now (out .entry)) 0 (heldTo (metricAs m) cost) r (now (out .exit)) ⌝ }
-    ensures { λ r. ⌜ r ≤ 57 ⌝ }
+    ensures { λ r. ⌜ r ≤ LONGEST ⌝ }
 {
     match m {
         Metric::Of(worth) => put_solved(out, worth, cost),
@@ -71,12 +74,11 @@ fn put_held(out: &mut [u8], m: Metric, cost: u64) -> usize
     }
 }
 
-// Writes the line about a plan on the task in a file, for which so much was paid, to the area's start, and answers its length. The area
-// holds every such line.
-pub fn put_paid(file: &[u8], plan: &[u8], cost: u64, out: &mut [u8; 64]) -> usize
+// Writes the line about a plan on the task in a file, for which so much was paid, to the area's start, and answers its length.
+pub fn put_paid(file: &[u8], plan: &[u8], cost: u64, out: &mut [u8; MAX_LINE]) -> usize
     ensures { λ r. ⌜ r ≡ length (lineOn (now (file .entry)) (now (plan .entry)) cost) ⌝ }
     ensures { λ r. ⌜ now (out .exit) ≡ lineOn (now (file .entry)) (now (plan .entry)) cost ++ drop r (now (out .entry)) ⌝ }
-    ensures { λ r. ⌜ (r ≤ 57) × (length (now (out .exit)) ≡ 64) ⌝ }
+    ensures { λ r. ⌜ (r ≤ LONGEST) × (length (now (out .exit)) ≡ 64) ⌝ }
 {
     let m = metric_of(file, plan);
     put_held(out, m, cost)

@@ -26,8 +26,8 @@ fn main() {
         files::say_missing();
         return;
     };
-    let mut domain = [0u8; 262144];
-    let mut problem = [0u8; 262144];
+    let mut domain = [0u8; pddl_text::MAX_PDDL];
+    let mut problem = [0u8; pddl_text::MAX_PDDL];
     let answer = pddl_text::write(text::front(&task, n), &mut domain, &mut problem);
     match answer {
         Outcome::Written(m) => write_texts(

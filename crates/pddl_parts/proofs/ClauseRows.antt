@@ -21,7 +21,7 @@ use Rattle.text.specs.Area.{Wrote}
 use Rattle.pddl_parts.specs.Pddl.{spaced, factText, notText, literalText, clauseText}
 use Rattle.pddl_parts.specs.Rows.{rowText, markAt, Listed, listAt, endedAt}
 use Rattle.pddl_parts.specs.Pieces.{clause}
-use Rattle.pddl_parts.specs.Puts.{stretch, Puts}
+use Rattle.pddl_parts.specs.Writing.{stretch, PieceAnswer}
 use Rattle.pddl_parts.proofs.Listing.{there, opensWith, stops-opens, first-mark, each-text, lists}
 use Rattle.pddl_parts.proofs.Emitting.{Parts}
 
@@ -115,12 +115,12 @@ module _ (ms vs : List ℕ) (from : ℕ) where
 
   module _ {b : List ℕ} {at k : ℕ} {out : List ℕ} where
     pub single : alone ≡ true → {v : ℕ} → v ≡ valueAt vs (from + 1) → Wrote b at (rowText (row (getD ms (from + 1) 0) v)) k out
-        → Puts clause (stretch ms vs from) b at (record { at = k; next = from + 1 + 1 }) out
+        → PieceAnswer clause (stretch ms vs from) b at (record { at = k; next = from + 1 + 1 }) out
     single h value w =
         let known : Wrote b at (rowText (row (getD ms (from + 1) 0) (valueAt vs (from + 1)))) k out =
         subst (λ (n : ℕ). Wrote b at (rowText (row (getD ms (from + 1) 0) n)) k out) value w in
         record { puts = λ c xs e s. one b at k out xs s h known c (after-clause c xs e) }
 
     pub several : alone ≡ false → Wrote b at (ascii "(or" ++ (listAt 4 5 ms vs (from + 1) .text ++ ascii ")")) k out
-        → {next : ℕ} → next ≡ listAt 4 5 ms vs (from + 1) .next → Puts clause (stretch ms vs from) b at (record { at = k; next = next }) out
+        → {next : ℕ} → next ≡ listAt 4 5 ms vs (from + 1) .next → PieceAnswer clause (stretch ms vs from) b at (record { at = k; next = next }) out
     several h w read = record { puts = λ c xs e s. let (x, y) = other b at k out xs s h w c (after-clause c xs e) in (x, read ∙ y) }

@@ -20,7 +20,7 @@ use Rattle.text.proofs.Writing.{then}
 use Rattle.pddl_parts.specs.Pddl.{spaced, factText, notText, conditionText, effectText}
 use Rattle.pddl_parts.specs.Rows.{rowText, Listed, listAt, endedAt}
 use Rattle.pddl_parts.specs.Pieces.{condition, effect}
-use Rattle.pddl_parts.specs.Puts.{stretch, Spells, Puts}
+use Rattle.pddl_parts.specs.Writing.{stretch, Spells, PieceAnswer}
 use Rattle.pddl_parts.specs.declared.conditions.Emitted.{Emitted}
 use Rattle.pddl_parts.proofs.Listing.{narrowed, each-text, lists}
 use Rattle.pddl_parts.proofs.Emitting.{Parts}
@@ -73,7 +73,7 @@ module _ (ms vs : List ℕ) (from : ℕ) where
 -- An effect, from what was written of its parts
 module _ (ms vs : List ℕ) (from : ℕ) {b o₁ o₂ o₃ o₄ o₅ : List ℕ} {at k₁ k₃ k₄ k₅ next : ℕ} {c : Emitted}
     (w₁ : Wrote b at (ascii "(when ") k₁ o₁)
-    (guard : Puts condition (stretch ms vs (from + 1)) o₁ k₁ c o₂)
+    (guard : PieceAnswer condition (stretch ms vs (from + 1)) o₁ k₁ c o₂)
     (w₃ : Wrote o₂ (c .at) (ascii " (and") k₃ o₃)
     (w₄ : Wrote o₃ k₃ (listAt 6 7 ms vs (c .next) .text) k₄ o₄)
     (w₅ : Wrote o₄ k₄ (ascii "))") k₅ o₅)
@@ -98,5 +98,5 @@ module _ (ms vs : List ℕ) (from : ℕ) {b o₁ o₂ o₃ o₄ o₅ : List ℕ}
         omega (arith, read ∙ ap (λ (l : Listed). l .next) listed, after, length-append conditions (map (row ADD) (e .adds)), length-append (conditions ++ map (row ADD) (e .adds)) (map (row DELETE) (e .deletes)), length-append (map (row ADD) (e .adds)) (map (row DELETE) (e .deletes))),
       )
 
-  pub effect-put : Puts effect (stretch ms vs from) b at (record { at = k₅; next = next }) o₅
+  pub effect-put : PieceAnswer effect (stretch ms vs from) b at (record { at = k₅; next = next }) o₅
   effect-put = record { puts = by-parts }

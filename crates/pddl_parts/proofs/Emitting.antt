@@ -18,7 +18,7 @@ use Rattle.text.specs.Area.{Wrote}
 use Rattle.text.proofs.Writing.{then, no-bytes}
 use Rattle.pddl_parts.specs.Rows.{markAt}
 use Rattle.pddl_parts.specs.Pieces.{Piece}
-use Rattle.pddl_parts.specs.Puts.{Stretch, stretch, Spells, Puts}
+use Rattle.pddl_parts.specs.Writing.{Stretch, stretch, Spells, PieceAnswer}
 use Rattle.pddl_parts.specs.declared.conditions.Emitted.{Emitted}
 use Rattle.pddl_parts.proofs.Listing.{narrowed, opensWith, first-mark}
 
@@ -31,11 +31,11 @@ abbrev pub enclosed : {A : Type 0} → List ℕ → Piece A → List ℕ → Pie
 enclosed {A} w p v = record { rows = p .rows; text = λ (a : A). w ++ (p .text a ++ v); goes = p .goes }
 
 module _ {A : Type 0} {p : Piece A} {s : Stretch} {b : List ℕ} {at : ℕ} {w : List ℕ} {k : ℕ} {mid : List ℕ} {r : Emitted} {out : List ℕ} where
-  pub prefix : Wrote b at w k mid → Puts p s mid k r out → Puts (prefixed w p) s b at r out
+  pub prefix : Wrote b at w k mid → PieceAnswer p s mid k r out → PieceAnswer (prefixed w p) s b at r out
   prefix before piece = record { puts = λ a xs e stops. let (x, next) = piece .puts a xs e stops in (then before x, next) }
 
-  pub enclose : {v : List ℕ} {j : ℕ} {last : List ℕ} → Wrote b at w k mid → Puts p s mid k r out → Wrote out (r .at) v j last
-      → Puts (enclosed w p v) s b at (record { at = j; next = r .next }) last
+  pub enclose : {v : List ℕ} {j : ℕ} {last : List ℕ} → Wrote b at w k mid → PieceAnswer p s mid k r out → Wrote out (r .at) v j last
+      → PieceAnswer (enclosed w p v) s b at (record { at = j; next = r .next }) last
   enclose before piece after =
       record { puts = λ a xs e stops. let (x, next) = piece .puts a xs e stops in (then before (then x after), next) }
 
@@ -110,7 +110,7 @@ module _ {A : Type 0} (P : Parts A) (ms vs : List ℕ) where
             (onward k out (subst (λ (t : List ℕ). Wrote out k t k out) (sym (P .no-more n)) (no-bytes out k)), sym (add-zero i) ∙ read)
         go (a ∷ rest) rows read onward = absurd (not-both (first-mark (P .head) (P .head) ms vs i ∙ ap (opensWith (between (P .head) (P .head))) rows ∙ itself (P .head)) e)
 
-    pub done : markAt (P .head) (P .head) ms i ≡ false → Puts (whole P) (stretch ms vs from) b at (record { at = k; next = i }) out
+    pub done : markAt (P .head) (P .head) ms i ≡ false → PieceAnswer (whole P) (stretch ms vs from) b at (record { at = k; next = i }) out
     done e = record { puts = finished e }
 
     -- the part that row i opens
@@ -122,7 +122,7 @@ module _ {A : Type 0} (P : Parts A) (ms vs : List ℕ) where
         go (a ∷ rest) rows = (a, concatMap (rowsOf P) rest ++ xs, rows ∙ append-assoc (rowsOf P a) (concatMap (rowsOf P) rest) xs, stops-after rest xs s)
 
     -- a part more
-    pub more : markAt (P .head) (P .head) ms i ≡ true → (r : Emitted) (last : List ℕ) → Puts (part P n) (stretch ms vs i) out k r last
+    pub more : markAt (P .head) (P .head) ms i ≡ true → (r : Emitted) (last : List ℕ) → PieceAnswer (part P n) (stretch ms vs i) out k r last
         → Emitting b at from last (r .at) (r .next) (n + 1)
     more e r last piece l xs spelled s = go (E l xs spelled s .rest) (E l xs spelled s .rows) (E l xs spelled s .read) (E l xs spelled s .onward)
       where
@@ -156,7 +156,7 @@ module _ {A : Type 0} {P : Parts A} {ms vs b : List ℕ} {at from : ℕ} {out : 
   pub loop-part : markAt (P .head) (P .head) ms i ≡ true → Spells (whole P) (stretch ms vs from) → Spells (part P n) (stretch ms vs i)
   loop-part = next-part P ms vs b at from out k i n (L .emitting)
 
-  pub looped : {r : Emitted} {last : List ℕ} → markAt (P .head) (P .head) ms i ≡ true → Puts (part P n) (stretch ms vs i) out k r last
+  pub looped : {r : Emitted} {last : List ℕ} → markAt (P .head) (P .head) ms i ≡ true → PieceAnswer (part P n) (stretch ms vs i) out k r last
       → length last ≡ length out → i < r .next → r .next ≤ length ms → Looping P ms vs b at from last (r .at) (r .next) (n + 1)
   looped {r} {last} e piece size h l = record {
     size = size ∙ L .size;
@@ -165,5 +165,5 @@ module _ {A : Type 0} {P : Parts A} {ms vs b : List ℕ} {at from : ℕ} {out : 
     emitting = more P ms vs b at from out k i n (L .emitting) e r last piece;
   }
 
-  pub all-done : markAt (P .head) (P .head) ms i ≡ false → Puts (whole P) (stretch ms vs from) b at (record { at = k; next = i }) out
+  pub all-done : markAt (P .head) (P .head) ms i ≡ false → PieceAnswer (whole P) (stretch ms vs from) b at (record { at = k; next = i }) out
   all-done = done P ms vs b at from out k i n (L .emitting)

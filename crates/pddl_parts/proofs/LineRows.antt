@@ -19,7 +19,7 @@ use Rattle.text.specs.Area.{Wrote}
 use Rattle.text.proofs.Writing.{then}
 use Rattle.pddl_parts.specs.Pddl.{spaced, conditionText, effectText, headText, costText, actionLine}
 use Rattle.pddl_parts.specs.Pieces.{condition, effects, action}
-use Rattle.pddl_parts.specs.Puts.{stretch, Spells, Puts}
+use Rattle.pddl_parts.specs.Writing.{stretch, Spells, PieceAnswer}
 use Rattle.pddl_parts.specs.declared.conditions.Emitted.{Emitted}
 use Rattle.pddl_parts.proofs.Listing.{narrowed}
 use Rattle.pddl_parts.proofs.Emitting.{Parts}
@@ -63,7 +63,7 @@ module _ (ms vs : List ℕ) (from : ℕ) where
   pub its-precondition : Spells (action 0) (stretch ms vs from) → Spells condition (stretch ms vs (from + 1))
   its-precondition (a, xs, spelled, s) = (a .precondition, concatMap effectRows (a .effects) ++ xs, from-precondition a xs spelled, before-effects a xs s)
 
-  pub its-effects : {b : List ℕ} {at : ℕ} {c : Emitted} {out : List ℕ} → Puts condition (stretch ms vs (from + 1)) b at c out
+  pub its-effects : {b : List ℕ} {at : ℕ} {c : Emitted} {out : List ℕ} → PieceAnswer condition (stretch ms vs (from + 1)) b at c out
       → Spells (action 0) (stretch ms vs from) → Spells effects (stretch ms vs (c .next))
   its-effects {b} {at} {c} {out} precondition (a, xs, spelled, s) =
       let (w, after) = precondition .puts (a .precondition) (concatMap effectRows (a .effects) ++ xs) (from-precondition a xs spelled) (before-effects a xs s) in
@@ -73,10 +73,10 @@ module _ (ms vs : List ℕ) (from : ℕ) where
 module _ (number : ℕ) (ms vs : List ℕ) (from : ℕ) (within : from < length ms)
     {b o₁ o₂ o₃ o₄ o₅ : List ℕ} {at k₁ k₃ k₅ cost : ℕ} {c d : Emitted}
     (w₁ : Wrote b at (headText number) k₁ o₁)
-    (precondition : Puts condition (stretch ms vs (from + 1)) o₁ k₁ c o₂)
+    (precondition : PieceAnswer condition (stretch ms vs (from + 1)) o₁ k₁ c o₂)
     (price : cost ≡ valueAt vs from)
     (w₃ : Wrote o₂ (c .at) (costText cost) k₃ o₃)
-    (changes : Puts effects (stretch ms vs (c .next)) o₃ k₃ d o₄)
+    (changes : PieceAnswer effects (stretch ms vs (c .next)) o₃ k₃ d o₄)
     (w₅ : Wrote o₄ (d .at) (ascii "))\n") k₅ o₅) where
   by-parts : (a : Action) (xs : List Row) → drop from (paired ms vs) ≡ actionRows a ++ xs → Stops (between 2 7) xs
       → Wrote b at (actionLine number a) k₅ o₅ × (d .next ≡ from + length (actionRows a))
@@ -93,5 +93,5 @@ module _ (number : ℕ) (ms vs : List ℕ) (from : ℕ) (within : from < length 
       (ascii " :effect (and (increase (total-cost) ") (decimal (a .cost)) (ascii ")") rest in
       (subst (λ (t : List ℕ). Wrote b at t k₅ o₅) whole (then w₁ (then w₂ (then w₃ (then w₄ w₅)))), omega (arith, last, after, length-append pre es))
 
-  pub line-put : Puts (action number) (stretch ms vs from) b at (record { at = k₅; next = d .next }) o₅
+  pub line-put : PieceAnswer (action number) (stretch ms vs from) b at (record { at = k₅; next = d .next }) o₅
   line-put = record { puts = by-parts }

@@ -1,4 +1,4 @@
 pub mod Pddl
 pub mod Rows
 pub mod Pieces
-pub mod Puts
+pub mod Writing

@@ -4,7 +4,7 @@ ghost use lib.ListN.{length};
 ghost use Rattle.text.specs.Area.{Wrote};
 ghost use Rattle.pddl_parts.specs.Pddl.{headText, costText};
 ghost use Rattle.pddl_parts.specs.Pieces.{effect, effects, action, actions};
-ghost use Rattle.pddl_parts.specs.Puts.{stretch, Reading, Spells, Puts};
+ghost use Rattle.pddl_parts.specs.Writing.{stretch, Reading, Spells, PieceAnswer};
 use super::conditions;
 use super::conditions::Emitted;
 use task::marks;
@@ -13,7 +13,7 @@ use task::rows;
 // Writes the effect that row `from` opens.
 fn put_effect(out: &mut [u8], at: usize, marks: &[u8], values: &[u8], from: usize) -> Emitted
     requires { ⌜ Reading (now marks) (now values) from at 31 × (from < length (now marks)) × Spells effect (stretch (now marks) (now values) from) ⌝ }
-    ensures { λ r. ⌜ Puts effect (stretch (now (marks .entry)) (now (values .entry)) from) (now (out .entry)) at r (now (out .exit)) ⌝ }
+    ensures { λ r. ⌜ PieceAnswer effect (stretch (now (marks .entry)) (now (values .entry)) from) (now (out .entry)) at r (now (out .exit)) ⌝ }
     ensures { λ r. ⌜ (from < r .next) × (r .next ≤ length (now (marks .entry))) × (r .at ≤ at + 31 * (r .next - from)) ⌝ }
 {
     let k = text::put_bytes(&mut *out, at, b"(when ");
@@ -38,7 +38,7 @@ fn put_effect(out: &mut [u8], at: usize, marks: &[u8], values: &[u8], from: usiz
 // Writes the effects whose rows begin at `from`, each after a space.
 fn put_effects(out: &mut [u8], at: usize, marks: &[u8], values: &[u8], from: usize) -> Emitted
     requires { ⌜ Reading (now marks) (now values) from at 32 × Spells effects (stretch (now marks) (now values) from) ⌝ }
-    ensures { λ r. ⌜ Puts effects (stretch (now (marks .entry)) (now (values .entry)) from) (now (out .entry)) at r (now (out .exit)) ⌝ }
+    ensures { λ r. ⌜ PieceAnswer effects (stretch (now (marks .entry)) (now (values .entry)) from) (now (out .entry)) at r (now (out .exit)) ⌝ }
     ensures { λ r. ⌜ (from ≤ r .next) × (r .next ≤ length (now (marks .entry))) × (r .at ≤ at + 32 * (r .next - from)) ⌝ }
 {
     let mut k = at;
@@ -84,7 +84,7 @@ fn put_action(
     from: usize,
 ) -> Emitted
     requires { ⌜ Reading (now marks) (now values) from at 160 × (from < length (now marks)) × Spells (action number) (stretch (now marks) (now values) from) ⌝ }
-    ensures { λ r. ⌜ Puts (action number) (stretch (now (marks .entry)) (now (values .entry)) from) (now (out .entry)) at r (now (out .exit)) ⌝ }
+    ensures { λ r. ⌜ PieceAnswer (action number) (stretch (now (marks .entry)) (now (values .entry)) from) (now (out .entry)) at r (now (out .exit)) ⌝ }
     ensures { λ r. ⌜ (from < r .next) × (r .next ≤ length (now (marks .entry))) × (r .at ≤ at + 160 * (r .next - from)) ⌝ }
 {
     let cost = rows::value_at(values, from);
@@ -102,7 +102,7 @@ fn put_action(
 // Writes the lines of the actions whose rows begin at `from`.
 pub fn put_actions(out: &mut [u8], at: usize, marks: &[u8], values: &[u8], from: usize) -> Emitted
     requires { ⌜ Reading (now marks) (now values) from at 160 × Spells actions (stretch (now marks) (now values) from) ⌝ }
-    ensures { λ r. ⌜ Puts actions (stretch (now (marks .entry)) (now (values .entry)) from) (now (out .entry)) at r (now (out .exit)) ⌝ }
+    ensures { λ r. ⌜ PieceAnswer actions (stretch (now (marks .entry)) (now (values .entry)) from) (now (out .entry)) at r (now (out .exit)) ⌝ }
     ensures { λ r. ⌜ (from ≤ r .next) × (r .next ≤ length (now (marks .entry))) × (r .at ≤ at + 160 * (r .next - from)) ⌝ }
 {
     let mut k = at;

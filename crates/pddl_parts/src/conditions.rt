@@ -7,7 +7,7 @@ ghost use Rattle.text.specs.Area.{Wrote};
 ghost use Rattle.pddl_parts.specs.Pddl.{factText, notText};
 ghost use Rattle.pddl_parts.specs.Rows.{rowText, markAt, listAt};
 ghost use Rattle.pddl_parts.specs.Pieces.{clause, condition};
-ghost use Rattle.pddl_parts.specs.Puts.{stretch, Reading, Spells, Puts};
+ghost use Rattle.pddl_parts.specs.Writing.{stretch, Reading, Spells, PieceAnswer};
 use task::marks;
 use task::rows;
 
@@ -91,7 +91,7 @@ pub fn put_list(
 // Writes the clause that row `from` opens.
 fn put_clause(out: &mut [u8], at: usize, marks: &[u8], values: &[u8], from: usize) -> Emitted
     requires { ⌜ Reading (now marks) (now values) from at 30 × (from < length (now marks)) × Spells clause (stretch (now marks) (now values) from) ⌝ }
-    ensures { λ r. ⌜ Puts clause (stretch (now (marks .entry)) (now (values .entry)) from) (now (out .entry)) at r (now (out .exit)) ⌝ }
+    ensures { λ r. ⌜ PieceAnswer clause (stretch (now (marks .entry)) (now (values .entry)) from) (now (out .entry)) at r (now (out .exit)) ⌝ }
     ensures { λ r. ⌜ (from < r .next) × (r .next ≤ length (now (marks .entry))) × (r .at ≤ at + 30 * (r .next - from)) ⌝ }
 {
     let i = from + 1;
@@ -113,7 +113,7 @@ fn put_clause(out: &mut [u8], at: usize, marks: &[u8], values: &[u8], from: usiz
 // Writes the condition whose rows begin at `from`.
 pub fn put_condition(out: &mut [u8], at: usize, marks: &[u8], values: &[u8], from: usize) -> Emitted
     requires { ⌜ Reading (now marks) (now values) from (at + 5) 31 × Spells condition (stretch (now marks) (now values) from) ⌝ }
-    ensures { λ r. ⌜ Puts condition (stretch (now (marks .entry)) (now (values .entry)) from) (now (out .entry)) at r (now (out .exit)) ⌝ }
+    ensures { λ r. ⌜ PieceAnswer condition (stretch (now (marks .entry)) (now (values .entry)) from) (now (out .entry)) at r (now (out .exit)) ⌝ }
     ensures { λ r. ⌜ (from ≤ r .next) × (r .next ≤ length (now (marks .entry))) × (r .at ≤ at + 31 * (r .next - from) + 5) ⌝ }
 {
     let mut k = text::put_bytes(&mut *out, at, b"(and");

@@ -2,7 +2,7 @@
 use mathlib.Core.Path.{_≡_, refl, sym, ap, _∙_}
 use mathlib.Core.Bool.{Bool, true, false, not}
 use mathlib.Core.List.{List, _++_}
-use Prim.Native.Nat.{ℕ, _+_, _*_, _-_, _≤_}
+use Prim.Native.Nat.{ℕ, _+_, _-_, _≤_}
 use lib.Dec.{leb}
 use lib.ListN.{length, take, drop}
 use borrow.Author.Tests.{leb-true, le-leb, eq-eqb, ne-eqb, not-true, not-false}
@@ -18,14 +18,13 @@ use Rattle.task.specs.declared.Checked.{Checked}
 use Rattle.task.specs.declared.Checked.the-variants.{Accepted, Refused}
 use Rattle.lists.proofs.Tests.{both-true}
 use Rattle.task.proofs.Spelled.{accepted-spelling}
-use Rattle.task.proofs.Checking.{within}
-use Rattle.task.proofs.Answered.{lengths, parts-spell}
+use Rattle.task.proofs.Answered.{parts-spell}
 use Rattle.text.specs.Area.{Filled}
 use Rattle.text.proofs.Writing.{written-whole}
 use Rattle.pddl_text.specs.Pddl.{domainText, problemText}
-use Rattle.pddl_text.specs.Puts.{SpelledShort, OfTask}
+use Rattle.pddl_text.specs.Writing.{SpelledShort, OfTask}
 use Rattle.pddl_text.specs.Outcomes.{Outcome, written, refused, bothFit, fitted, outcomeBy, outcome, domainAfter, problemAfter, outcomeOver, domainOver, problemOver}
-use Rattle.pddl_text.specs.Answers.{answer, DomainPut, ProblemPut, Fits, DomainLeft, ProblemLeft}
+use Rattle.pddl_text.specs.Answers.{answer, DomainPut, ProblemPut, TextsAnswer, DomainLeft, ProblemLeft}
 use Rattle.pddl_text.specs.declared.Lengths.{Lengths}
 use Rattle.pddl_text.specs.declared.Outcome.{Outcome as Written}
 use Rattle.pddl_text.proofs.Longest.{longest}
@@ -83,13 +82,6 @@ module _ (b : List ℕ) {x : Checked} {z : Sizes} (q : x ≡ Accepted z) (e : ch
   accepted : check b ≡ Check.accepted (asSizes z)
   accepted = sym e ∙ ap checked q
 
-  -- the file's length by its rows, of which there are few
-  pub parts : (length b ≡ 8 + 5 * z .rows) × (z .rows ≤ 12000)
-  parts = lengths b (asSizes z) accepted
-
-  pub few-facts : z .facts ≤ 128
-  few-facts = within (asSizes z) (accepted-spelling b (asSizes z) accepted .allowed) .2
-
   -- the marks and the values, as the code cuts them out of the file
   abbrev pub marksIn : List ℕ
   marksIn = take (8 + z .rows - 8) (drop 8 b)
@@ -111,7 +103,7 @@ module _ (b : List ℕ) {x : Checked} {z : Sizes} (q : x ≡ Accepted z) (e : ch
     pub has-preferences : (z .preferences ≡ 0 → ⊥) → Due b domain problem (refused 13 0) domain problem
     has-preferences h = by-outcome b domain problem (refused 13 0) (rw (ne-eqb (z .preferences) 0 h) at on-task) refl refl
 
-    pub texts-put : z .preferences ≡ 0 → (r : Written) {domain′ problem′ : List ℕ} → OfTask (z .facts) marksIn valuesIn (Fits domain problem r)
+    pub texts-put : z .preferences ≡ 0 → (r : Written) {domain′ problem′ : List ℕ} → OfTask (z .facts) marksIn valuesIn (TextsAnswer domain problem r)
         → OfTask (z .facts) marksIn valuesIn (DomainLeft domain r domain′) → OfTask (z .facts) marksIn valuesIn (ProblemLeft problem r problem′)
         → Due b domain problem (answer r) domain′ problem′
     texts-put h r fits d p =

@@ -1,6 +1,6 @@
 -- Two accepted tasks without preferences give equal texts exactly when their files are equal.
 use mathlib.Core.Path.{_≡_, refl, sym, ap, _∙_}
-use mathlib.Core.Bool.{Bool, true, false, cond, _&&_}
+use mathlib.Core.Bool.{Bool, true, false, cond, _&&_, true≢false}
 use mathlib.Core.Logic.{_↔_}
 use mathlib.Core.List.{List, [], _∷_}
 use Prim.Native.Nat.{ℕ}
@@ -17,7 +17,6 @@ use Rattle.task.proofs.Bytes.{areBytes}
 use Rattle.task.proofs.Spelled.{accepted-spelling, accepted-file}
 use Rattle.pddl_text.specs.Pddl.{domainText, problemText}
 use Rattle.pddl_text.specs.Outcomes.{Outcome, written, refused, outcomeBy, outcome, domainAfter, problemAfter, outcomeOver, domainOver, problemOver}
-use Rattle.pddl_text.proofs.Outcomes.{not-written, same-written}
 use Rattle.pddl_text.proofs.InjectiveTexts.{told}
 
 abbrev pub SameTexts : List ℕ → List ℕ → Type 0
@@ -61,7 +60,7 @@ module _ (b domain problem : List ℕ) where
 
   module _ (d p : ℕ) (w : outcomeOver b domain problem ≡ written d p) where
     by-answer : (a : Answer) → check b ≡ a → outcomeBy b (length domain) (length problem) a ≡ written d p → Put d p
-    by-answer (Check.refused n i) h e = absurd (not-written n i d p e)
+    by-answer (Check.refused n i) h e = absurd (true≢false (cc))
     by-answer (Check.accepted z) h e =
         go (eqb (z .preferences) 0) refl
         (leb (length (domainText (taskOf b))) (length domain) && leb (length (problemText (taskOf b))) (length problem)) e
@@ -70,16 +69,15 @@ module _ (b domain problem : List ℕ) where
             → cond x (cond y (written (length (domainText (taskOf b))) (length (problemText (taskOf b)))) (refused 14 0)) (refused 13 0) ≡ written d p
             → Put d p
         go true q true e =
-            let (of-domain, of-problem) = same-written (length (domainText (taskOf b))) (length (problemText (taskOf b))) d p e in
             record {
               sizes = z;
               accepting = h;
               without = eqb-true (z .preferences) 0 q;
-              domain-is = ap (λ (r : Outcome). take d (domainAfter (taskOf b) domain r)) w ∙ take-at (domainText (taskOf b)) (drop d domain) d of-domain;
-              problem-is = ap (λ (r : Outcome). take p (problemAfter (taskOf b) problem r)) w ∙ take-at (problemText (taskOf b)) (drop p problem) p of-problem;
+              domain-is = ap (λ (r : Outcome). take d (domainAfter (taskOf b) domain r)) w ∙ take-at (domainText (taskOf b)) (drop d domain) d (cc);
+              problem-is = ap (λ (r : Outcome). take p (problemAfter (taskOf b) problem r)) w ∙ take-at (problemText (taskOf b)) (drop p problem) p (cc);
             }
-        go true q false e = absurd (not-written 14 0 d p e)
-        go false q y e = absurd (not-written 13 0 d p e)
+        go true q false e = absurd (true≢false (cc))
+        go false q y e = absurd (true≢false (cc))
 
     put : Put d p
     unfolding outcome

@@ -2,9 +2,10 @@
 use mathlib.Core.Path.{_≡_, refl, sym, ap, _∙_}
 use mathlib.Core.Bool.{Bool, true, false, cond}
 use mathlib.Core.List.{List, [], _∷_, _++_, append-nil, head-eq-of-cons-eq, tail-eq-of-cons-eq}
-use Prim.Native.Nat.{ℕ, zero, suc, _+_}
+use Prim.Native.Nat.{ℕ, _+_}
 use native.Mathlib.Omega.{arith}
 use lib.ListN.{length}
+use Rattle.lists.proofs.Ranges.{length-range}
 use Rattle.lists.specs.Lists.{concatFrom, range}
 use Rattle.meaning.specs.Task.{Literal, Clause, Condition, Effect, Action, Task}
 use Rattle.text.specs.Ascii.{ascii}
@@ -141,10 +142,6 @@ lines-tell k (a ∷ l) (b ∷ m) xs ys e =
     (λ i. p i ∷ r i, s)
 
 -- The two texts
-
-length-range : (k n : ℕ) → length (range k n) ≡ n
-length-range k zero = refl
-length-range k (suc n) = ap suc (length-range (k + 1) n)
 
 abbrev domainOf : List ℕ × List Action → List ℕ
 domainOf p =

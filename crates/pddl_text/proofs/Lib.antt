@@ -1,7 +1,6 @@
 pub mod Examples
 pub mod Injective
 pub mod InjectiveTexts
-pub mod Outcomes
 pub mod EqualTexts
 pub mod Longest
 pub mod TextRows

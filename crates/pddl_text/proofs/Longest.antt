@@ -1,7 +1,7 @@
 -- No domain and no problem of an accepted task is longer than 262,144 bytes: a row adds at most 19, ` (when (and) (and))`,
 -- and an action's line 80 more.
-use mathlib.Core.Path.{_≡_, refl, sym, ap, _∙_}
-use mathlib.Core.Bool.{Bool, true, false, cond}
+use mathlib.Core.Path.{_≡_, refl, ap}
+use mathlib.Core.Bool.{Bool, true, false, cond, true≢false}
 use mathlib.Core.List.{List, [], _∷_, _++_, map}
 use Prim.Native.Nat.{ℕ, zero, suc, _+_, _*_, _≤_, _<_}
 use native.Mathlib.Omega.{arith}
@@ -26,7 +26,6 @@ use Rattle.text.proofs.Decimal.{few-digits}
 use Rattle.pddl_parts.specs.Pddl.{spaced, factText, notText, literalText, clauseText, conditionText, effectText, actionLine}
 use Rattle.pddl_text.specs.Pddl.{domainText, problemText}
 use Rattle.pddl_text.specs.Outcomes.{written, refused, fitted, outcomeBy, outcome}
-use Rattle.pddl_text.proofs.Outcomes.{not-written, same-refused}
 use Rattle.task.specs.Limits.{MAX-AMOUNT}
 
 -- Lists, each of whose parts is after a space
@@ -215,12 +214,11 @@ unfolding outcome
 never-too-short b domain problem d p i e = by-answer (check b) refl e
   where
     by-answer : (a : Answer) → check b ≡ a → outcomeBy b domain problem a ≡ refused 14 i → ⊥
-    by-answer (Check.refused n j) h e = omega (arith, one-to-six b n j h .1, same-refused n j 14 i e)
+    by-answer (Check.refused n j) h e = let fourteen : n ≡ 14 = cc in omega (arith, one-to-six b n j h .1)
     by-answer (Check.accepted z) h e = by-preferences (eqb (z .preferences) 0) refl e
       where
         by-preferences : (x : Bool) → eqb (z .preferences) 0 ≡ x → cond x (fitted (taskOf b) domain problem) (refused 13 0) ≡ refused 14 i → ⊥
         by-preferences true q e =
             let none : z .preferences ≡ 0 = eqb-true (z .preferences) 0 q in
-            not-written 14 i (length (domainText (taskOf b))) (length (problemText (taskOf b)))
-            (sym e ∙ (rw (h, q) at (enough b z h none domain problem d p)))
-        by-preferences false q e = omega (arith, same-refused 13 0 14 i e)
+            true≢false (cc (e, (rw (h, q) at (enough b z h none domain problem d p))))
+        by-preferences false q e = true≢false (cc)

@@ -23,11 +23,11 @@ use Rattle.text.proofs.Writing.{then, from-start}
 use Rattle.pddl_parts.specs.Pddl.{spaced, factText}
 use Rattle.pddl_parts.specs.Rows.{Listed, listAt, endedAt}
 use Rattle.pddl_parts.specs.Pieces.{condition, actions}
-use Rattle.pddl_parts.specs.Puts.{Stretch, stretch, Spells, Puts}
+use Rattle.pddl_parts.specs.Writing.{Stretch, stretch, Spells, PieceAnswer}
 use Rattle.pddl_parts.specs.declared.conditions.Emitted.{Emitted}
 use Rattle.pddl_parts.proofs.Listing.{each-text, lists}
 use Rattle.pddl_text.specs.Pddl.{domainText, problemText}
-use Rattle.pddl_text.specs.Puts.{ActionsOver, PutsProblem, PutsDomain}
+use Rattle.pddl_text.specs.Writing.{ActionsOver, ProblemAnswer, DomainAnswer}
 
 -- Facts, one after the other
 
@@ -78,9 +78,9 @@ module _ (ms vs : List ℕ) {b o₁ o₂ o₃ o₄ o₅ : List ℕ} {k₁ k₃ k
     (w₂ : Wrote o₁ k₁ (listAt 9 9 ms vs 0 .text) (s .at) o₂)
     (read : s .next ≡ listAt 9 9 ms vs 0 .next)
     (w₃ : Wrote o₂ (s .at) (ascii ")\n(:goal ") k₃ o₃)
-    (goal : Puts condition (stretch ms vs (s .next + 1)) o₃ k₃ c o₄)
+    (goal : PieceAnswer condition (stretch ms vs (s .next + 1)) o₃ k₃ c o₄)
     (w₅ : Wrote o₄ (c .at) (ascii ")\n(:metric minimize (total-cost)))\n") k₅ o₅) where
-  pub problem-put : PutsProblem ms vs b (record { at = k₅; next = c .next }) o₅
+  pub problem-put : ProblemAnswer ms vs b (record { at = k₅; next = c .next }) o₅
   unfolding problemText
   problem-put t spelled =
       let tail : List Row = tailRows (t .actions) (t .preferences) in
@@ -104,9 +104,9 @@ module _ (facts : ℕ) {from : Stretch} {b o₁ o₂ o₃ o₄ o₅ : List ℕ} 
     (w₁ : Wrote b 0 (ascii "(define (domain d)\n(:requirements :negative-preconditions :disjunctive-preconditions :conditional-effects :action-costs)\n(:predicates") k₁ o₁)
     (w₂ : Wrote o₁ k₁ (spaced factText (range 0 facts)) k₂ o₂)
     (w₃ : Wrote o₂ k₂ (ascii ")\n(:functions (total-cost))\n") k₃ o₃)
-    (lines : Puts actions from o₃ k₃ s o₄)
+    (lines : PieceAnswer actions from o₃ k₃ s o₄)
     (w₅ : Wrote o₄ (s .at) (ascii ")\n") k₅ o₅) where
-  pub domain-put : PutsDomain facts from b k₅ o₅
+  pub domain-put : DomainAnswer facts from b k₅ o₅
   unfolding domainText
   domain-put t same rows =
       let (w₄, after) = lines .puts (t .actions) (concatMap preferenceRows (t .preferences)) rows (past-actions t) in

@@ -24,8 +24,8 @@ abbrev pub ProblemPut : List ℕ → Lengths → List ℕ → Task → Type 0
 ProblemPut area r left t = Filled area (problemText t) (r .problem) left
 
 -- both texts of t where both fit into their areas, else 14
-abbrev pub Fits : List ℕ → List ℕ → Outcome → Task → Type 0
-Fits domain problem r t = answer r ≡ fitted t (length domain) (length problem)
+abbrev pub TextsAnswer : List ℕ → List ℕ → Outcome → Task → Type 0
+TextsAnswer domain problem r t = answer r ≡ fitted t (length domain) (length problem)
 
 -- an area after the answer
 abbrev pub DomainLeft : List ℕ → Outcome → List ℕ → Task → Type 0

@@ -1,4 +1,4 @@
 pub mod Pddl
-pub mod Puts
+pub mod Writing
 pub mod Outcomes
 pub mod Answers

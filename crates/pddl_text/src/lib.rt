@@ -4,9 +4,10 @@ mod texts;
 ghost use mathlib.Core.Path.{_≡_};
 ghost use Prim.Native.Nat.{_≤_};
 ghost use Rattle.task.specs.Rows.{Rows};
-ghost use Rattle.pddl_text.specs.Puts.{SpelledOver, SpelledShort, OfTask};
+ghost use Rattle.task.specs.Limits.{MAX-FACTS};
+ghost use Rattle.pddl_text.specs.Writing.{SpelledOver, SpelledShort, OfTask};
 ghost use Rattle.pddl_text.specs.Outcomes.{refused, bothFit, outcomeOver, domainOver, problemOver};
-ghost use Rattle.pddl_text.specs.Answers.{answer, Fits, DomainPut, ProblemPut, DomainLeft, ProblemLeft};
+ghost use Rattle.pddl_text.specs.Answers.{answer, TextsAnswer, DomainPut, ProblemPut, DomainLeft, ProblemLeft};
 use task::Checked;
 use task::Refusal;
 use task::refused;
@@ -18,7 +19,7 @@ pub struct Lengths {
 }
 
 // An area of this length holds every domain and every problem (proofs/Longest).
-const ENOUGH: usize = 262144;
+pub const MAX_PDDL: usize = 262144;
 
 // The texts stand at the starts of their areas, or a refusal has left both areas as they were.
 pub enum Outcome {
@@ -40,7 +41,7 @@ fn put_both(
     domain: &mut [u8],
     problem: &mut [u8],
 ) -> Lengths
-    requires { ⌜ Rows (now marks) (now values) × (facts ≤ 128) × SpelledOver facts (now marks) (now values) ⌝ }
+    requires { ⌜ Rows (now marks) (now values) × (facts ≤ MAX-FACTS) × SpelledOver facts (now marks) (now values) ⌝ }
     ensures { λ r. ⌜ OfTask facts (now (marks .entry)) (now (values .entry)) (DomainPut (now (domain .entry)) r (now (domain .exit))) ⌝ }
     ensures { λ r. ⌜ OfTask facts (now (marks .entry)) (now (values .entry)) (ProblemPut (now (problem .entry)) r (now (problem .exit))) ⌝ }
 {
@@ -54,7 +55,7 @@ fn put_both(
 
 // Whether both fit into areas of so many bytes.
 fn both_fit(marks: &[u8], values: &[u8], facts: usize, domain: usize, problem: usize) -> bool
-    requires { ⌜ Rows (now marks) (now values) × (facts ≤ 128) × SpelledOver facts (now marks) (now values) ⌝ }
+    requires { ⌜ Rows (now marks) (now values) × (facts ≤ MAX-FACTS) × SpelledOver facts (now marks) (now values) ⌝ }
     ensures { λ r. ⌜ OfTask facts (now (marks .entry)) (now (values .entry)) (λ t. r ≡ bothFit t domain problem) ⌝ }
 {
     let mut no_domain: [u8; 1] = [0; 1];
@@ -71,12 +72,12 @@ fn put_texts(
     domain: &mut [u8],
     problem: &mut [u8],
 ) -> Outcome
-    requires { ⌜ Rows (now marks) (now values) × (facts ≤ 128) × SpelledShort facts (now marks) (now values) ⌝ }
-    ensures { λ r. ⌜ OfTask facts (now (marks .entry)) (now (values .entry)) (Fits (now (domain .entry)) (now (problem .entry)) r) ⌝ }
+    requires { ⌜ Rows (now marks) (now values) × (facts ≤ MAX-FACTS) × SpelledShort facts (now marks) (now values) ⌝ }
+    ensures { λ r. ⌜ OfTask facts (now (marks .entry)) (now (values .entry)) (TextsAnswer (now (domain .entry)) (now (problem .entry)) r) ⌝ }
     ensures { λ r. ⌜ OfTask facts (now (marks .entry)) (now (values .entry)) (DomainLeft (now (domain .entry)) r (now (domain .exit))) ⌝ }
     ensures { λ r. ⌜ OfTask facts (now (marks .entry)) (now (values .entry)) (ProblemLeft (now (problem .entry)) r (now (problem .exit))) ⌝ }
 {
-    if (ENOUGH <= domain.len()) & (ENOUGH <= problem.len()) {
+    if (MAX_PDDL <= domain.len()) & (MAX_PDDL <= problem.len()) {
         let n = put_both(marks, values, facts, &mut *domain, &mut *problem);
         return Outcome::Written(n);
     }

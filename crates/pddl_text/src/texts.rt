@@ -3,10 +3,11 @@ ghost use Prim.Native.Nat.{_+_, _*_, _^_, _≤_, _<_};
 ghost use lib.ListN.{length};
 ghost use Rattle.lists.specs.Lists.{range};
 ghost use Rattle.task.specs.Rows.{Rows};
+ghost use Rattle.task.specs.Limits.{MAX-FACTS};
 ghost use Rattle.text.specs.Area.{Wrote};
 ghost use Rattle.pddl_parts.specs.Pddl.{spaced, factText};
-ghost use Rattle.pddl_parts.specs.Puts.{stretch};
-ghost use Rattle.pddl_text.specs.Puts.{Spelled, ActionsOver, PutsProblem, PutsDomain};
+ghost use Rattle.pddl_parts.specs.Writing.{stretch};
+ghost use Rattle.pddl_text.specs.Writing.{Spelled, ActionsOver, ProblemAnswer, DomainAnswer};
 use pddl_parts::actions;
 use pddl_parts::conditions;
 use pddl_parts::conditions::Emitted;
@@ -14,7 +15,7 @@ use task::marks;
 
 // Writes so many facts, each after a space.
 fn put_facts(out: &mut [u8], at: usize, facts: usize) -> usize
-    requires { ⌜ (facts ≤ 128) × (at + 24 * facts < 2 ^ 64) ⌝ }
+    requires { ⌜ (facts ≤ MAX-FACTS) × (at + 24 * facts < 2 ^ 64) ⌝ }
     ensures { λ r. ⌜ Wrote (now (out .entry)) at (spaced factText (range 0 facts)) r (now (out .exit)) ⌝ }
     ensures { λ r. ⌜ r ≤ at + 24 * facts ⌝ }
 {
@@ -31,7 +32,7 @@ fn put_facts(out: &mut [u8], at: usize, facts: usize) -> usize
 // Writes the problem, and answers the row of the first action with its length.
 pub fn put_problem(out: &mut [u8], marks: &[u8], values: &[u8]) -> Emitted
     requires { ⌜ Rows (now marks) (now values) × Spelled (now marks) (now values) ⌝ }
-    ensures { λ r. ⌜ PutsProblem (now (marks .entry)) (now (values .entry)) (now (out .entry)) r (now (out .exit)) ⌝ }
+    ensures { λ r. ⌜ ProblemAnswer (now (marks .entry)) (now (values .entry)) (now (out .entry)) r (now (out .exit)) ⌝ }
     ensures { λ r. ⌜ r .next ≤ length (now (marks .entry)) ⌝ }
 {
     let k = text::put_bytes(
@@ -51,8 +52,9 @@ pub fn put_problem(out: &mut [u8], marks: &[u8], values: &[u8]) -> Emitted
 
 // Writes the domain; the first action stands at row `from`.
 pub fn put_domain(out: &mut [u8], facts: usize, marks: &[u8], values: &[u8], from: usize) -> usize
-    requires { ⌜ Rows (now marks) (now values) × (from ≤ length (now marks)) × (facts ≤ 128) × ActionsOver facts (stretch (now marks) (now values) from) ⌝ }
-    ensures { λ r. ⌜ PutsDomain facts (stretch (now (marks .entry)) (now (values .entry)) from) (now (out .entry)) r (now (out .exit)) ⌝ }
+    requires { ⌜ Rows (now marks) (now values) × (from ≤ length (now marks)) × (facts ≤ MAX-FACTS)
+        × ActionsOver facts (stretch (now marks) (now values) from) ⌝ }
+    ensures { λ r. ⌜ DomainAnswer facts (stretch (now (marks .entry)) (now (values .entry)) from) (now (out .entry)) r (now (out .exit)) ⌝ }
 {
     let k = text::put_bytes(
         &mut *out,

@@ -29,7 +29,7 @@ use Rattle.plan.specs.Steps.{stateOf, isAccepting, isSafe, solvedBy, las
 use Rattle.monitors.specs.declared.met.Found.{Found}
 use Rattle.plan.specs.declared.steps.Places.{Places}
 use Rattle.plan.specs.declared.steps.Position.{Position}
-use Rattle.plan.proofs.TaskRead.{preferences-there, goal-read}
+use Rattle.monitors.proofs.TaskRead.{preferences-there, goal-read}
 use Rattle.monitors.proofs.Meeting.{met-is, kept-is, number-is}
 
 module _ (ms vs : List ℕ) (x : Places) (l : List ℕ) (t : Task) (μ : Preference → Monitor) (E : End ms vs x l t μ) (p : Position)

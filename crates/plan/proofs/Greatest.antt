@@ -17,7 +17,7 @@ use Rattle.task.specs.Limits.{MAX-AMOUNT, MAX-COST, MAX-PREFERENCES, MAX-STEPS}
 use Rattle.lists.proofs.Tests.{tests}
 use Rattle.task.proofs.Checking.{within}
 use Rattle.task.proofs.Spelled.{accepted-spelling}
-use Rattle.plan.proofs.ThenSettled.{cost-bound}
+use Rattle.task.proofs.Amounts.{cost-bound}
 
 -- Weights
 
@@ -45,17 +45,17 @@ MAX-WEIGHTS = MAX-PREFERENCES * MAX-AMOUNT
 
 pub record Greatest (t : Task) (p : List ℕ) : Type 0 where
   pub spent : cost t p ≤ MAX-COST
-  pub gained : metWeight t p ≤ MAX-WEIGHTS
+  pub met-weights : metWeight t p ≤ MAX-WEIGHTS
   pub paid : metric t p ≤ MAX-COST + MAX-WEIGHTS
 
 pub greatest : (t : Task) → T (spellable t) → length (t .preferences) ≤ MAX-PREFERENCES → (p : List ℕ) → length p ≤ MAX-STEPS → Greatest t p
 greatest t spelling few p short =
-    let gained : metWeight t p ≤ MAX-AMOUNT * length (t .preferences) =
+    let met-weights : metWeight t p ≤ MAX-AMOUNT * length (t .preferences) =
     weights (λ (q : Preference). cond (isMet t p q) (q .weight) 0) (λ q. some-or-none (isMet t p q) (q .weight) .0) (t .preferences) (search tests) in
     let lost : missedWeight t p ≤ MAX-AMOUNT * length (t .preferences) =
     weights (λ (q : Preference). cond (isMet t p q) 0 (q .weight)) (λ q. some-or-none (isMet t p q) (q .weight) .1) (t .preferences) (search tests) in
     let spent : cost t p ≤ MAX-AMOUNT * length p = cost-bound t spelling p in
-    record { spent = omega arith; gained = omega arith; paid = omega arith }
+    record { spent = omega arith; met-weights = omega arith; paid = omega arith }
 
 -- on an accepted file
 pub of-accepted : (b : List ℕ) (z : Sizes) → check b ≡ accepted z → (p : List ℕ) → length p ≤ MAX-STEPS → Greatest (taskOf b) p

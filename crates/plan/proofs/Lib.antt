@@ -1,5 +1,4 @@
 -- Steps
-pub mod TaskRead
 pub mod Stepping
 pub mod Finishing
 pub mod Running

@@ -27,7 +27,7 @@ use Rattle.plan.specs.Steps.{stateOf, StepTaken, StepAnswer, solvedBy, l
 use Rattle.plan.specs.declared.steps.Places.{Places}
 use Rattle.plan.specs.declared.steps.Position.{Position}
 use Rattle.plan.specs.declared.steps.Moved.the-variants.{Stopped}
-use Rattle.plan.proofs.TaskRead.{preferences-there}
+use Rattle.monitors.proofs.TaskRead.{preferences-there}
 
 -- the verdict on the steps from step i on, in state σ, with monitors μ and cost c so far
 abbrev pub verdictFrom : Task → Facts → (Preference → Monitor) → ℕ → ℕ → List ℕ → Walk

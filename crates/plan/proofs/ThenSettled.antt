@@ -2,26 +2,26 @@
 use mathlib.Core.Path.{_≡_, refl, sym, ap, ap₂, _∙_}
 use mathlib.Core.Bool.{Bool, true, false, not, cond}
 use mathlib.Core.List.{List, [], _∷_, map}
-use Prim.Native.Nat.{ℕ, zero, suc, _+_, _*_, _-_, _≤_, _<_}
+use Prim.Native.Nat.{ℕ, zero, suc, _+_, _-_, _≤_, _<_}
 use native.Mathlib.Nat.{add-zero, zero-add}
 use native.Mathlib.Omega.{arith}
-use lib.Dec.{T, leb, leb→le, ltb}
+use lib.Dec.{T, leb, ltb}
 use lib.IntN.{pos, _-ℤ_}
 use lib.ListN.{length, getD, length-map, List·getD-eq-default}
 use borrow.Author.Tests.{le-leb, leb-true}
 use Rattle.lists.specs.Lists.{all, any, range, sum}
-use Rattle.meaning.specs.Task.{Action, Preference, Task}
+use Rattle.meaning.specs.Task.{Preference, Task}
 use Rattle.task.specs.File
 use Rattle.task.specs.File.{taskOf}
-use Rattle.task.specs.Spelling.{actionSpellable, spellable}
-use Rattle.task.specs.Limits.{MAX-AMOUNT, MAX-COST}
+use Rattle.task.specs.Spelling.{spellable}
+use Rattle.task.specs.Limits.{MAX-COST}
 use Rattle.meaning.specs.Literals.{literals}
 use Rattle.task.specs.Check
 use Rattle.task.specs.Check.{Answer, check}
-use Rattle.meaning.specs.Meaning.{noAction, noPreference, opening, runs, final, keepsRules, isTrue, actionAt, cost, isMet, metWeight, missedWeight, metric, utility}
+use Rattle.meaning.specs.Meaning.{noPreference, opening, runs, final, keepsRules, isTrue, cost, isMet, metWeight, missedWeight, metric, utility}
 use Rattle.meaning.specs.Verdict.{metSet, verdictBy, verdict}
-use Rattle.lists.proofs.Tests.{tests}
 use Rattle.lists.proofs.Entries.{getD-map}
+use Rattle.task.proofs.Amounts.{cost-bound}
 use Rattle.task.proofs.Spelled.{Spelling, accepted-spelling}
 use Rattle.plan.specs.Judged
 use Rattle.plan.specs.Judged.{Judged, stepsKnown, judgedBy, judged}
@@ -30,18 +30,6 @@ use Rattle.settling.specs.Settled.{worth, weightOf, worthOf, argumentsAllowed, 
 use Rattle.plan.specs.ThenSettled.{priced, withAmounts, thenSettle}
 
 -- What a plan of known steps comes to is allowed
-
--- an action costs at most 4,294,967,295
-cheap : (l : List Action) → T (all actionSpellable l) → (k : ℕ) → getD l k noAction .cost ≤ MAX-AMOUNT
-cheap [] h k = omega arith
-cheap (a ∷ l) h zero = leb→le (a .cost) MAX-AMOUNT (search tests)
-cheap (a ∷ l) h (suc k) = cheap l (search tests) k
-
-pub cost-bound : (t : Task) → T (spellable t) → (p : List ℕ) → cost t p ≤ MAX-AMOUNT * length p
-cost-bound t s [] = omega arith
-cost-bound t s (k ∷ ks) =
-    let one : actionAt t k .cost ≤ MAX-AMOUNT = cheap (t .actions) (search tests) k in
-    omega (arith, one, cost-bound t s ks)
 
 -- no preference from P on is met
 met-below : (t : Task) (p : List ℕ) (k n : ℕ) → length (t .preferences) ≤ k → any (metSet t p) (range k n) ≡ false

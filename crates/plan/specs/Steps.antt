@@ -17,14 +17,15 @@ use Rattle.plan.specs.Walked.{Walk, solved, goal-missed, rule-missed, gi
 use Rattle.plan.specs.Answers.{walkedAs}
 use Rattle.monitor.specs.Packed.{monitorAt}
 use Rattle.monitors.specs.Monitors.{MOST-LOOKED}
-use Rattle.settling.specs.Amounts.{AMPLE}
+use Rattle.layout.specs.Counting.{AMPLE}
 use Rattle.layout.specs.Rows.{Spells, PreferencesAt}
-use Rattle.layout.specs.Actions.{actionRow, Noted}
+use Rattle.layout.specs.Actions.{Noted}
 use Rattle.plan.specs.declared.Walked.{Walked}
 use Rattle.plan.specs.declared.steps.Places.{Places}
 use Rattle.plan.specs.declared.steps.Position.{Position}
 use Rattle.plan.specs.declared.steps.Moved.{Moved}
 use Rattle.plan.specs.declared.steps.Moved.the-variants.{To, Stopped}
+use Rattle.task.specs.Limits.{MAX-PREFERENCES}
 
 abbrev pub stateOf : Position → State
 stateOf p = record { low = p .low; high = p .high }
@@ -35,15 +36,6 @@ pub record Roomy (p : Position) : Type 0 where
   pub looked : p .looked < AMPLE
 
 -- One step
-
--- row i opens action k of t
-pub record ActionAt (ms vs : List ℕ) (i : ℕ) (t : Task) (k : ℕ) : Type 0 where
-  pub spells : Spells ms vs t
-  pub known : k < length (t .actions)
-  pub begins : i ≡ actionRow t k
-
-abbrev pub SomeAction : List ℕ → List ℕ → ℕ → Type 0
-SomeAction ms vs i = (t : Task) × (k : ℕ) × ActionAt ms vs i t k
 
 -- by action k of t from p to q
 pub record StepTaken (t : Task) (k : ℕ) (p q : Position) : Type 0 where
@@ -114,7 +106,7 @@ walkedOn t plan = given (withoutAmounts (verdict t plan)) (literals t plan)
 
 -- 16 monitors that have seen no state
 pub record AllFresh (l : List ℕ) : Type 0 where
-  pub sixteen : length l ≡ 16
+  pub sixteen : length l ≡ MAX-PREFERENCES
   pub seen-none : (k : ℕ) → monitorAt l k ≡ fresh
 
 -- the places of t, the rows of its actions, and its opening state

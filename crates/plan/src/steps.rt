@@ -4,11 +4,12 @@ ghost use Prim.Native.Nat.{ℕ, _+_, _*_, _≤_, _<_};
 ghost use lib.ListN.{length};
 ghost use Rattle.meaning.specs.Task.{Task};
 ghost use Rattle.task.specs.Rows.{Rows};
+ghost use Rattle.task.specs.Limits.{MAX-ACTIONS, MAX-PREFERENCES, MAX-STEPS};
 ghost use Rattle.layout.specs.Rows.{Spells, Spelled};
-ghost use Rattle.layout.specs.Actions.{actionsFrom, AllBelow};
+ghost use Rattle.layout.specs.Actions.{actionsFrom, AllBelow, ActionAt, SomeAction};
 ghost use Rattle.monitors.specs.Monitors.{MOST-LOOKED};
-ghost use Rattle.settling.specs.Amounts.{AMPLE};
-ghost use Rattle.plan.specs.Steps.{stateOf, Roomy, ActionAt, SomeAction, StepAnswer, Little};
+ghost use Rattle.layout.specs.Counting.{AMPLE};
+ghost use Rattle.plan.specs.Steps.{stateOf, Roomy, StepAnswer, Little};
 ghost use Rattle.plan.specs.Steps.{Monitors, End, EndAnswer, AllFresh, Start, PlanAnswer};
 use super::Solution;
 use super::Verdict;
@@ -19,6 +20,7 @@ use reading::conditions;
 use reading::effects;
 use reading::opening;
 use state::State;
+use task::limits;
 use task::rows;
 
 // The rows at which the preferences begin, and the goal's condition.
@@ -76,7 +78,7 @@ pub fn step(marks: &[u8], values: &[u8], from: usize, p: Position) -> Moved
 
 // The verdict after the last step, by monitors that have seen the states before it.
 fn finish(marks: &[u8], values: &[u8], places: Places, p: Position, ms: &mut [u8]) -> Walked
-    requires { ⌜ Rows (now marks) (now values) × (places .preferences ≤ length (now marks)) × Roomy p × (length (now ms) ≡ 16) ⌝ }
+    requires { ⌜ Rows (now marks) (now values) × (places .preferences ≤ length (now marks)) × Roomy p × (length (now ms) ≡ MAX-PREFERENCES) ⌝ }
     requires { ⌜ ((t : Task) × (μ : Monitors) × End (now marks) (now values) places (now ms) t μ) ⌝ }
     ensures { λ r. ⌜ ((t : Task) (μ : Monitors) → End (now (marks .entry)) (now (values .entry)) places (now (ms .entry)) t μ → EndAnswer t μ p r) ⌝ }
 {
@@ -104,7 +106,7 @@ fn finish(marks: &[u8], values: &[u8], places: Places, p: Position, ms: &mut [u8
 
 // The position with so many more literals looked at.
 fn looked_on(p: Position, n: usize) -> Position
-    requires { ⌜ (p .looked < AMPLE) × (n ≤ 16 * MOST-LOOKED) ⌝ }
+    requires { ⌜ (p .looked < AMPLE) × (n ≤ MAX-PREFERENCES * MOST-LOOKED) ⌝ }
     ensures { λ r. ⌜ (stateOf r ≡ stateOf p) × (r .cost ≡ p .cost) × (r .looked ≡ p .looked + n) ⌝ }
 {
     Position {
@@ -125,7 +127,7 @@ fn follow(
     plan: &[u8],
     ms: &mut [u8],
 ) -> Walked
-    requires { ⌜ Rows (now marks) (now values) × (length (now plan) ≤ 2048) × (places .preferences ≤ length (now marks)) ⌝ }
+    requires { ⌜ Rows (now marks) (now values) × (length (now plan) ≤ MAX-STEPS) × (places .preferences ≤ length (now marks)) ⌝ }
     requires { ⌜ AllBelow (length (now marks)) (now starts) × AllBelow (length (now starts)) (now plan) × AllFresh (now ms) ⌝ }
     requires { ⌜ ((t : Task) × Start (now marks) (now values) places (now starts) s t) ⌝ }
     ensures { λ r. ⌜ ((t : Task) → Start (now (marks .entry)) (now (values .entry)) places (now (starts .entry)) s t → PlanAnswer t (now (plan .entry)) r) ⌝ }
@@ -164,16 +166,16 @@ fn follow(
 
 // The verdict on a plan of known steps.
 pub fn run(marks: &[u8], values: &[u8], plan: &[u8]) -> Walked
-    requires { ⌜ Rows (now marks) (now values) × (length (now plan) ≤ 2048) × Spelled (now marks) (now values) ⌝ }
-    requires { ⌜ (length (actionsFrom 0 (now marks)) ≤ 128) × AllBelow (length (actionsFrom 0 (now marks))) (now plan) ⌝ }
+    requires { ⌜ Rows (now marks) (now values) × (length (now plan) ≤ MAX-STEPS) × Spelled (now marks) (now values) ⌝ }
+    requires { ⌜ (length (actionsFrom 0 (now marks)) ≤ MAX-ACTIONS) × AllBelow (length (actionsFrom 0 (now marks))) (now plan) ⌝ }
     ensures { λ r. ⌜ ((t : Task) → Spells (now (marks .entry)) (now (values .entry)) t → PlanAnswer t (now (plan .entry)) r) ⌝ }
 {
     let start = opening::opening(marks, values);
     let goal = start.next + 1;
     let preferences = actions::first_preference(marks);
-    let mut table: [usize; 128] = [0; 128];
+    let mut table: [usize; limits::MAX_ACTIONS] = [0; limits::MAX_ACTIONS];
     let many = actions::note_actions(marks, &mut table);
-    let mut ms: [u8; 16] = [0; 16];
+    let mut ms: [u8; limits::MAX_PREFERENCES] = [0; limits::MAX_PREFERENCES];
     follow(
         marks,
         values,

@@ -99,14 +99,11 @@ pub record Spells (bytes p : List ℕ) : Type 0 where
   pub spelled : bytes ≡ textOf numbers
   pub as-read : map asByte numbers ≡ p
 
-no-line : (bs p : List ℕ) (i : ℕ) → faulty i ≡ plan p → Spells bs p
-no-line bs p i e = absurd (true≢false (cc))
-
 -- a step's line before a text that spells the rest
 one-step : (n : ℕ) (l bs p : List ℕ) (r : Read) → l ≡ stepLine n → stepBefore (asByte n) r ≡ plan p
     → ((q : List ℕ) → r ≡ plan q → Spells bs q) → Spells (l ++ NEWLINE ∷ bs) p
 unfolding textOf
-one-step n l bs p (faulty i) e h more = no-line (l ++ NEWLINE ∷ bs) p i h
+one-step n l bs p (faulty i) e h more = absurd (true≢false (cc))
 one-step n l bs p (plan q) e h more = build (more q refl)
   where
     build : Spells bs q → Spells (l ++ NEWLINE ∷ bs) p
@@ -120,8 +117,8 @@ one-step n l bs p (plan q) e h more = build (more q refl)
 spelled-lines : (i : ℕ) (ls : Lines) (p : List ℕ) → readLines i ls ≡ plan p → Spells (bytesOf (withoutComments ls)) p
 unfolding textOf
 spelled-lines i (rest []) p h = record { numbers = []; spelled = refl; as-read = cc }
-spelled-lines i (rest (b ∷ l)) p h = no-line (b ∷ l) p i h
-spelled-lines i (ended [] ls) p h = no-line (NEWLINE ∷ bytesOf (withoutComments ls)) p i h
+spelled-lines i (rest (b ∷ l)) p h = absurd (true≢false (cc))
+spelled-lines i (ended [] ls) p h = absurd (true≢false (cc))
 spelled-lines i (ended (b ∷ l) ls) p h =
     go (eqb b SEMICOLON) (same (b ∷ l) (stepLine (numberFrom 0 (b ∷ l)))) refl h (spelled-lines (suc i) ls)
   where
@@ -132,7 +129,7 @@ spelled-lines i (ended (b ∷ l) ls) p h =
     go true f s h more = more p h
     go false true s h more =
         one-step (numberFrom 0 (b ∷ l)) (b ∷ l) (bytesOf (withoutComments ls)) p (readLines (suc i) ls) (same-eq (b ∷ l) (stepLine (numberFrom 0 (b ∷ l))) s) h more
-    go false false s h more = no-line ((b ∷ l) ++ NEWLINE ∷ bytesOf (withoutComments ls)) p i h
+    go false false s h more = absurd (true≢false (cc))
 
 short-enough : (t p : List ℕ) → readPlan t ≡ plan p → length t ≤ 65536
 unfolding readPlan

@@ -2,6 +2,7 @@
 ghost use mathlib.Core.List.{[], _∷_, _++_};
 ghost use Prim.Native.Nat.{_+_, _*_, _^_, _<_, _≤_};
 ghost use lib.ListN.{length};
+ghost use Rattle.task.specs.Limits.{MAX-STEPS};
 ghost use Rattle.text.specs.Area.{Wrote, Filled};
 ghost use Rattle.plan_lines.specs.PlanText.{stepLine, textOf};
 
@@ -18,7 +19,7 @@ fn put_step(out: &mut [u8], at: usize, step: u8) -> usize
 
 // Writes a line for each step, of 7 bytes at most.
 pub fn put_plan(plan: &[u8], out: &mut [u8]) -> usize
-    requires { ⌜ length (now plan) ≤ 2048 ⌝ }
+    requires { ⌜ length (now plan) ≤ MAX-STEPS ⌝ }
     ensures { λ r. ⌜ Filled (now (out .entry)) (textOf (now (plan .entry))) r (now (out .exit)) ⌝ }
     ensures { λ r. ⌜ r ≤ 7 * length (now (plan .entry)) ⌝ }
 {

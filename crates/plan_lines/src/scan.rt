@@ -3,6 +3,7 @@ ghost use mathlib.Core.Path.{_≡_};
 ghost use mathlib.Core.Bool.{true};
 ghost use Prim.Native.Nat.{_+_, _*_, _-_, _^_, _<_, _≤_};
 ghost use lib.ListN.{length};
+ghost use Rattle.task.specs.Limits.{MAX-TEXT};
 ghost use Rattle.text.specs.Area.{written};
 ghost use Rattle.text.specs.Text.{isDigit};
 ghost use Rattle.plan_lines.specs.PlanText.{asByte, linesOf, readLines};
@@ -266,7 +267,7 @@ fn put_byte(m: Mode, b: u8, out: &mut [u8], at: usize)
 // Writes the steps of a text, as far as the area reaches, and counts them, up to its faulty line: a step's line at once, any other byte
 // by byte.
 pub fn fill(text: &[u8], out: &mut [u8]) -> Scan
-    requires { ⌜ length (now text) ≤ 65536 ⌝ }
+    requires { ⌜ length (now text) ≤ MAX-TEXT ⌝ }
     ensures { λ r. ⌜ now (out .exit) ≡ written (stepsFrom start (now (text .entry))) 0 (now (out .entry)) ⌝ }
     ensures { λ r. ⌜ counted r ≡ countOf 0 (readLines 0 (linesOf (now (text .entry)))) ⌝ }
     ensures { λ r. ⌜ (r .line + begun (r .mode) ≤ length (now (text .entry))) × (r .steps ≤ length (now (text .entry))) ⌝ }

@@ -25,7 +25,7 @@ use Rattle.plan.specs.Walked
 use Rattle.plan.specs.Walked.{Walked, withoutWorth, walked}
 use Rattle.plan_lines.specs.PlanText.{linesOf, Read, plan, faulty, readLines, readPlan}
 use Rattle.outcome.specs.Outcome.{Outcome, written, refused, areaAfter}
-use Rattle.outcome.proofs.Outcomes.{not-written, same-written, put-down}
+use Rattle.outcome.proofs.Outcomes.{put-down}
 use Rattle.plan_text.specs.Outcomes.{planFitted, readBy, readOutcome, steps, stepsIn, refusedAfter, textWalkedBy, textWalked}
 use Rattle.plan_lines.specs.Scan.{isOpening, all, faultyAt, count, counted, begun, start, stepsFrom}
 use Rattle.plan_lines.specs.declared.scan.Scan.{Scan}
@@ -58,9 +58,9 @@ module _ (k bytes room : ℕ) where
   fits n e = go (leb k 2048) refl (leb bytes room) e
     where
       go : (x : Bool) → leb k 2048 ≡ x → (y : Bool) → cond x (cond y (written bytes) (refused 9 0)) (refused 10 0) ≡ written n → (k ≤ 2048) × (bytes ≡ n)
-      go true h true e = (leb-true k 2048 h, same-written bytes n e)
-      go true h false e = absurd (not-written 9 0 n e)
-      go false h y e = absurd (not-written 10 0 n e)
+      go true h true e = (leb-true k 2048 h, cc)
+      go true h false e = absurd (true≢false (cc))
+      go false h y e = absurd (true≢false (cc))
 
 -- Reading
 
@@ -85,9 +85,9 @@ module _ (t : List ℕ) (room : ℕ) where
 
   module _ (short : length t ≤ 65536) where
     module _ (s : Scan) (e : counted s ≡ count 0 (readLines 0 (linesOf t))) where
-      pub bad-line : isOpening (s .mode) ≡ false → readOutcome t room ≡ refused 12 (s .line)
+      pub faulty-line : isOpening (s .mode) ≡ false → readOutcome t room ≡ refused 12 (s .line)
       unfolding readOutcome
-      bad-line h =
+      faulty-line h =
           let c : faultyAt (s .line) ≡ count 0 (readLines 0 (linesOf t)) = (rw h at e) in
           ap (readBy room) (by-lines t short ∙ stopped-at (readLines 0 (linesOf t)) (s .line) c)
 
@@ -113,7 +113,7 @@ line-below t s short h e = let l : s .line + 1 ≤ length t = (rw e at h) in ome
 
 size-read : (r : Read) (room n : ℕ) → readBy room r ≡ written n → length (steps r) ≡ n
 size-read (plan p) room n e = fits (length p) (length p) room n e .1
-size-read (faulty i) room n e = absurd (not-written 12 i n e)
+size-read (faulty i) room n e = absurd (true≢false (cc))
 
 -- an area that was read into begins with the plan
 pub at-front : (t area out : List ℕ) (room n : ℕ) → readOutcome t room ≡ written n
@@ -142,12 +142,12 @@ module _ (b : List ℕ) where
     where
       go : (x : Bool) → leb (length p) 2048 ≡ x → cond x (cond x (written (length p)) (refused 9 0)) (refused 10 0) ≡ refused m j
           → refusedAfter (check b) m j ≡ walked b p
-      go true l e = absurd (not-written m j (length p) (sym e))
+      go true l e = absurd (true≢false (cc))
       go false l e = let ten : refusedAfter (check b) m j ≡ refusedAfter (check b) 10 0 = cc in ten ∙ over-long p l (check b)
 
   on-plan : (r : Read) (n : ℕ) → readBy 2048 r ≡ written n → walked b (steps r) ≡ textWalkedBy b r
   on-plan (plan p) n e = refl
-  on-plan (faulty i) n e = absurd (not-written 12 i n e)
+  on-plan (faulty i) n e = absurd (true≢false (cc))
 
   pub text-refused : (t : List ℕ) (m j : ℕ) → readOutcome t 2048 ≡ refused m j → refusedAfter (check b) m j ≡ textWalked b t
   unfolding readOutcome textWalked

@@ -1,15 +1,15 @@
 -- No text of a plan is longer than 65,536 bytes.
-use mathlib.Core.Path.{_≡_, refl, sym, _∙_}
-use mathlib.Core.Bool.{Bool, true, false, cond}
+use mathlib.Core.Path.{_≡_, refl}
+use mathlib.Core.Bool.{Bool, true, false, cond, true≢false}
 use mathlib.Core.List.{List}
 use Prim.Native.Nat.{ℕ, _≤_}
 use native.Mathlib.Omega.{arith}
 use lib.Dec.{leb}
 use lib.ListN.{length}
-use borrow.Author.Tests.{leb-true, le-leb}
+use borrow.Author.Tests.{leb-true}
 use Rattle.lists.proofs.Tests.{as-T}
 use Rattle.outcome.specs.Outcome.{refused, fitted}
-use Rattle.outcome.proofs.Outcomes.{not-written, same-refused}
+use Rattle.outcome.proofs.Outcomes.{has-room}
 use Rattle.plan_lines.specs.PlanText.{textOf}
 use Rattle.plan_text.specs.Outcomes.{writeOutcome}
 use Rattle.plan_lines.proofs.Returned.{bytes, text-length}
@@ -27,5 +27,5 @@ module _ (p : List ℕ) (h : bytes p ≡ true) where
       by-steps true q e =
           let few : length p ≤ 2048 = leb-true (length p) 2048 q in
           let fits : length (textOf p) ≤ room = omega (arith, l, longest few) in
-          not-written 9 i (length (textOf p)) (sym e ∙ rw (le-leb (length (textOf p)) room fits))
-      by-steps false q e = omega (arith, same-refused 10 0 9 i e)
+          has-room (length (textOf p)) room i fits e
+      by-steps false q e = true≢false (cc)

@@ -7,6 +7,7 @@ ghost use Rattle.plan_text.specs.Outcomes.{HasRoom, readOutcome, stepsIn
 ghost use Rattle.outcome.specs.Outcome.{areaAfter};
 ghost use Rattle.outcome.specs.Answers.{answer};
 ghost use Rattle.task.specs.Check.{check};
+ghost use Rattle.task.specs.Limits.{MAX-TEXT};
 ghost use Rattle.plan.specs.Answers.{walkedAs};
 use outcome::Outcome;
 use plan::Walked;
@@ -17,9 +18,12 @@ use task::Refusal;
 use task::limits;
 use task::refused;
 
+// A text of at most so many bytes is read by way of a small area: an area costs what it is long.
+const FEW: usize = 64;
+
 // Reads a text by way of an area of our own, which has room for every plan that the text may hold.
 fn read_through(text: &[u8], own: &mut [u8], out: &mut [u8]) -> Outcome
-    requires { ⌜ (length (now text) ≤ 65536) × HasRoom (length (now text)) (length (now own)) ⌝ }
+    requires { ⌜ (length (now text) ≤ MAX-TEXT) × HasRoom (length (now text)) (length (now own)) ⌝ }
     ensures { λ r. ⌜ answer r ≡ readOutcome (now (text .entry)) (length (now (out .entry))) ⌝ }
     ensures { λ r.
         let outcome = readOutcome (now (text .entry)) (length (now (out .entry))) in
@@ -49,11 +53,11 @@ pub fn read(text: &[u8], out: &mut [u8]) -> Outcome
     if limits::MAX_TEXT < text.len() {
         return outcome::refuse(refused::TEXT, 0);
     }
-    if text.len() <= 64 {
-        let mut few: [u8; 64] = [0; 64];
+    if text.len() <= FEW {
+        let mut few: [u8; FEW] = [0; FEW];
         return read_through(text, &mut few, &mut *out);
     }
-    let mut steps: [u8; 2048] = [0; 2048];
+    let mut steps: [u8; limits::MAX_STEPS] = [0; limits::MAX_STEPS];
     read_through(text, &mut steps, &mut *out)
 }
 
@@ -95,7 +99,7 @@ fn refused_text(file: &[u8], f: Refusal) -> Walked
 pub fn walk_text(file: &[u8], text: &[u8]) -> Walked
     ensures { λ r. ⌜ walkedAs r ≡ textWalked (now (file .entry)) (now (text .entry)) ⌝ }
 {
-    let mut steps: [u8; 2048] = [0; 2048];
+    let mut steps: [u8; limits::MAX_STEPS] = [0; limits::MAX_STEPS];
     let l = read(text, &mut steps);
     match l {
         Outcome::Written(n) => plan::walk(file, text::front(&steps, n)),

@@ -15,7 +15,7 @@ use Rattle.task.specs.Check
 use Rattle.task.specs.Check.{check}
 use Rattle.task.proofs.Checking.{within}
 use Rattle.task.proofs.Spelled.{Spelling, accepted-spelling}
-use Rattle.plan.proofs.ThenSettled.{cost-bound}
+use Rattle.task.proofs.Amounts.{cost-bound}
 use Rattle.text.specs.Ascii.{ascii}
 use Rattle.text.specs.Text.{decimal}
 use Rattle.text.proofs.Decimal.{few-digits}

@@ -95,7 +95,7 @@ module _ (s : Facts) where
       go true = refl
       go false = refl
 
-  -- Behind a false clause nothing is looked at
+  -- After a false clause nothing is looked at
 
   run-lost : (p : Bool) (n i : ℕ) (xs : List Row)
       → run (readRow s) inCondition finish (reading false p n) i xs ≡ record { holds = false; looked = n; next = run still inCondition here tt i xs }

@@ -13,6 +13,7 @@ use Rattle.meaning.specs.Meaning.{State as Facts, isTrue, after}
 use Rattle.meaning.specs.Literals.{lookedAt, lookedEffects}
 use Rattle.task.specs.File.{paired}
 use Rattle.task.specs.Rows.{between, runAt, Stops}
+use Rattle.task.specs.Limits.{MAX-FACTS}
 use Rattle.meaning.specs.Task.{effectBelow}
 use Rattle.state.specs.Member.{member, single, union}
 use Rattle.state.specs.declared.State.{State}
@@ -80,7 +81,7 @@ pub record Changed-by (s : Facts) (a : Action) (r : Changed) : Type 0 where
 -- the effects of a stand from row i on, and name facts that a state may have
 pub record EffectsAt (ms vs : List ℕ) (i : ℕ) (a : Action) : Type 0 where
   pub facts : ℕ
-  pub few : facts ≤ 128
+  pub few : facts ≤ MAX-FACTS
   pub below : T (all (effectBelow facts) (a .effects))
   pub rest : List Row
   pub spelled : drop i (paired ms vs) ≡ concatMap effectRows (a .effects) ++ rest

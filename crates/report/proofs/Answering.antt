@@ -1,5 +1,6 @@
 -- The text from the rows, and the text of the task that they spell; what comes of writing it.
-use mathlib.Core.Path.{_≡_, refl, sym, ap, _∙_, subst}
+use mathlib.Core.Path.{_≡_, refl, ap, _∙_, subst}
+use mathlib.Core.Bool.{true≢false}
 use mathlib.Core.List.{List}
 use Prim.Native.Nat.{ℕ, _≤_, _<_}
 use lib.ListN.{length}
@@ -20,8 +21,7 @@ use Rattle.meaning.specs.Literals.{literals}
 use Rattle.plan.proofs.ThenSettled.{walk-then-settle}
 use Rattle.text.specs.Area.{Filled}
 use Rattle.text.proofs.Writing.{from-start, no-bytes}
-use Rattle.outcome.specs.Outcome.{Outcome, written, refused, fitted}
-use Rattle.outcome.proofs.Outcomes.{not-written}
+use Rattle.outcome.specs.Outcome.{written, refused, fitted}
 use Rattle.report.specs.Report.{reportOf, reportOn, reportBy, reportOutcome, WalkedTo}
 use Rattle.report.specs.Rows.{reportOfRows}
 use Rattle.report.proofs.Spelled.{task-report}
@@ -31,18 +31,13 @@ spelled-report t xs e n j = ap (λ (ys : List Row). reportOfRows ys n j) e ∙ t
 
 -- The outcome by what walk gave
 
--- an outcome for each answer of walk
-abbrev passedOn : Walked → Outcome
-passedOn (given w looked) = written 0
-passedOn (Walked.refused n i) = refused n i
-
 as-given : (bytes room : ℕ) (j : Judged) (w : Walk) (looked seen : ℕ) → given w looked ≡ withoutWorth seen j → reportBy bytes room j ≡ fitted bytes room
 as-given bytes room (Judged.given v) w looked seen e = refl
-as-given bytes room (Judged.refused n i) w looked seen e = absurd (not-written n i 0 (sym (ap passedOn e)))
+as-given bytes room (Judged.refused n i) w looked seen e = absurd (true≢false (cc))
 
 as-refused : (bytes room : ℕ) (j : Judged) (n i seen : ℕ) → Walked.refused n i ≡ withoutWorth seen j → reportBy bytes room j ≡ refused n i
-as-refused bytes room (Judged.given v) n i seen e = absurd (not-written n i 0 (ap passedOn e))
-as-refused bytes room (Judged.refused m k) n i seen e = sym (ap passedOn e)
+as-refused bytes room (Judged.given v) n i seen e = absurd (true≢false (cc))
+as-refused bytes room (Judged.refused m k) n i seen e = cc
 
 -- For a caller that has walked the plan p on the file b
 

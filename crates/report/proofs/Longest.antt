@@ -173,7 +173,7 @@ module _ (t : Task) (spelling : T (spellable t)) (few : length (t .preferences) 
         length-append first lines,
         short-solved (length p) (cost t p) (omega (arith, short)) (omega (arith, amounts .spent)),
         short-lines (metSet t p) 0 (t .preferences) (omega (arith, few)) (search tests),
-        short-amounts (metric t p) (metWeight t p) (cost t p) (omega (arith, amounts .paid)) (omega (arith, amounts .gained)) (omega (arith, amounts .spent)),
+        short-amounts (metric t p) (metWeight t p) (cost t p) (omega (arith, amounts .paid)) (omega (arith, amounts .met-weights)) (omega (arith, amounts .spent)),
       )
 
   short-verdict : length (verdictText (preferenceLines t) (length p) (verdict t p)) ≤ 2048

@@ -25,6 +25,9 @@ use settling::Worth;
 use task::Checked;
 use task::refused;
 
+// An area of this length holds every report (proofs/Longest).
+pub const MAX_REPORT: usize = 2048;
+
 // Writes the text of a plan that solves, from what it is worth.
 fn put_worth(
     steps: usize,
@@ -115,7 +118,7 @@ fn write_verdict(file: &[u8], plan: &[u8], v: Verdict, out: &mut [u8]) -> Outcom
         let outcome = reportOutcome (now (file .entry)) (now (plan .entry)) (length (now (out .entry))) in
         ⌜ now (out .exit) ≡ areaAfter (reportOn (now (file .entry)) (now (plan .entry))) (now (out .entry)) outcome ⌝ }
 {
-    let mut whole: [u8; 2048] = [0; 2048];
+    let mut whole: [u8; MAX_REPORT] = [0; MAX_REPORT];
     let n = put_text(file, plan, v, &mut whole);
     if out.len() < n {
         return outcome::refuse(refused::SHORT_OUTPUT, 0);

@@ -31,6 +31,7 @@ ghost use Rattle.optimal.specs.Optimal.{OptimalOn};
 ghost use Rattle.finding.specs.Finding.{planAfter};
 ghost use Rattle.cheapest.specs.LentWords.{LentWords};
 use cheapest::plain;
+use node_words::limits;
 
 // Checks a task file.
 #[no_mangle]
@@ -163,7 +164,7 @@ pub extern "C" fn route_rules_search(
     file: &[u8],
     limit: u64,
     nodes: &mut [u64],
-    plan: &mut [u8; 1023],
+    plan: &mut [u8; limits::MAX_FOUND],
     answer: &mut [u64; 8],
 ) -> u32
     ensures { λ r. ⌜ call r (now (answer .exit)) ≡ ofSearch (searchFile (now (file .entry)) limit (length (now (nodes .entry)) / 4)) ⌝ }

@@ -8,7 +8,7 @@ use lib.IntN.{ℤ, pos, negsuc, _-ℤ_}
 use mir.Syntax.{w64}
 use mir.Val.{SFits, toZ, ofZ}
 use mir.Facts.{toZ-ofZ, toZ-pos}
-use Rattle.settling.specs.Amounts.{AMPLE}
+use Rattle.layout.specs.Counting.{AMPLE}
 
 fits : (a b : ℕ) → a < AMPLE → b < AMPLE → SFits w64 (pos a -ℤ pos b)
 fits a zero h k = record { sfits = omega arith }

@@ -1,13 +1,9 @@
 -- The weights of met preferences and of the others, counted one by one.
 use mathlib.Core.Bool.{Bool, cond}
-use Prim.Native.Nat.{ℕ, _+_, _^_, _<_}
+use Prim.Native.Nat.{ℕ, _+_, _<_}
 use Rattle.task.specs.TaskRows.{Row}
-use Rattle.layout.specs.Counting.{MANY}
+use Rattle.layout.specs.Counting.{MANY, AMPLE}
 use Rattle.settling.specs.declared.amounts.Weights.{Weights}
-
--- more than any amount of a task: the sum of two fits 64 bits, and so does their difference
-abbrev pub AMPLE : ℕ
-AMPLE = 2 ^ 62
 
 -- there is room for one preference more
 pub record Room (t : Weights) : Type 0 where

@@ -6,12 +6,12 @@ ghost use lib.IntN.{pos, _-ℤ_};
 ghost use lib.ListN.{length, getD};
 ghost use Rattle.task.specs.TaskRows.{row};
 ghost use Rattle.task.specs.File.{opensPreference};
-ghost use Rattle.task.specs.Limits.{MAX-ROWS};
-ghost use Rattle.task.specs.Rows.{Rows};
+ghost use Rattle.task.specs.Limits.{MAX-PREFERENCES};
+ghost use Rattle.task.specs.Rows.{Rows, MarksTo};
 ghost use Rattle.state.specs.Member.{bit};
 ghost use Rattle.settling.specs.Settled.{argumentsAllowed};
-ghost use Rattle.layout.specs.Counting.{counting, countAt};
-ghost use Rattle.settling.specs.Amounts.{AMPLE, Room, nothing, weighed, asWeights};
+ghost use Rattle.layout.specs.Counting.{counting, countAt, AMPLE};
+ghost use Rattle.settling.specs.Amounts.{Room, nothing, weighed, asWeights};
 use super::Worth;
 use task::limits;
 use task::marks;
@@ -26,7 +26,7 @@ pub struct Weights {
 
 // Whether the cost is small enough, and each met preference one of so many.
 pub fn arguments_allowed(preferences: usize, cost: u64, met: u64) -> bool
-    requires { ⌜ preferences ≤ 16 ⌝ }
+    requires { ⌜ preferences ≤ MAX-PREFERENCES ⌝ }
     ensures { λ r. ⌜ r ≡ argumentsAllowed preferences cost (bit met) ⌝ }
 {
     (cost <= limits::MAX_COST) & (met >> preferences == 0)
@@ -70,7 +70,7 @@ fn weigh_row(t: Weights, mark: u8, value: u32, met: u64) -> Weights
 
 // The bits of four marks from row i on: none of the marks is greater.
 fn four_marks(marks: &[u8], i: usize) -> u8
-    requires { ⌜ (i + 4 ≤ length (now marks)) × (length (now marks) ≤ MAX-ROWS) ⌝ }
+    requires { ⌜ MarksTo (i + 4) (now marks) ⌝ }
     ensures { λ r. ⌜ ((k : ℕ) → i ≤ k → k < i + 4 → getD (now (marks .entry)) k 0 ≤ r) ⌝ }
 {
     marks[i] | marks[i + 1] | marks[i + 2] | marks[i + 3]
@@ -78,7 +78,7 @@ fn four_marks(marks: &[u8], i: usize) -> u8
 
 // Passes rows that open no preference, eight at a time: all their marks are below GOAL.
 fn past_others(marks: &[u8], from: usize) -> usize
-    requires { ⌜ (from ≤ length (now marks)) × (length (now marks) ≤ MAX-ROWS) ⌝ }
+    requires { ⌜ MarksTo from (now marks) ⌝ }
     ensures { λ r. ⌜ (from ≤ r) × (r ≤ length (now (marks .entry))) ⌝ }
     ensures { λ r. ⌜ ((k : ℕ) → from ≤ k → k < r → opensPreference (getD (now (marks .entry)) k 0) ≡ false) ⌝ }
 {

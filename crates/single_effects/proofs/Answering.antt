@@ -1,6 +1,6 @@
 -- A task file rewritten, from what check answers.
 use mathlib.Core.Path.{_≡_, refl, sym, ap, _∙_, subst⁻¹}
-use mathlib.Core.Bool.{Bool, true, false, cond}
+use mathlib.Core.Bool.{Bool, true, false, cond, true≢false}
 use mathlib.Core.List.{List, _++_}
 use mathlib.Core.Option.{Option, none, some}
 use Prim.Native.Nat.{ℕ, _+_, _*_, _-_, _≤_, _<_}
@@ -13,7 +13,7 @@ use Rattle.meaning.specs.Task.{Task}
 use Rattle.lists.specs.Lists.{all}
 use Rattle.task.specs.TaskRows.{taskRows}
 use Rattle.task.specs.File
-use Rattle.task.specs.File.{paired, rows, sizes, sizesOf, taskOf, fileOfRows}
+use Rattle.task.specs.File.{paired, rows, sizes, sizesOf, taskOf, fileOfRows, withRows}
 use Rattle.task.specs.Check
 use Rattle.task.specs.Check.{check}
 use Rattle.task.specs.Answers.{answer as checked, asSizes, refusalIn}
@@ -24,17 +24,15 @@ use Rattle.task.specs.declared.Checked.the-variants.{Accepted, Refused}
 use Rattle.task.specs.Rows.{Rows}
 use Rattle.task.proofs.Bytes.{file-length}
 use Rattle.task.proofs.Spelled.{Spelling, accepted-spelling}
-use Rattle.task.proofs.Checking.{within as limits}
-use Rattle.task.proofs.Answered.{parts-spell}
+use Rattle.task.proofs.Answered.{parts-spell, Limited, limited}
 use Rattle.outcome.specs.Outcome.{written, refused, areaAfter}
 use Rattle.outcome.specs.Answers.{answer}
 use Rattle.outcome.specs.declared.Outcome.{Outcome}
 use Rattle.outcome.specs.declared.Outcome.the-variants
-use Rattle.outcome.proofs.Outcomes.{not-written, same-written}
 use Rattle.layout.proofs.Parts.{marksOf, valuesOf, parts-rows}
 use Rattle.alike.specs.Alike.{Alike}
 use Rattle.alike.proofs.Verdict.{same-solves, judged-alike}
-use Rattle.singling.specs.Singled.{singled, singledFile, singledRows, singledSizes, singleEffects}
+use Rattle.singling.specs.Singled.{singled, singledFile, singledRows, singleEffects}
 use Rattle.singling.specs.Wide.{firstWide}
 use Rattle.singling.specs.Outcome.{rowsFitted, outcomeBy, outcome}
 use Rattle.singling.proofs.Spellable.{singled-sizes}
@@ -62,7 +60,7 @@ module _ (b area : List ℕ) (n : ℕ) where
       subst⁻¹ (λ (l : List ℕ). Alike (taskOf b) (taskOf l)) front (d .meaning) in
       let new : Task = taskOf (take n (singledFile b ++ drop n area)) in
       record {
-        accepting = ap check front ∙ d .accepting ∙ ap (λ (y : File.Sizes). Check.accepted (singledSizes y (singledRows b))) own;
+        accepting = ap check front ∙ d .accepting ∙ ap (λ (y : File.Sizes). Check.accepted (withRows y (singledRows b))) own;
         single = subst⁻¹ (λ (l : List ℕ). T (all singleEffects (taskOf l .actions))) front (d .single);
         meaning = alike;
         judging = λ p. judged-alike (taskOf b) new alike p;
@@ -72,17 +70,17 @@ module _ (b area : List ℕ) (n : ℕ) where
 
   by-wide : (z : File.Sizes) → check b ≡ Check.accepted z → (o : Option ℕ) → rowsFitted (singledRows b) (length area) o ≡ written n
       → Delivered b (singledFile b ++ drop n area) n
-  by-wide z e (some i) h = absurd (not-written 17 i n h)
+  by-wide z e (some i) h = absurd (true≢false (cc))
   by-wide z e none h = go (leb (singledRows b) 12000) refl (leb (8 + 5 * singledRows b) (length area)) h
     where
       go : (u : Bool) → leb (singledRows b) 12000 ≡ u → (v : Bool)
           → cond u (cond v (written (8 + 5 * singledRows b)) (refused 9 0)) (refused 8 0) ≡ written n → Delivered b (singledFile b ++ drop n area) n
-      go false p v h = absurd (not-written 8 0 n h)
-      go true p false h = absurd (not-written 9 0 n h)
-      go true p true h = of-file z e (leb-true (singledRows b) 12000 p) (sym (same-written (8 + 5 * singledRows b) n h))
+      go false p v h = absurd (true≢false (cc))
+      go true p false h = absurd (true≢false (cc))
+      go true p true h = of-file z e (leb-true (singledRows b) 12000 p) (cc)
 
   by-answer : (x : Check.Answer) → check b ≡ x → outcomeBy b (length area) x ≡ written n → Delivered b (singledFile b ++ drop n area) n
-  by-answer (Check.refused k i) e h = absurd (not-written k i n h)
+  by-answer (Check.refused k i) e h = absurd (true≢false (cc))
   by-answer (Check.accepted z) e h = by-wide z e (firstWide 0 (rows b)) h
 
   delivered : outcome b (length area) ≡ written n → Delivered b (singledFile b ++ drop n area) n
@@ -128,11 +126,8 @@ module _ (b area : List ℕ) (x : Checked) (e : checked x ≡ check b) where
     spelling : Spelling b (asSizes z)
     spelling = accepted-spelling b (asSizes z) accepted
 
-    pub exact : length b ≡ 8 + 5 * z .rows
-    exact = spelling .exact
-
-    pub within : (z .rows ≤ 12000) × (1 ≤ z .facts) × (z .facts ≤ 128) × (z .actions ≤ 128) × (z .preferences ≤ 16)
-    within = limits (asSizes z) (spelling .allowed)
+    sizes-limited : Limited b (asSizes z)
+    sizes-limited = limited b (asSizes z) accepted
 
     abbrev ms : List ℕ
     ms = marksOf b (asSizes z)
@@ -144,7 +139,7 @@ module _ (b area : List ℕ) (x : Checked) (e : checked x ≡ check b) where
     lent = parts-rows b (asSizes z) accepted
 
     pub many : length ms ≡ z .rows
-    many = simp (length-take, length-drop) (omega (arith, exact))
+    many = simp (length-take, length-drop) (omega (arith, sizes-limited .exact))
 
     -- the row that find_wide answers
     module _ (w : ℕ) (found : (us : List ℕ) (t : Task) → paired ms us ≡ taskRows t → placeAt w (length ms) ≡ firstWide 0 (taskRows t)) where
@@ -168,8 +163,8 @@ module _ (b area : List ℕ) (x : Checked) (e : checked x ≡ check b) where
               narrow = none-wide (taskOf b) .0 (ap (firstWide 0) (sym (spelling .spelled)) ∙ sym nowhere);
             }
 
-        same-sizes : singledSizes (asSizes z) (singledRows b) ≡ sizesOf (singled (taskOf b))
-        same-sizes = ap (λ (y : File.Sizes). singledSizes y (singledRows b)) (sym (spelling .sized)) ∙ sym (singled-sizes (taskOf b))
+        same-sizes : withRows (asSizes z) (singledRows b) ≡ sizesOf (singled (taskOf b))
+        same-sizes = ap (λ (y : File.Sizes). withRows y (singledRows b)) (sym (spelling .sized)) ∙ sym (singled-sizes (taskOf b))
 
         abbrev fileOfTask : Task → List ℕ
         fileOfTask t = fileOfRows (z .facts) (z .actions) (z .preferences) (taskRows (singled t))

@@ -16,7 +16,7 @@ use Rattle.task.specs.File.{paired}
 use Rattle.task.specs.Rows.{between, Stops, valueAt}
 use Rattle.task.proofs.Passing.{literal-passes}
 use Rattle.task.proofs.Positions.{drop-next, drop-after}
-use Rattle.task.proofs.Reading.{passes, row-at}
+use Rattle.task.proofs.Reading.{passes, first-at}
 use Rattle.layout.specs.Sides.{endAt}
 use Rattle.layout.proofs.Ends.{end-after}
 use Rattle.writer.specs.declared.Cursor.{Cursor}
@@ -38,10 +38,6 @@ literal-there (l ∷ k) (suc d) ys h = literal-there k d ys (omega arith)
 
 literals-pass : (k : Clause) → T (all (passes (between HOLDS LACKS)) (map literalRow k))
 literals-pass = all-map (passes (between HOLDS LACKS)) literalRow (literal-passes (passes (between HOLDS LACKS)) (λ v. tt) (λ v. tt))
-
-abbrev first-of : Row → List Row → Row
-first-of y [] = y
-first-of y (x ∷ xs) = x
 
 -- One digit
 
@@ -138,7 +134,7 @@ module _ (ms vs : List ℕ) (i to : ℕ) (p : Pick) where
       at-inside = omega (arith, digit, end-is, to-is, C .condition .inside)
 
       at-is : row (getD ms (rowOf i p end) 0) (valueAt vs (rowOf i p end)) ≡ literalRow (getD k d noLiteral)
-      at-is = ap (first-of (row 0 0)) (sym (row-at ms vs (rowOf i p end) at-inside) ∙ sym (drop-drop d (i + 1) (paired ms vs)) ∙ ap (drop d) literals-there ∙ literal-there k d ys digit)
+      at-is = first-at ms vs (rowOf i p end) at-inside (sym (drop-drop d (i + 1) (paired ms vs)) ∙ ap (drop d) literals-there ∙ literal-there k d ys digit)
 
       turned : Turn ms vs i to (k ∷ c) (p .number) end (digitOf p (end - i - 1))
       turned =

@@ -3,6 +3,7 @@ use mathlib.Core.Path.{_≡_, refl, sym, ap, ap₂, _∙_, subst, subst⁻¹}
 use mathlib.Core.Bool.{Bool, true, false}
 use mathlib.Core.List.{List, [], _∷_, _++_, map, append-assoc, append-nil}
 use lib.Dec.{T}
+use Rattle.layout.proofs.ActionRows.{opened}
 use Rattle.lists.specs.Lists.{all, concatMap}
 use Rattle.task.specs.Marks.{ACTION, EFFECT, CLAUSE, DELETE, GOAL, START}
 use Rattle.meaning.specs.Task.{Effect, Action, Preference, Task}
@@ -50,12 +51,9 @@ narrowPiece (effect e) = isNarrow e
 abbrev actionPieces : Action → List Piece
 actionPieces a = map plain (row ACTION (a .cost) ∷ conditionRows (a .precondition)) ++ map effect (a .effects)
 
-abbrev frontRows : Task → List Row
-frontRows t = map (row START) (t .start) ++ (row GOAL 0 ∷ conditionRows (t .goal))
-
 abbrev pub taskPieces : Task → List Piece
 taskPieces t =
-    map plain (frontRows t) ++ (concatMap actionPieces (t .actions) ++ map plain (concatMap preferenceRows (t .preferences)))
+    map plain (opened t) ++ (concatMap actionPieces (t .actions) ++ map plain (concatMap preferenceRows (t .preferences)))
 
 module _ (f : Effect → List Row) where
   plain-rows : (xs : List Row) → concatMap (rowsBy f) (map plain xs) ≡ xs
@@ -75,17 +73,17 @@ module _ (f : Effect → List Row) where
   actions-rows (a ∷ l) = concat-append (rowsBy f) (actionPieces a) (concatMap actionPieces l) ∙ ap₂ _++_ (action-rows a) (actions-rows l)
 
   task-by : (t : Task) → concatMap (rowsBy f) (taskPieces t)
-      ≡ frontRows t ++ (concatMap actionBy (t .actions) ++ concatMap preferenceRows (t .preferences))
+      ≡ opened t ++ (concatMap actionBy (t .actions) ++ concatMap preferenceRows (t .preferences))
   task-by t =
       let prefs : List Row = concatMap preferenceRows (t .preferences) in
-      concat-append (rowsBy f) (map plain (frontRows t)) (concatMap actionPieces (t .actions) ++ map plain prefs)
-      ∙ ap₂ _++_ (plain-rows (frontRows t))
+      concat-append (rowsBy f) (map plain (opened t)) (concatMap actionPieces (t .actions) ++ map plain prefs)
+      ∙ ap₂ _++_ (plain-rows (opened t))
       (concat-append (rowsBy f) (concatMap actionPieces (t .actions)) (map plain prefs) ∙ ap₂ _++_ (actions-rows (t .actions)) (plain-rows prefs))
 
 pub task-pieces : (t : Task) → rowsOf (taskPieces t) ≡ taskRows t
 task-pieces t =
     task-by effectRows t
-    ∙ sym (append-assoc (frontRows t) (concatMap actionRows (t .actions)) (concatMap preferenceRows (t .preferences)))
+    ∙ sym (append-assoc (opened t) (concatMap actionRows (t .actions)) (concatMap preferenceRows (t .preferences)))
 
 -- the new task's
 new-effects : (es : List Effect) → concatMap effectRows (concatMap singledEffect es) ≡ concatMap newEffects es
@@ -102,8 +100,8 @@ pub new-pieces : (t : Task) → newRowsOf (taskPieces t) ≡ taskRows (singled t
 unfolding singled
 new-pieces t =
     task-by newEffects t
-    ∙ sym (ap (λ (xs : List Row). frontRows t ++ xs ++ concatMap preferenceRows (t .preferences)) (new-actions (t .actions))
-    ∙ append-assoc (frontRows t) (concatMap (actionBy newEffects) (t .actions)) (concatMap preferenceRows (t .preferences)))
+    ∙ sym (ap (λ (xs : List Row). opened t ++ xs ++ concatMap preferenceRows (t .preferences)) (new-actions (t .actions))
+    ∙ append-assoc (opened t) (concatMap (actionBy newEffects) (t .actions)) (concatMap preferenceRows (t .preferences)))
 
 -- They are sound
 
@@ -142,7 +140,7 @@ task-sound t =
     let prefs : List Row = concatMap preferenceRows (t .preferences) in
     let last : Sound (map plain prefs) =
     subst Sound (append-nil (map plain prefs)) (plain-sound prefs [] (preferences-effectless (t .preferences)) tt) in
-    plain-sound (frontRows t) (concatMap actionPieces (t .actions) ++ map plain prefs)
+    plain-sound (opened t) (concatMap actionPieces (t .actions) ++ map plain prefs)
     (all-both (without (hasMark EFFECT)) (map (row START) (t .start)) (row GOAL 0 ∷ conditionRows (t .goal))
     (all-map (without (hasMark EFFECT)) (row START) (λ v. tt) (t .start)) (condition-effectless (t .goal)))
     (actions-sound (t .actions) (map plain prefs) last (preferences-apart (t .preferences)) .0)
@@ -161,6 +159,6 @@ action-narrow a h =
 pub task-narrow : (t : Task) → T (allNarrow t) → T (all narrowPiece (taskPieces t))
 task-narrow t h =
     let prefs : List Row = concatMap preferenceRows (t .preferences) in
-    all-both narrowPiece (map plain (frontRows t)) (concatMap actionPieces (t .actions) ++ map plain prefs) (plain-narrow (frontRows t))
+    all-both narrowPiece (map plain (opened t)) (concatMap actionPieces (t .actions) ++ map plain prefs) (plain-narrow (opened t))
     (all-both narrowPiece (concatMap actionPieces (t .actions)) (map plain prefs)
     (all-joined narrowPiece (λ (a : Action). all isNarrow (a .effects)) actionPieces action-narrow (t .actions) h) (plain-narrow prefs))

@@ -140,8 +140,16 @@ module _ (b : List ℕ) (c : Cursor) (t : Task) (ms vs : List ℕ) (from i : ℕ
               let left : drop (r .changes .to) (paired ms vs) ≡ rowsOf qs = left-found ms vs i e (rowsOf qs) here (s .0) r f in
               let end : r .changes .to ≡ i + length (effectRows e) =
               omega (
-                arith, ap length here, ap length left, length-append (effectRows e) (rowsOf qs), length-drop i (paired ms vs),
-                length-drop (r .changes .to) (paired ms vs), length-paired ms vs, ord .opened, ord .whole, ord .inside,
+                arith,
+                ap length here,
+                ap length left,
+                length-append (effectRows e) (rowsOf qs),
+                length-drop i (paired ms vs),
+                length-drop (r .changes .to) (paired ms vs),
+                length-paired ms vs,
+                ord .opened,
+                ord .whole,
+                ord .inside,
               ) in
               let stays : newEffects e ≡ effectRows e =
               ap (concatMap effectRows) (effect-stays e (sym (E .choices) ∙ one)) ∙ append-nil (effectRows e) in

@@ -13,7 +13,7 @@ use Rattle.task.specs.Limits.{MAX-ROWS}
 use Rattle.layout.specs.Sides.{endAt, part}
 use Rattle.layout.specs.declared.sides.Span.{Span}
 use Rattle.singling.specs.Singled.{choiceCount, chosen}
-use Rattle.singling.specs.Wide.{mostChoices}
+use Rattle.task.specs.Limits.{MAX-CHOICES}
 use Rattle.singling.specs.ByNumber.{choiceAt}
 use Rattle.single_effects.specs.Shapes.{InOrder}
 use Rattle.single_effects.specs.declared.shapes.Shape.{Shape}
@@ -62,7 +62,7 @@ pub record EffectAt (ms vs : List ℕ) (at : ℕ) (s : Shape) (e : Effect) : Typ
   pub order : InOrder ms at s
   pub choices : s .choices ≡ choiceCount (e .condition)
   pub clauses : s .clauses ≡ length (e .condition)
-  pub few : s .choices ≤ mostChoices
+  pub few : s .choices ≤ MAX-CHOICES
 
 -- the effect of choice j
 abbrev pub pickedEffect : Effect → ℕ → List Row

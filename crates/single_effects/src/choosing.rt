@@ -6,7 +6,7 @@ ghost use Rattle.lists.specs.Lists.{concatMap};
 ghost use Rattle.meaning.specs.Task.{Condition, Effect};
 ghost use Rattle.task.specs.TaskRows.{effectRows};
 ghost use Rattle.task.specs.Limits.{MAX-ROWS};
-ghost use Rattle.task.specs.Rows.{Rows};
+ghost use Rattle.task.specs.Rows.{Rows, MarksTo};
 ghost use Rattle.task.specs.Marks.{HOLDS, LACKS};
 ghost use Rattle.layout.specs.Sides.{endAt};
 ghost use Rattle.writer.specs.Writer.{Room, Wrote};
@@ -54,7 +54,7 @@ fn take_digit(p: Pick, literals: usize) -> Digit
 
 // The longest clause of a condition, so that its end is not sought for each choice; the row after the last where there are no choices.
 fn find_longest(marks: &[u8], s: Span, choices: usize) -> Span
-    requires { ⌜ (s .to ≤ length (now marks)) × (length (now marks) ≤ MAX-ROWS) ⌝ }
+    requires { ⌜ MarksTo (s .to) (now marks) ⌝ }
     ensures { λ r. ⌜ Known (now (marks .entry)) r ⌝ }
 {
     let to = s.to;

@@ -14,9 +14,7 @@ ghost use Rattle.singling.specs.Outcome.{outcome};
 ghost use Rattle.single_effects.specs.Claim.{Delivered};
 use outcome::Outcome;
 use task::Checked;
-
-// An effect has too many choices.
-pub const CHOICES: u8 = 17;
+use task::refused;
 
 // Rewrites the effects of the task in a file into the area: one effect for each choice of a literal from every clause.
 pub fn single(file: &[u8], out: &mut [u8]) -> Outcome
@@ -33,7 +31,7 @@ pub fn single(file: &[u8], out: &mut [u8]) -> Outcome
     let middle = 8 + z.rows;
     let found = wide::find_wide(&file[8..middle]);
     if found.wide < z.rows {
-        return outcome::refuse(CHOICES, found.wide as u16);
+        return outcome::refuse(refused::CHOICES, found.wide as u16);
     }
     let facts = z.facts as u32;
     let actions = z.actions as u32;

@@ -1,20 +1,21 @@
 // The parts of an effect among the rows, and the number of its choices.
 ghost use mathlib.Core.Path.{_≡_};
 ghost use mathlib.Core.List.{List};
-ghost use Prim.Native.Nat.{ℕ, _≤_, _<_};
+ghost use Prim.Native.Nat.{ℕ, _≤_, _<_, _+_};
 ghost use lib.ListN.{length};
 ghost use Rattle.task.specs.TaskRows.{row};
 ghost use Rattle.task.specs.Limits.{MAX-ROWS};
-ghost use Rattle.task.specs.Rows.{between};
+ghost use Rattle.task.specs.Rows.{between, MarksTo};
 ghost use Rattle.task.specs.Marks.{CLAUSE, LACKS};
 ghost use Rattle.singling.specs.Capped.{capped};
 ghost use Rattle.single_effects.specs.Shapes.{Few, tallied, counted, countedAt, shapeAt, InOrder};
 use layout::sides;
 use layout::sides::Span;
+use task::limits;
 use task::marks;
 
 // One choice more than an effect may have: a count that has come this far stays.
-pub const TOO_MANY: usize = 65;
+pub const OVERWIDE: usize = limits::MAX_CHOICES + 1;
 
 // The rows of a condition so far: the choices of the clauses before the last one, the literals of the last one, and how many clauses there are.
 pub struct Tally {
@@ -40,7 +41,7 @@ pub struct Shape {
 fn cap(n: usize) -> usize
     ensures { λ r. ⌜ r ≡ capped n ⌝ }
 {
-    if n < TOO_MANY { n } else { TOO_MANY }
+    if n < OVERWIDE { n } else { OVERWIDE }
 }
 
 fn in_condition(mark: u8) -> bool
@@ -86,7 +87,7 @@ fn finish(t: Tally, i: usize) -> Counted
 
 // Counts the choices of the condition that begins at row `from`.
 fn count_choices(marks: &[u8], from: usize) -> Counted
-    requires { ⌜ (from ≤ length (now marks)) × (length (now marks) ≤ MAX-ROWS) ⌝ }
+    requires { ⌜ MarksTo from (now marks) ⌝ }
     ensures { λ r. ⌜ (from ≤ r .next) × (r .next ≤ length (now (marks .entry))) ⌝ }
     ensures { λ r. ⌜ ((vs : List ℕ) → r ≡ countedAt (now (marks .entry)) vs from) ⌝ }
 {
@@ -109,7 +110,7 @@ fn count_choices(marks: &[u8], from: usize) -> Counted
 
 // The shape of the effect that row `at` opens.
 pub fn shape_of(marks: &[u8], at: usize) -> Shape
-    requires { ⌜ (at < length (now marks)) × (length (now marks) ≤ MAX-ROWS) ⌝ }
+    requires { ⌜ MarksTo (at + 1) (now marks) ⌝ }
     ensures { λ r. ⌜ InOrder (now (marks .entry)) at r ⌝ }
     ensures { λ r. ⌜ ((vs : List ℕ) → r ≡ shapeAt (now (marks .entry)) vs at) ⌝ }
 {

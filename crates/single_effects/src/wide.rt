@@ -8,13 +8,12 @@ ghost use Rattle.meaning.specs.Task.{Task};
 ghost use Rattle.task.specs.TaskRows.{taskRows};
 ghost use Rattle.task.specs.File.{paired};
 ghost use Rattle.task.specs.Limits.{MAX-ROWS};
+ghost use Rattle.task.specs.Rows.{MarksTo};
 ghost use Rattle.singling.specs.Wide.{firstWide};
 ghost use Rattle.single_effects.specs.Whole.{placeAt, NoEffects};
 use super::shapes;
+use task::limits;
 use task::marks;
-
-// The choices that an effect may have.
-pub const MAX_CHOICES: usize = 64;
 
 // The first EFFECT row whose effect has too many choices, or the number of rows; and the row after the last effect before it.
 pub struct Found {
@@ -24,7 +23,7 @@ pub struct Found {
 
 // Whether none of four rows from row i on opens an effect.
 fn four_others(marks: &[u8], i: usize) -> bool
-    requires { ⌜ (i + 4 ≤ length (now marks)) × (length (now marks) ≤ MAX-ROWS) ⌝ }
+    requires { ⌜ MarksTo (i + 4) (now marks) ⌝ }
     ensures { λ r. ⌜ (r ≡ true → NoEffects (now (marks .entry)) i (i + 4)) ⌝ }
 {
     (marks[i] != marks::EFFECT)
@@ -35,7 +34,7 @@ fn four_others(marks: &[u8], i: usize) -> bool
 
 // Passes rows that open no effect, eight at a time.
 fn past_others(marks: &[u8], from: usize) -> usize
-    requires { ⌜ (from ≤ length (now marks)) × (length (now marks) ≤ MAX-ROWS) ⌝ }
+    requires { ⌜ MarksTo from (now marks) ⌝ }
     ensures { λ r. ⌜ (from ≤ r) × (r ≤ length (now (marks .entry))) ⌝ }
     ensures { λ r. ⌜ NoEffects (now (marks .entry)) from r ⌝ }
 {
@@ -62,7 +61,7 @@ pub fn find_wide(marks: &[u8]) -> Found
     while i < marks.len() {
         if marks[i] == marks::EFFECT {
             let s = shapes::shape_of(marks, i);
-            if MAX_CHOICES < s.choices {
+            if limits::MAX_CHOICES < s.choices {
                 return Found { wide: i, last };
             }
             i = s.changes.to;

@@ -8,11 +8,11 @@ use lib.ListN.{length, length-map}
 use Rattle.lists.specs.Lists.{singleton, all, concatMap}
 use Rattle.meaning.specs.Task.{Literal, Effect, Action, Task, wellFormed}
 use Rattle.task.specs.TaskRows.{taskRows}
-use Rattle.task.specs.File.{sizesOf}
+use Rattle.task.specs.File.{sizesOf, withRows}
 use Rattle.task.specs.Spelling.{spellable}
 use Rattle.lists.proofs.Tests.{tests, and-both, all-map, all-concat, all-implies}
 use Rattle.task.proofs.Pieces.{literalsOk, clauseOk, conditionOk, effectOk, actionOk, taskOk, task-ok, ok-wellFormed, ok-spellable}
-use Rattle.singling.specs.Singled.{choices, chosen, singledEffect, singledAction, singled, singledSizes, isSingle, singleEffects}
+use Rattle.singling.specs.Singled.{choices, chosen, singledEffect, singledAction, singled, isSingle, singleEffects}
 use Rattle.singling.proofs.Lists.{all-mapped, all-joined}
 use Rattle.singling.proofs.Choices.{choices-pass}
 
@@ -61,7 +61,7 @@ singled-formed t w s = ok-wellFormed (singled t) (singled-ok t (task-ok t w s))
 pub singled-spellable : (t : Task) → T (wellFormed t) → T (spellable t) → T (spellable (singled t))
 singled-spellable t w s = ok-spellable (singled t) (singled-ok t (task-ok t w s))
 
-pub singled-sizes : (t : Task) → sizesOf (singled t) ≡ singledSizes (sizesOf t) (length (taskRows (singled t)))
+pub singled-sizes : (t : Task) → sizesOf (singled t) ≡ withRows (sizesOf t) (length (taskRows (singled t)))
 unfolding singled
 singled-sizes t = λ i. record {
   facts = t .facts;

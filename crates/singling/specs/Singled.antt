@@ -8,7 +8,7 @@ use lib.ListN.{length}
 use Rattle.lists.specs.Lists.{singleton, all, concatMap}
 use Rattle.meaning.specs.Task.{Literal, Clause, Condition, Effect, Action, Task}
 use Rattle.task.specs.TaskRows.{taskRows}
-use Rattle.task.specs.File.{Sizes, fileOf, taskOf}
+use Rattle.task.specs.File.{fileOf, taskOf}
 
 -- one literal from every clause
 abbrev pub choices : Condition → List (List Literal)
@@ -55,7 +55,3 @@ singledFile b = fileOf (singled (taskOf b))
 
 abbrev pub singledRows : List ℕ → ℕ
 singledRows b = length (taskRows (singled (taskOf b)))
-
--- its sizes with n rows, by the sizes of its source
-abbrev pub singledSizes : Sizes → ℕ → Sizes
-singledSizes z n = record { facts = z .facts; actions = z .actions; preferences = z .preferences; rows = n }

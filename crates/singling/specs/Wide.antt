@@ -10,14 +10,12 @@ use Rattle.lists.specs.Lists.{all, takeUntil}
 use Rattle.task.specs.Marks.{EFFECT, CLAUSE, HOLDS, LACKS}
 use Rattle.meaning.specs.Task.{Condition, Effect, Action, Task}
 use Rattle.task.specs.TaskRows.{Row, row}
+use Rattle.task.specs.Limits.{MAX-CHOICES}
 use Rattle.task.specs.File.{hasMark, conditionOf}
 use Rattle.singling.specs.Singled.{choiceCount}
 
-abbrev pub mostChoices : ℕ
-mostChoices = 64
-
 abbrev pub isWide : Condition → Bool
-isWide c = ltb mostChoices (choiceCount c)
+isWide c = ltb MAX-CHOICES (choiceCount c)
 
 abbrev pub isNarrow : Effect → Bool
 isNarrow e = not (isWide (e .condition))

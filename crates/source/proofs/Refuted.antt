@@ -1,10 +1,11 @@
 -- Wrong definitions of the way back, refuted on the belt: parts of a list that are not its source part, and 12 tried after 11.
 use mathlib.Core.Path.{_≡_, refl}
-use mathlib.Core.Bool.{Bool, true, false, not, cond}
+use mathlib.Core.Bool.{not, cond}
 use mathlib.Core.List.{List, [], _∷_, _++_}
 use Prim.Native.Nat.{ℕ, _<_}
 use lib.Dec.{T, leb, ltb}
 use lib.ListN.{length}
+use Rattle.lists.proofs.Tests.{denied}
 use Rattle.lists.specs.Lists.{all, filter}
 use Rattle.task.specs.File.{Sizes}
 use Rattle.task.specs.Check.{check, checkRows}
@@ -14,7 +15,7 @@ use Rattle.meaning.specs.Task.{Task}
 use Rattle.meaning.specs.Meaning.{solves}
 use Rattle.meaning.proofs.DocumentExamples.{beltTask}
 use Rattle.classical.specs.Claim.{sourcePart, Faithful}
-use Rattle.classical.specs.Translation.{translated}
+use Rattle.classical.specs.Translation.{translated, translatedActions}
 use Rattle.classical.proofs.Faithful.{faithful}
 use Rattle.outcome.specs.Outcome.{Outcome, refused}
 use Rattle.text.specs.Ascii.{ascii}
@@ -26,7 +27,7 @@ use Rattle.plan_text.specs.Outcomes.{readOutcome}
 use Rattle.translation.specs.Translated
 use Rattle.translation.specs.Measured
 use Rattle.translation.specs.Measured.{Measured, within, measured}
-use Rattle.source.specs.Source.{below, translatedActions, outcome}
+use Rattle.source.specs.Source.{below, outcome}
 
 -- What the whole way claims of a part of the list, taken with the source's A: it solves, where the list solves a faithful translation
 
@@ -36,13 +37,9 @@ pub record Solving (part : ℕ → List ℕ → List ℕ) : Type 0 where
 pub right : Solving below
 right = record { way = λ s c f x h. f .onto (sourcePart s x) .0 (x, h, refl) }
 
-not-both : (b : Bool) → T (not b) → T b → ⊥
-not-both true n t = n
-not-both false n t = t
-
 -- a list that solves the belt's translation, and whose part does not solve
 wrong-part : (part : ℕ → List ℕ → List ℕ) (x : List ℕ) → T (solves (translated beltTask) x) → T (not (solves beltTask (part 2 x))) → Solving part → ⊥
-wrong-part part x h n s = not-both (solves beltTask (part 2 x)) n (s .way beltTask (translated beltTask) (faithful beltTask tt) x h)
+wrong-part part x h n s = denied (solves beltTask (part 2 x)) n (s .way beltTask (translated beltTask) (faithful beltTask tt) x h)
 
 -- The number of end is kept. There 2 is end, 4 forgoes preference 0, 5 collects 1; the part is 0 2
 

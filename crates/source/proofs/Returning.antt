@@ -1,6 +1,6 @@
 -- The whole way of a text, from faithfulness: what the planner paid for a list is the metric of its source part.
 use mathlib.Core.Path.{_≡_, refl, sym, ap, _∙_, subst}
-use mathlib.Core.Bool.{Bool, true, false, cond}
+use mathlib.Core.Bool.{Bool, true, false, cond, true≢false}
 use mathlib.Core.List.{List, [], _∷_}
 use Prim.Native.Nat.{ℕ, suc, _+_, _*_, _≤_}
 use native.Mathlib.Omega.{arith}
@@ -14,7 +14,6 @@ use Rattle.task.specs.Check.{check}
 use Rattle.task.proofs.Spelled.{accepted-spelling}
 use Rattle.meaning.specs.Meaning.{solves, cost}
 use Rattle.outcome.specs.Outcome.{written, refused, areaAfter}
-use Rattle.outcome.proofs.Outcomes.{not-written, same-written}
 use Rattle.plan.specs.Judged.{stepsKnown}
 use Rattle.plan_lines.specs.PlanText.{Read, plan, faulty, readPlan}
 use Rattle.plan_text.specs.Outcomes.{steps, stepsIn}
@@ -37,17 +36,17 @@ fewer p (x ∷ xs) = go (p x) (fewer p xs)
 
 -- as many bytes are written as the part has steps
 part-size : (z : Sizes) (room n : ℕ) (r : Read) → ofText z room r ≡ written n → length (below (z .actions) (steps r)) ≡ n
-part-size z room n (faulty i) e = absurd (not-written 12 i n e)
+part-size z room n (faulty i) e = absurd (true≢false (cc))
 part-size z room n (plan p) e =
     go (leb (length p) 2048) (all (λ (k : ℕ). ltb k (z .actions + 2 * z .preferences + 1)) p) (leb (length (below (z .actions) p)) room) e
   where
     go : (x y w : Bool)
         → cond x (cond y (cond w (written (length (below (z .actions) p))) (refused 9 0)) (refused 11 (stepsKnown (z .actions + 2 * z .preferences + 1) p))) (refused 10 0) ≡ written n
         → length (below (z .actions) p) ≡ n
-    go true true true e = same-written (length (below (z .actions) p)) n e
-    go true true false e = absurd (not-written 9 0 n e)
-    go true false w e = absurd (not-written 11 (stepsKnown (z .actions + 2 * z .preferences + 1) p) n e)
-    go false y w e = absurd (not-written 10 0 n e)
+    go true true true e = cc
+    go true true false e = absurd (true≢false (cc))
+    go true false w e = absurd (true≢false (cc))
+    go false y w e = absurd (true≢false (cc))
 
 pub turned-away : (b t : List ℕ) (room n i : ℕ) → measured b ≡ Measured.refused n i → outcome b t room ≡ refused n i
 unfolding outcome

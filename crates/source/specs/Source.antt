@@ -1,9 +1,10 @@
 -- What is answered for a planner's text on the translation of a task: the source part of its steps.
 use mathlib.Core.Bool.{cond}
 use mathlib.Core.List.{List}
-use Prim.Native.Nat.{ℕ, _+_, _*_}
+use Prim.Native.Nat.{ℕ}
 use lib.Dec.{T, leb, ltb}
 use lib.ListN.{length, take}
+use Rattle.classical.specs.Translation.{translatedActions}
 use Rattle.lists.specs.Lists.{all, filter}
 use Rattle.task.specs.File.{Sizes, sizes, taskOf}
 use Rattle.task.specs.Limits.{MAX-STEPS}
@@ -21,10 +22,6 @@ use Rattle.paid.specs.CostIsMetric.{SettledAt}
 -- the steps below A, in their order
 abbrev pub below : ℕ → List ℕ → List ℕ
 below A = filter (λ (k : ℕ). ltb k A)
-
--- the actions of the translation of a task of these sizes
-abbrev pub translatedActions : Sizes → ℕ
-translatedActions z = z .actions + 2 * z .preferences + 1
 
 -- Refusals: those of translating but 9, then 12, 10, 11 over the translated actions, and 9
 

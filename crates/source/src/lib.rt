@@ -5,6 +5,7 @@ ghost use mathlib.Core.Path.{_≡_};
 ghost use Prim.Native.Nat.{ℕ, _+_, _*_, _≤_};
 ghost use lib.ListN.{length};
 ghost use Rattle.task.specs.Answers.{asSizes};
+ghost use Rattle.task.specs.Limits.{MAX-ACTIONS, MAX-STEPS};
 ghost use Rattle.outcome.specs.Outcome.{written, areaAfter};
 ghost use Rattle.outcome.specs.Answers.{answer};
 ghost use Rattle.plan_lines.specs.PlanText.{readPlan};
@@ -12,13 +13,14 @@ ghost use Rattle.plan_text.specs.Outcomes.{stepsIn};
 ghost use Rattle.source.specs.Source.{below, ofKnown, ofText, outcome, partIn, Returned};
 use outcome::Outcome;
 use task::Sizes;
+use task::limits;
 use task::refused;
 use translation::measures;
 use translation::measures::Measured;
 
 // Writes the source steps of a list of translated actions at the start of the area.
 fn put_known(z: Sizes, steps: &[u8], out: &mut [u8]) -> Outcome
-    requires { ⌜ (length (now steps) ≤ 2048) × (z .actions + 2 * z .preferences + 1 ≤ 128) ⌝ }
+    requires { ⌜ (length (now steps) ≤ MAX-STEPS) × (z .actions + 2 * z .preferences + 1 ≤ MAX-ACTIONS) ⌝ }
     ensures { λ r. ⌜ answer r ≡ ofKnown (asSizes z) (length (now (out .entry))) (now (steps .entry)) ⌝ }
     ensures { λ r.
         let answered = ofKnown (asSizes z) (length (now (out .entry))) (now (steps .entry)) in
@@ -40,13 +42,13 @@ fn put_known(z: Sizes, steps: &[u8], out: &mut [u8]) -> Outcome
 
 // Reads a planner's text, and writes the source steps in it at the start of the area.
 fn put_text(z: Sizes, text: &[u8], out: &mut [u8]) -> Outcome
-    requires { ⌜ z .actions + 2 * z .preferences + 1 ≤ 128 ⌝ }
+    requires { ⌜ z .actions + 2 * z .preferences + 1 ≤ MAX-ACTIONS ⌝ }
     ensures { λ r. ⌜ answer r ≡ ofText (asSizes z) (length (now (out .entry))) (readPlan (now (text .entry))) ⌝ }
     ensures { λ r.
         let answered = ofText (asSizes z) (length (now (out .entry))) (readPlan (now (text .entry))) in
         ⌜ now (out .exit) ≡ areaAfter (below (z .actions) (stepsIn (now (text .entry)))) (now (out .entry)) answered ⌝ }
 {
-    let mut steps: [u8; 2048] = [0; 2048];
+    let mut steps: [u8; limits::MAX_STEPS] = [0; limits::MAX_STEPS];
     let l = plan_text::read(text, &mut steps);
     match l {
         Outcome::Written(n) => put_known(z, text::front(&steps, n), &mut *out),

@@ -3,6 +3,7 @@
 ghost use mathlib.Core.List.{[], _∷_};
 ghost use Prim.Native.Nat.{_+_, _^_, _<_, _≤_};
 ghost use lib.ListN.{length};
+ghost use Rattle.task.specs.Limits.{MAX-STEPS};
 ghost use Rattle.text.specs.Area.{Wrote, Filled};
 ghost use Rattle.source.specs.Source.{below};
 
@@ -20,7 +21,7 @@ fn put_below(out: &mut [u8], at: usize, actions: usize, step: u8) -> usize
 
 // Writes the source steps of a list.
 pub fn put_source(steps: &[u8], actions: usize, out: &mut [u8]) -> usize
-    requires { ⌜ length (now steps) ≤ 2048 ⌝ }
+    requires { ⌜ length (now steps) ≤ MAX-STEPS ⌝ }
     ensures { λ r. ⌜ Filled (now (out .entry)) (below actions (now (steps .entry))) r (now (out .exit)) ⌝ }
 {
     let mut k = 0;

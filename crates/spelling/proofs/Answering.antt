@@ -1,12 +1,12 @@
 -- A task file spelled, from what check answers.
 use mathlib.Core.Path.{_≡_, refl, sym, ap, _∙_, subst}
 use mathlib.Core.List.{List}
-use Prim.Native.Nat.{ℕ, _+_, _*_, _-_, _≤_}
+use Prim.Native.Nat.{ℕ, _+_, _-_, _≤_}
 use native.Mathlib.Omega.{arith}
 use lib.ListN.{length, take, drop}
 use Rattle.task.specs.TaskRows.{Row, taskRows}
 use Rattle.task.specs.File
-use Rattle.task.specs.File.{paired, sizesOf, taskOf, fileOfRows}
+use Rattle.task.specs.File.{paired, sizesOf, taskOf, fileOfRows, withRows}
 use Rattle.task.specs.Check
 use Rattle.task.specs.Check.{check}
 use Rattle.task.specs.Answers.{answer as checked, asSizes, refusalIn}
@@ -16,14 +16,13 @@ use Rattle.task.specs.declared.Checked.{Checked}
 use Rattle.task.specs.declared.Checked.the-variants.{Accepted, Refused}
 use Rattle.task.proofs.Bytes.{file-length}
 use Rattle.task.proofs.Spelled.{Spelling, accepted-spelling}
-use Rattle.task.proofs.Checking.{within as limits}
-use Rattle.task.proofs.Answered.{passed-on, parts-spell}
+use Rattle.task.proofs.Answered.{passed-on, parts-spell, Limited, limited}
 use Rattle.outcome.specs.Outcome.{fitted, areaAfter}
 use Rattle.outcome.specs.Answers.{answer}
 use Rattle.outcome.specs.declared.Outcome
 use Rattle.outcome.specs.declared.Outcome.the-variants
 use Rattle.outcome.proofs.Outcomes.{turned-down as left-alone}
-use Rattle.canonical.specs.Canonical.{canonical, respelled, respelledRows, respelledSizes}
+use Rattle.canonical.specs.Canonical.{canonical, respelled, respelledRows}
 use Rattle.canonical.proofs.Respelled.{canonical-sizes, respelled-file}
 use Rattle.spelling.specs.Spelled.{spelledRows}
 use Rattle.spelling.specs.Outcome.{outcomeBy, outcome, Fitted}
@@ -47,11 +46,8 @@ module _ (b area : List ℕ) (x : Checked) (e : checked x ≡ check b) where
     spelling : Spelling b (asSizes z)
     spelling = accepted-spelling b (asSizes z) accepted
 
-    pub exact : length b ≡ 8 + 5 * z .rows
-    exact = spelling .exact
-
-    pub within : (z .rows ≤ 12000) × (1 ≤ z .facts) × (z .facts ≤ 128) × (z .actions ≤ 128) × (z .preferences ≤ 16)
-    within = limits (asSizes z) (spelling .allowed)
+    sizes-limited : Limited b (asSizes z)
+    sizes-limited = limited b (asSizes z) accepted
 
     -- the rows, as they are lent on
     abbrev rows : List Row
@@ -61,7 +57,7 @@ module _ (b area : List ℕ) (x : Checked) (e : checked x ≡ check b) where
     sized = sym (spelling .sized)
 
     few-facts : taskOf b .facts ≤ 128
-    few-facts = omega (arith, within .2, ap (λ (y : File.Sizes). y .facts) sized)
+    few-facts = omega (arith, sizes-limited .few-facts, ap (λ (y : File.Sizes). y .facts) sized)
 
     rows-are : spelledRows rows ≡ taskRows (canonical (taskOf b))
     rows-are = ap spelledRows (parts-spell b (asSizes z) accepted) ∙ task-spelled (taskOf b) (spelling .formed) few-facts
@@ -69,8 +65,8 @@ module _ (b area : List ℕ) (x : Checked) (e : checked x ≡ check b) where
     pub fewer : length (spelledRows rows) ≤ z .rows
     fewer = omega (arith, ap length rows-are, respelled-file b (asSizes z) accepted .fewer)
 
-    same-sizes : respelledSizes (asSizes z) (respelledRows b) ≡ sizesOf (canonical (taskOf b))
-    same-sizes = ap (λ (y : File.Sizes). respelledSizes y (respelledRows b)) sized ∙ sym (canonical-sizes (taskOf b))
+    same-sizes : withRows (asSizes z) (respelledRows b) ≡ sizesOf (canonical (taskOf b))
+    same-sizes = ap (λ (y : File.Sizes). withRows y (respelledRows b)) sized ∙ sym (canonical-sizes (taskOf b))
 
     file-is : fileOfRows (z .facts) (z .actions) (z .preferences) (spelledRows rows) ≡ respelled b
     file-is = λ i. fileOfRows (same-sizes i .facts) (same-sizes i .actions) (same-sizes i .preferences) (rows-are i)

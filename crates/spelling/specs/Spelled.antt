@@ -28,6 +28,13 @@ spelledFrom (inside a b s) (x ∷ xs) =
 unfoldable pub spelledRows : List Row → List Row
 spelledRows = spelledFrom outside
 
+-- rows up to which a small area of our own is enough for the spelling, and a medium one
+abbrev pub SMALL : ℕ
+SMALL = 64
+
+abbrev pub MEDIUM : ℕ
+MEDIUM = 1024
+
 -- rows of a file whose spelling is no longer than they are
 pub record Shorter (ms vs : List ℕ) : Type 0 where
   pub rows : Rows ms vs

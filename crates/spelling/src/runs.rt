@@ -3,6 +3,7 @@ ghost use mathlib.Core.Path.{_≡_};
 ghost use Prim.Native.Nat.{_/_, _<_};
 ghost use lib.ListN.{length};
 ghost use Rattle.task.specs.Rows.{Rows, between};
+ghost use Rattle.task.specs.Limits.{MAX-FACTS};
 ghost use Rattle.spelling.specs.Runs.{isListed, firstMark, secondMark, slotOf, setsIn, withFact, none, ended, gatherAt, asRun};
 use state::State;
 use task::marks;
@@ -52,7 +53,7 @@ fn in_run(mark: u8, a: u8, b: u8) -> bool
 
 // The word of a fact below 128: the first set has two words, then the second has two.
 fn slot(fact: u32, in_first: bool) -> usize
-    requires { ⌜ fact < 128 ⌝ }
+    requires { ⌜ fact < MAX-FACTS ⌝ }
     ensures { λ r. ⌜ r ≡ slotOf in_first (fact / 64) ⌝ }
 {
     let q = (fact / 64) as usize;

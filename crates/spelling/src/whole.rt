@@ -4,15 +4,21 @@ ghost use lib.ListN.{length};
 ghost use Rattle.task.specs.File.{paired, fileOfRows};
 ghost use Rattle.task.specs.Rows.{Rows};
 ghost use Rattle.writer.specs.Writer.{Room, Wrote};
-ghost use Rattle.spelling.specs.Spelled.{spelledRows, Shorter};
+ghost use Rattle.spelling.specs.Spelled.{spelledRows, Shorter, SMALL, MEDIUM};
 ghost use Rattle.spelling.specs.Outcome.{Fitted};
 use super::rising;
 use super::runs;
 use layout::sides::Span;
 use outcome::Outcome;
+use task::limits;
 use task::refused;
 use task::rows;
 use writer::Cursor;
+
+// Rows up to which a small area of our own is enough, and a medium one: an area costs what it is long.
+const SMALL: usize = 64;
+
+const MEDIUM: usize = 1024;
 
 // Writes the rows of the spelling: each run by rising fact, and every other row as it stands.
 fn put_task(out: &mut [u8], c: Cursor, marks: &[u8], values: &[u8]) -> Cursor
@@ -72,7 +78,7 @@ fn put_through(
     Outcome::Written(length)
 }
 
-// Writes the file of a spelling of at most 64 rows: a small area costs little to make.
+// Writes the file of a spelling of few rows.
 fn put_small(
     out: &mut [u8],
     marks: &[u8],
@@ -81,12 +87,12 @@ fn put_small(
     actions: u32,
     preferences: u32,
 ) -> Outcome
-    requires { ⌜ Shorter (now marks) (now values) × (length (now marks) ≤ 64) ⌝ }
+    requires { ⌜ Shorter (now marks) (now values) × (length (now marks) ≤ SMALL) ⌝ }
     ensures { λ r.
         let rows = spelledRows (paired (now (marks .entry)) (now (values .entry))) in
         ⌜ Fitted (fileOfRows facts actions preferences rows) (now (out .entry)) r (now (out .exit)) ⌝ }
 {
-    let mut own: [u8; 328] = [0; 328];
+    let mut own: [u8; 8 + 5 * SMALL] = [0; 8 + 5 * SMALL];
     put_through(
         &mut own,
         &mut *out,
@@ -98,7 +104,7 @@ fn put_small(
     )
 }
 
-// Writes the file of a spelling of at most 1,024 rows.
+// Writes the file of a spelling of some more.
 fn put_medium(
     out: &mut [u8],
     marks: &[u8],
@@ -107,12 +113,12 @@ fn put_medium(
     actions: u32,
     preferences: u32,
 ) -> Outcome
-    requires { ⌜ Shorter (now marks) (now values) × (length (now marks) ≤ 1024) ⌝ }
+    requires { ⌜ Shorter (now marks) (now values) × (length (now marks) ≤ MEDIUM) ⌝ }
     ensures { λ r.
         let rows = spelledRows (paired (now (marks .entry)) (now (values .entry))) in
         ⌜ Fitted (fileOfRows facts actions preferences rows) (now (out .entry)) r (now (out .exit)) ⌝ }
 {
-    let mut own: [u8; 5128] = [0; 5128];
+    let mut own: [u8; 8 + 5 * MEDIUM] = [0; 8 + 5 * MEDIUM];
     put_through(
         &mut own,
         &mut *out,
@@ -138,7 +144,7 @@ fn put_large(
         let rows = spelledRows (paired (now (marks .entry)) (now (values .entry))) in
         ⌜ Fitted (fileOfRows facts actions preferences rows) (now (out .entry)) r (now (out .exit)) ⌝ }
 {
-    let mut own: [u8; 60008] = [0; 60008];
+    let mut own: [u8; limits::MAX_FILE] = [0; limits::MAX_FILE];
     put_through(
         &mut own,
         &mut *out,
@@ -164,10 +170,10 @@ pub fn put_file(
         let rows = spelledRows (paired (now (marks .entry)) (now (values .entry))) in
         ⌜ Fitted (fileOfRows facts actions preferences rows) (now (out .entry)) r (now (out .exit)) ⌝ }
 {
-    if marks.len() <= 64 {
+    if marks.len() <= SMALL {
         return put_small(&mut *out, marks, values, facts, actions, preferences);
     }
-    if marks.len() <= 1024 {
+    if marks.len() <= MEDIUM {
         return put_medium(&mut *out, marks, values, facts, actions, preferences);
     }
     put_large(&mut *out, marks, values, facts, actions, preferences)

@@ -1,14 +1,18 @@
--- Costs and soft weights: no number of 32 bits is refused, and what a lower limit on them accepts is accepted with the same sizes.
-use mathlib.Core.Path.{_≡_, refl, sym, ap, ap₂}
-use mathlib.Core.Bool.{Bool, true, false, not, cond, _&&_, _||_}
+-- Costs and soft weights: no number of 32 bits is refused, and what a lower limit on them accepts is accepted with the same sizes; what a plan costs at most.
+use mathlib.Core.Path.{_≡_, refl, ap, ap₂}
+use mathlib.Core.Bool.{Bool, true, false, not, cond, _&&_, _||_, true≢false}
 use mathlib.Core.List.{List, [], _∷_}
 use mathlib.Core.Option.{Option, none, some}
 use Prim.Native.Nat.{ℕ, zero, suc, _+_, _*_, _≤_, _<_}
 use native.Mathlib.Nat.{zero-add}
 use native.Mathlib.Omega.{arith}
-use lib.Dec.{T, leb, eqb, ltb, ltb→lt, lt→ltb}
+use lib.Dec.{T, leb, leb→le, eqb, ltb, ltb→lt, lt→ltb}
 use lib.ListN.{length, take, drop, getD}
 use borrow.Author.Tests.{le-leb, leb-true}
+use Rattle.lists.specs.Lists.{all}
+use Rattle.meaning.specs.Task.{Action, Task}
+use Rattle.meaning.specs.Meaning.{noAction, actionAt, cost}
+use Rattle.task.specs.Spelling.{actionSpellable, spellable}
 use Rattle.task.specs.Marks.{ACTION}
 use Rattle.task.specs.TaskRows.{Row, row}
 use Rattle.task.specs.File.{Sizes, sizes, word32, paired, rows, hasMark, opensSoft}
@@ -17,7 +21,6 @@ use Rattle.task.specs.Check.{checkRows, sizesAllowed, check}
 use Rattle.task.specs.Limits.{MAX-AMOUNT}
 use Rattle.task.specs.Refused.{COUNTS, LENGTH, MARK, SHORT-FILE, SIZE, VALUE}
 use Rattle.lists.proofs.Tests.{tests, and-both, all-drop, not-both}
-use Rattle.task.proofs.CheckRows.{refused≢accepted}
 use Rattle.task.proofs.Bytes.{areBytes, small}
 
 -- a row whose value is a cost or a soft preference's weight
@@ -49,17 +52,6 @@ small-values (m ∷ ms) vs t =
 amount-allowed : (F floor : ℕ) (x : Row) → T (ltb (x .value) 4294967296) → isAmount x ≡ true → valueAllowed F floor x ≡ true
 amount-allowed F floor x t e = rw (e, le-leb (x .value) MAX-AMOUNT (omega (arith, ltb→lt (x .value) 4294967296 t)))
 
-abbrev numberOf : Answer → ℕ
-numberOf (accepted z) = 0
-numberOf (refused n i) = n
-
-abbrev placeOf : Answer → ℕ
-placeOf (accepted z) = 0
-placeOf (refused n i) = i
-
-same-number : (m n i j : ℕ) → refused m i ≡ refused n j → m ≡ n
-same-number m n i j e = ap numberOf e
-
 -- row j is refused by 5, the first of the rows being row i: it is no such row
 abbrev NoAmount : List Row → ℕ → ℕ → Type 0
 NoAmount xs i j = (k : ℕ) × (j ≡ i + k) × (isAmount (getD xs k (row 0 0)) ≡ false)
@@ -68,9 +60,9 @@ finish-number : (z : Sizes) (i : ℕ) (w : Progress) (j : ℕ) → finish z i w 
 finish-number z i w j e = go (mayEnd (w .context)) (eqb (w .actions) (z .actions) && eqb (w .preferences) (z .preferences)) e
   where
     go : (u v : Bool) → cond u (cond v (accepted z) (refused COUNTS i)) (refused MARK i) ≡ refused VALUE j → ⊥
-    go true true e = refused≢accepted VALUE j z (sym e)
-    go true false e = omega (arith, same-number COUNTS VALUE i j e)
-    go false v e = omega (arith, same-number MARK VALUE i j e)
+    go true true e = true≢false (cc)
+    go true false e = true≢false (cc)
+    go false v e = true≢false (cc)
 
 walk-refused : (z : Sizes) (i : ℕ) (xs : List Row) (w : Progress) → T (small xs) → (j : ℕ) → checkRows z i xs w ≡ refused VALUE j → NoAmount xs i j
 unfolding checkRows
@@ -88,11 +80,11 @@ walk-refused z i (x ∷ xs) w t j e =
     by-value : (u : Bool) → valueAllowed (z .facts) (w .floor) x ≡ u → (a : Answer) → (a ≡ refused VALUE j → NoAmount xs (i + 1) j)
         → cond u a (refused VALUE i) ≡ refused VALUE j → NoAmount (x ∷ xs) i j
     by-value true v a rest e = later (rest e)
-    by-value false v a rest e = here (isAmount x) refl v (ap placeOf e)
+    by-value false v a rest e = here (isAmount x) refl v (cc)
 
     go : (o : Option Context) → checkOn z i x w (checkRows z (i + 1) xs) o ≡ refused VALUE j
         → ((v : Progress) → checkRows z (i + 1) xs v ≡ refused VALUE j → NoAmount xs (i + 1) j) → NoAmount (x ∷ xs) i j
-    go none e rest = absurd (omega (arith, same-number MARK VALUE i j e))
+    go none e rest = absurd (true≢false (cc))
     go (some c) e rest =
         by-value (valueAllowed (z .facts) (w .floor) x) refl (checkRows z (i + 1) xs (nextProgress w c x)) (rest (nextProgress w c x)) e
 
@@ -114,9 +106,9 @@ never-an-amount b bytes i e = go (ltb (length b) 8) (sizesAllowed (sizes b)) (eq
         → cond u (refused SHORT-FILE 0) (cond (not v) (refused SIZE 0) (cond (not w) (refused LENGTH 0) (checkRows (sizes b) 0 (rows b) firstProgress)))
         ≡ refused VALUE i
         → isAmount (getD (rows b) i (row 0 0)) ≡ false
-    go true v w e = absurd (omega (arith, same-number SHORT-FILE VALUE 0 i e))
-    go false false w e = absurd (omega (arith, same-number SIZE VALUE 0 i e))
-    go false true false e = absurd (omega (arith, same-number LENGTH VALUE 0 i e))
+    go true v w e = absurd (true≢false (cc))
+    go false false w e = absurd (true≢false (cc))
+    go false true false e = absurd (true≢false (cc))
     go false true true e =
         at (walk-refused (sizes b) 0 (rows b) firstProgress (small-values ms vs (all-drop (λ (n : ℕ). ltb n 256) (8 + sizes b .rows) b bytes)) i e)
 
@@ -156,7 +148,7 @@ module _ (limit : ℕ) where
         allowed : (u : Bool) → allowedUnder (z .facts) (w .floor) x ≡ u → (a : Answer) → cond u a (refused VALUE i) ≡ accepted z′
             → (valueAllowed (z .facts) (w .floor) x ≡ true) × (a ≡ accepted z′)
         allowed true v a e = (still-allowed (x .value) (isAmount x) _ v, e)
-        allowed false v a e = absurd (refused≢accepted VALUE i z′ e)
+        allowed false v a e = absurd (true≢false (cc))
 
         go : (o : Option Context) → onUnder z i x w (rowsUnder z (i + 1) xs) o ≡ accepted z′
             → ((v : Progress) → rowsUnder z (i + 1) xs v ≡ accepted z′ → checkRows z (i + 1) xs v ≡ accepted z′)
@@ -203,3 +195,18 @@ under-greatest b =
     ap (λ (a : Answer). cond (ltb (length b) 8) (refused SHORT-FILE 0)
     (cond (not (sizesAllowed (sizes b))) (refused SIZE 0) (cond (not (eqb (length b) (8 + 5 * sizes b .rows))) (refused LENGTH 0) a)))
     (same-rows (sizes b) 0 (rows b) firstProgress)
+
+-- Costs
+
+-- of an action
+cheap : (l : List Action) → T (all actionSpellable l) → (k : ℕ) → getD l k noAction .cost ≤ MAX-AMOUNT
+cheap [] h k = omega arith
+cheap (a ∷ l) h zero = leb→le (a .cost) MAX-AMOUNT (search tests)
+cheap (a ∷ l) h (suc k) = cheap l (search tests) k
+
+-- and so of a plan
+pub cost-bound : (t : Task) → T (spellable t) → (p : List ℕ) → cost t p ≤ MAX-AMOUNT * length p
+cost-bound t s [] = omega arith
+cost-bound t s (k ∷ ks) =
+    let one : actionAt t k .cost ≤ MAX-AMOUNT = cheap (t .actions) (search tests) k in
+    omega (arith, one, cost-bound t s ks)

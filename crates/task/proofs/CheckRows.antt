@@ -1,6 +1,6 @@
 -- The row walk without its counters and places: which rows it accepts, and what it counts.
-use mathlib.Core.Path.{_≡_, refl, sym, _∙_, subst}
-use mathlib.Core.Bool.{Bool, true, false, not, cond, _&&_}
+use mathlib.Core.Path.{_≡_, refl, sym, _∙_}
+use mathlib.Core.Bool.{Bool, true, false, cond, _&&_, true≢false}
 use mathlib.Core.List.{List, [], _∷_}
 use mathlib.Core.Option.{Option, none, some}
 use Prim.Native.Nat.{ℕ, _+_}
@@ -11,7 +11,7 @@ use Rattle.task.specs.Marks.{ACTION, START}
 use Rattle.meaning.specs.Task.{Kind, always, sometime, at-end, at-most-once, sometime-before, sometime-after, within, always-within}
 use Rattle.task.specs.TaskRows.{openingMark, row, Row}
 use Rattle.task.specs.File.{Sizes, hasMark, isPreference}
-use Rattle.task.specs.Check.{Answer, accepted, refused, Context, follow, mayEnd, valueAllowed, count, Progress, nextProgress, finish, checkOn}
+use Rattle.task.specs.Check.{accepted, refused, Context, follow, mayEnd, valueAllowed, count, Progress, nextProgress, finish, checkOn}
 use Rattle.task.specs.Check.{checkRows}
 use Rattle.task.specs.Spelling.{weightAllowed}
 use Rattle.lists.proofs.Tests.{tests, as-true}
@@ -63,13 +63,6 @@ pub record Walked (z : Sizes) (w : Progress) (xs : List Row) : Type 0 where
   pub actions : w .actions + tally (hasMark ACTION) xs ≡ z .actions
   pub preferences : w .preferences + tally isPreference xs ≡ z .preferences
 
-abbrev isAccepted : Answer → Bool
-isAccepted (accepted z) = true
-isAccepted (refused m n) = false
-
-pub refused≢accepted : (m n : ℕ) (z : Sizes) → refused m n ≡ accepted z → ⊥
-refused≢accepted m n z e = subst (λ (a : Answer). T (not (isAccepted a))) e tt
-
 count-move : (b : Bool) (m n : ℕ) → count b m + n ≡ m + count b n
 count-move true m n = omega arith
 count-move false m n = refl
@@ -84,9 +77,9 @@ finish-accepted z i w z′ e =
         let a : w .actions ≡ z .actions = eqb-true (w .actions) (z .actions) q in
         let b : w .preferences ≡ z .preferences = eqb-true (w .preferences) (z .preferences) r in
         (cc, record { accepting = rw p tt; actions = omega arith; preferences = omega arith })
-    go true true false p q r h = absurd (refused≢accepted 6 i z′ h)
-    go true false c p q r h = absurd (refused≢accepted 6 i z′ h)
-    go false b c p q r h = absurd (refused≢accepted 4 i z′ h)
+    go true true false p q r h = absurd (true≢false (cc))
+    go true false c p q r h = absurd (true≢false (cc))
+    go false b c p q r h = absurd (true≢false (cc))
 
 pub walk-accepted : (z : Sizes) (i : ℕ) (xs : List Row) (w : Progress) (z′ : Sizes) → checkRows z i xs w ≡ accepted z′
     → (z′ ≡ z) × Walked z w xs
@@ -109,11 +102,11 @@ walk-accepted z i (x ∷ xs) w z′ e =
             preferences = sym (count-move (isPreference x) (w .preferences) (tally isPreference xs)) ∙ r .1 .preferences;
           },
         )
-    passed c p false q h rest = absurd (refused≢accepted 5 i z′ h)
+    passed c p false q h rest = absurd (true≢false (cc))
 
     go : (o : Option Context) → follow (w .context) (x .mark) ≡ o → checkOn z i x w (checkRows z (i + 1) xs) o ≡ accepted z′
         → Rest → (z′ ≡ z) × Walked z w (x ∷ xs)
-    go none p h rest = absurd (refused≢accepted 4 i z′ h)
+    go none p h rest = absurd (true≢false (cc))
     go (some c) p h rest = passed c p (valueAllowed (z .facts) (w .floor) x) refl h rest
 
 pub walked-accepted : (z : Sizes) (i : ℕ) (xs : List Row) (w : Progress) → Walked z w xs → checkRows z i xs w ≡ accepted z

@@ -25,10 +25,10 @@ pub drop-after : {A : Type 0} (i : ℕ) (l xs ys : List A) → drop i l ≡ xs +
 drop-after i l xs ys e = sym (drop-drop (length xs) i l) ∙ ap (drop (length xs)) e ∙ drop-at xs ys (length xs) refl
 
 -- the rows after n others are ys
-abbrev pub Behind : List Row → ℕ → List Row → Type 0
-Behind rows n ys = (xs : List Row) × (rows ≡ xs ++ ys) × (length xs ≡ n)
+abbrev pub StandsAfter : List Row → ℕ → List Row → Type 0
+StandsAfter rows n ys = (xs : List Row) × (rows ≡ xs ++ ys) × (length xs ≡ n)
 
-pub after-drop : (rows : List Row) (n : ℕ) (ys : List Row) → Behind rows n ys → drop n rows ≡ ys
+pub after-drop : (rows : List Row) (n : ℕ) (ys : List Row) → StandsAfter rows n ys → drop n rows ≡ ys
 after-drop rows n ys (xs, e, l) = ap (drop n) e ∙ drop-at xs ys n l
 
 -- What may stand after a condition, and after effects
@@ -57,7 +57,7 @@ effects-stop p e (f ∷ es) xs s = e
 
 -- START rows, then GOAL
 
-pub starts-after : (t : Task) → Behind (taskRows t) (length (t .start)) (fromGoal t)
+pub starts-after : (t : Task) → StandsAfter (taskRows t) (length (t .start)) (fromGoal t)
 starts-after t = (map (row START) (t .start), task-grouped t, length-map (t .start) (row START))
 
 pub goal-after : (t : Task) → drop (length (t .start) + 1) (taskRows t) ≡ conditionRows (t .goal) ++ tailRows (t .actions) (t .preferences)

@@ -45,20 +45,20 @@ module _ (F : ℕ) where
   Holding = Then conditionRows (conditionOk F)
 
   -- the rest of a place after its condition
-  abbrev pub Behind : Place → List Row → Type 0
-  Behind goal = Actions
-  Behind precondition = Effects
-  Behind effect = Adds
-  Behind last-side = Preferences
-  Behind first-side = λ (xs : List Row). (rest : List Row) × (xs ≡ row SECOND 0 ∷ rest) × Holding Preferences rest
+  abbrev pub RestAfter : Place → List Row → Type 0
+  RestAfter goal = Actions
+  RestAfter precondition = Effects
+  RestAfter effect = Adds
+  RestAfter last-side = Preferences
+  RestAfter first-side = λ (xs : List Row). (rest : List Row) × (xs ≡ row SECOND 0 ∷ rest) × Holding Preferences rest
 
   -- the rest of a clause, of no literal or more, and what is after it
   abbrev pub Literals : Place → List Row → Type 0
-  Literals p = Then (map literalRow) (literalsOk F) (Holding (Behind p))
+  Literals p = Then (map literalRow) (literalsOk F) (Holding (RestAfter p))
 
   -- a clause's literals, one or more, and what is after them
   abbrev pub WholeClause : Place → List Row → Type 0
-  WholeClause p = Then (map literalRow) (clauseOk F) (Holding (Behind p))
+  WholeClause p = Then (map literalRow) (clauseOk F) (Holding (RestAfter p))
 
   -- GOAL, its condition, and the rest of the task
   abbrev pub Goal : List Row → Type 0
@@ -66,12 +66,12 @@ module _ (F : ℕ) where
 
   -- STEPS, and what is after it
   abbrev pub Timed : Place → List Row → Type 0
-  Timed p xs = (t : ℕ) × (rest : List Row) × (xs ≡ row STEPS t ∷ rest) × T (leb t MAX-DEADLINE) × Holding (Behind p) rest
+  Timed p xs = (t : ℕ) × (rest : List Row) × (xs ≡ row STEPS t ∷ rest) × T (leb t MAX-DEADLINE) × Holding (RestAfter p) rest
 
   -- what rows spell that are accepted in a context
   abbrev pub Spelled : Context → ℕ → List Row → Type 0
   Spelled opening floor = Then (map (row START)) (startOk F floor) Goal
-  Spelled (open-condition p) floor = Holding (Behind p)
+  Spelled (open-condition p) floor = Holding (RestAfter p)
   Spelled (open-clause p) floor = WholeClause p
   Spelled (after-literal p) floor = Literals p
   Spelled after-add floor = Adds
@@ -174,7 +174,7 @@ module _ (F floor : ℕ) (x : Row) (xs ys : List Row) (h : Bool) (k : Kind) (e :
         qs,
       )
 
-  pub double : two-sided k ≡ true → Holding F (Behind F first-side) ys → Preferences F (x ∷ xs)
+  pub double : two-sided k ≡ true → Holding F (RestAfter F first-side) ys → Preferences F (x ∷ xs)
   double side (φ, mid, e₁, ok₁, (mid′, e₂, (ψ, rest, e₃, ok₂, qs))) =
       more preferenceRows (preferenceOk F) (λ (xs : List Row). xs ≡ []) (x ∷ xs) (
         record { kind = k; hard = h; weight = x .value; first = φ; second = ψ },

@@ -165,11 +165,11 @@ action-back a =
 
 -- Preferences
 
-abbrev headRow : Preference → Row
-headRow q = row (openingMark (q .hard) (q .kind)) (q .weight)
+abbrev pub openingRow : Preference → Row
+openingRow q = row (openingMark (q .hard) (q .kind)) (q .weight)
 
 abbrev preferencePart : Preference → Part
-preferencePart q = part (headRow q) (sideRows q)
+preferencePart q = part (openingRow q) (sideRows q)
 
 -- with the steps from after its row, where it has them
 pub kind-back : (k : Kind) (xs : List Row) → kindOf (kindMark k) (getD (values (stepsRows k ++ xs)) 0 0) ≡ k
@@ -241,7 +241,7 @@ no-section : (c : Condition) → T (noneOf isSection (conditionRows c))
 no-section = condition-passes (without isSection) (λ v. tt) (λ v. tt) (λ v. tt)
 
 preferences-cut : (qs : List Preference) → sections (concatMap preferenceRows qs) ≡ parted [] (map preferencePart qs)
-preferences-cut = cut-all isSection headRow sideRows (λ q. kind-section (q .hard) (q .kind) (q .weight))
+preferences-cut = cut-all isSection openingRow sideRows (λ q. kind-section (q .hard) (q .kind) (q .weight))
     (sides-pass (without isSection) (λ v. tt) (λ v. tt) (λ v. tt) (λ v. tt) (λ v. tt))
 
 actions-cut : (l : List Action) (qs : List Preference)

@@ -1,5 +1,5 @@
 -- What is allowed: sizes, amounts, steps and texts.
-use Prim.Native.Nat.{ℕ, _*_}
+use Prim.Native.Nat.{ℕ, _+_, _*_}
 
 abbrev pub MAX-FACTS : ℕ
 MAX-FACTS = 128
@@ -17,9 +17,17 @@ MAX-ROWS = 12000
 abbrev pub MAX-AMOUNT : ℕ
 MAX-AMOUNT = 4294967295
 
+-- the bytes of the longest file
+abbrev pub MAX-FILE : ℕ
+MAX-FILE = 8 + 5 * MAX-ROWS
+
 -- the steps of within and always-within
 abbrev pub MAX-DEADLINE : ℕ
 MAX-DEADLINE = 15
+
+-- how many there are
+abbrev pub DEADLINES : ℕ
+DEADLINES = MAX-DEADLINE + 1
 
 -- of a plan
 abbrev pub MAX-STEPS : ℕ
@@ -32,3 +40,11 @@ MAX-TEXT = 65536
 -- of a plan: so many steps of the largest amount
 abbrev pub MAX-COST : ℕ
 MAX-COST = MAX-STEPS * MAX-AMOUNT
+
+-- of an effect, a literal from every clause
+abbrev pub MAX-CHOICES : ℕ
+MAX-CHOICES = 64
+
+-- of a week
+abbrev pub MAX-PLANS : ℕ
+MAX-PLANS = 64

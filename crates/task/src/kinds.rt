@@ -1,12 +1,13 @@
 // The kind of a preference.
 ghost use mathlib.Core.Path.{_≡_};
-ghost use Prim.Native.Nat.{_<_};
+ghost use Prim.Native.Nat.{_<_, _≤_};
 ghost use lib.Dec.{T};
 ghost use lib.ListN.{length, getD};
 ghost use Rattle.task.specs.File.{softMark, kindOf};
 ghost use Rattle.task.specs.Spelling.{kindSpellable};
 ghost use Rattle.task.specs.Rows.{Rows, stepsAt};
 ghost use Rattle.task.specs.Answers.{asKind};
+ghost use Rattle.task.specs.Limits.{MAX-DEADLINE};
 use super::marks;
 use super::rows;
 
@@ -24,7 +25,7 @@ pub enum Kind {
 
 // The kind that the mark of a soft preference opens; the last two have the steps.
 pub fn kind_of(mark: u8, steps: u8) -> Kind
-    requires { ⌜ steps < 16 ⌝ }
+    requires { ⌜ steps ≤ MAX-DEADLINE ⌝ }
     ensures { λ r. ⌜ asKind r ≡ kindOf mark steps ⌝ }
     ensures { λ r. ⌜ T (kindSpellable (asKind r)) ⌝ }
 {

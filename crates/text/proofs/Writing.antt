@@ -25,15 +25,6 @@ pub length-written : (xs b : List ℕ) (at : ℕ) → length (written xs at b) �
 unfolding written
 length-written xs b at = length-sets b at xs
 
--- nothing is written after the area's end
-sets-out : (xs b : List ℕ) (at : ℕ) → length b ≤ at → sets b at xs ≡ b
-sets-out [] b at h = refl
-sets-out (x ∷ xs) b at h = ap (λ (l : List ℕ). sets l (suc at) xs) (set-out b at x h) ∙ sets-out xs b (suc at) (omega arith)
-
-pub written-out : (xs b : List ℕ) (at : ℕ) → length b ≤ at → written xs at b ≡ b
-unfolding written
-written-out xs b at h = sets-out xs b at h
-
 -- a text that fits: the area is the text, and then what stood after
 pub written-whole : (xs b : List ℕ) → length xs ≤ length b → written xs 0 b ≡ xs ++ drop (length xs) b
 unfolding written

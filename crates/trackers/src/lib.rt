@@ -6,6 +6,7 @@ ghost use Rattle.task.specs.Rows.{stepsAt};
 ghost use Rattle.task.specs.Answers.{asKind};
 ghost use Rattle.classical.specs.Translation.{furtherFacts};
 ghost use Rattle.task.specs.Rows.{Rows};
+ghost use Rattle.task.specs.Limits.{MAX-DEADLINE};
 ghost use Rattle.writer.specs.Writer.{Room, Wrote};
 ghost use Rattle.kind_trackers.specs.Rows.{SidesInside, Small};
 ghost use Rattle.trackers.specs.Trackers.{Noted, trackersWith, trackersAt, furtherAt, trackersBy};
@@ -22,7 +23,7 @@ use writer::Cursor;
 // The steps of the preference at row `at`, where its kind has them.
 fn steps_of(marks: &[u8], values: &[u8], at: usize) -> u32
     requires { ⌜ Rows (now marks) (now values) × (at < length (now marks)) ⌝ }
-    ensures { λ r. ⌜ (r ≡ stepsAt (now (marks .entry)) (now (values .entry)) at) × (r < 16) ⌝ }
+    ensures { λ r. ⌜ (r ≡ stepsAt (now (marks .entry)) (now (values .entry)) at) × (r ≤ MAX-DEADLINE) ⌝ }
 {
     let steps = rows::steps_at(marks, values, at);
     steps as u32
@@ -133,7 +134,7 @@ pub fn all_trackers(
     let mut d = facts + 3 * (starts.len() as u32) + 1;
     let mut i = 0;
     while i < starts.len() {
-        if writer::TOO_MANY <= k.next {
+        if writer::OVERFULL <= k.next {
             return k;
         }
         let at = starts[i];

@@ -24,8 +24,8 @@ use Rattle.classical.specs.Translation.{further, translated, compiledRows}
 use Rattle.writer.specs.Writer.{rowAfter}
 use Rattle.outcome.specs.Outcome
 use Rattle.outcome.specs.Outcome.{Outcome, fitted}
-use Rattle.translation.specs.Whole.{translatedRows}
-use Rattle.translation.specs.declared.places.Places.{Places}
+use Rattle.translated_rows.specs.Parts.{translatedRows}
+use Rattle.translated_rows.specs.declared.places.Places.{Places}
 use Rattle.translation.specs.Translated.{smallEnough, rowsFitted, outcomeBy, outcome}
 use Rattle.translation.specs.Measured.{Measured, within, refused, measuredBy, measured}
 use Rattle.translation.proofs.Translating.{Counted, accepted, test-is, reads, ms, vs}
@@ -74,20 +74,12 @@ pub record Translatable (b : List ℕ) (z : File.Sizes) : Type 0 where
   pub few-actions : z .actions + 2 * z .preferences + 1 ≤ 128
   pub few-rows : compiledRows b ≤ 12000
 
-sizesIn : Measured → File.Sizes
-sizesIn (within z) = z
-sizesIn (refused n i) = record { facts = 0; actions = 0; preferences = 0; rows = 0 }
-
-isWithin : Measured → Bool
-isWithin (within z) = true
-isWithin (refused n i) = false
-
 pub translatable : (b : List ℕ) (z : File.Sizes) → measured b ≡ within z → Translatable b z
-unfolding outcome measured sizesIn isWithin
+unfolding outcome measured
 translatable b z e = by-answer (check b) refl e
   where
     by-answer : (a : Answer) → check b ≡ a → by b a ≡ within z → Translatable b z
-    by-answer (Check.refused n i) h e = absurd (true≢false (sym (ap isWithin e)))
+    by-answer (Check.refused n i) h e = absurd (true≢false (cc))
     by-answer (Check.accepted y) h e =
         go (leb (y .facts + 3 * y .preferences + 2 + further (taskOf b .preferences)) 128) refl (leb (y .actions + 2 * y .preferences + 1) 128) refl
         (leb (compiledRows b) 12000) refl (leb (8 + 5 * compiledRows b) 60008) e
@@ -97,12 +89,13 @@ translatable b z e = by-answer (check b) refl e
             → measuredBy b (cond (u && v) (cond w (cond x (Outcome.written (8 + 5 * compiledRows b)) (Outcome.refused 9 0)) (Outcome.refused 8 0)) (Outcome.refused 7 0))
             ≡ within z
             → Translatable b z
-        go false p v q w r x e = absurd (true≢false (sym (ap isWithin e)))
-        go true p false q w r x e = absurd (true≢false (sym (ap isWithin e)))
-        go true p true q false r x e = absurd (true≢false (sym (ap isWithin e)))
-        go true p true q true r false e = absurd (true≢false (sym (ap isWithin e)))
+        go false p v q w r x e = absurd (true≢false (cc))
+        go true p false q w r x e = absurd (true≢false (cc))
+        go true p true q false r x e = absurd (true≢false (cc))
+        go true p true q true r false e = absurd (true≢false (cc))
         go true p true q true r true e =
-            let same : y ≡ z = accepted-spelling b y h .same ∙ ap sizesIn e in
+            let read : sizes b ≡ z = cc in
+            let same : y ≡ z = accepted-spelling b y h .same ∙ read in
             subst (Translatable b) same
             (record {
               accepting = h;
@@ -113,12 +106,8 @@ translatable b z e = by-answer (check b) refl e
 
 -- 1 to 8 are refused alike with every area
 
-asOutcome : Measured → Outcome
-asOutcome (within z) = Outcome.written 0
-asOutcome (refused n i) = Outcome.refused n i
-
 pub refused-alike : (b : List ℕ) (n i : ℕ) → measured b ≡ refused n i → (room : ℕ) → outcome b room ≡ Outcome.refused n i
-unfolding outcome measured isWithin asOutcome
+unfolding outcome measured
 refused-alike b n i e room = by-answer (check b) e
   where
     by-rows : (x : Bool) → leb (compiledRows b) 12000 ≡ x
@@ -127,14 +116,14 @@ refused-alike b n i e room = by-answer (check b) e
     by-rows true q e =
         let fits : 8 + 5 * compiledRows b ≤ 60008 = omega (arith, leb-true (compiledRows b) 12000 q) in
         let f : within (sizes b) ≡ refused n i = (rw (le-leb (8 + 5 * compiledRows b) 60008 fits) at e) in
-        absurd (true≢false (ap isWithin f))
-    by-rows false q e = ap asOutcome e
+        absurd (true≢false (cc f))
+    by-rows false q e = cc
 
     by-sizes : (x : Bool) → measuredBy b (cond x (rowsFitted (compiledRows b) 60008) (Outcome.refused 7 0)) ≡ refused n i
         → cond x (rowsFitted (compiledRows b) room) (Outcome.refused 7 0) ≡ Outcome.refused n i
     by-sizes true e = by-rows (leb (compiledRows b) 12000) refl e
-    by-sizes false e = ap asOutcome e
+    by-sizes false e = cc
 
     by-answer : (a : Answer) → by b a ≡ refused n i → outcomeBy b room a ≡ Outcome.refused n i
-    by-answer (Check.refused m j) e = ap asOutcome e
+    by-answer (Check.refused m j) e = cc
     by-answer (Check.accepted z) e = by-sizes (smallEnough z (further (taskOf b .preferences))) e

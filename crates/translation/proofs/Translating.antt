@@ -1,6 +1,6 @@
 -- A task file translated, from what check answers.
 use mathlib.Core.Path.{_≡_, refl, sym, ap, ap₂, _∙_, subst, subst⁻¹}
-use mathlib.Core.Bool.{Bool, true, false, cond, _&&_, _||_}
+use mathlib.Core.Bool.{Bool, true, false, cond, _&&_, _||_, true≢false}
 use mathlib.Core.List.{List, _++_}
 use Prim.Native.Nat.{ℕ, _+_, _*_, _-_, _≤_, _<_}
 use native.Mathlib.Omega.{arith}
@@ -8,6 +8,7 @@ use lib.Dec.{T, leb, leb→le}
 use lib.ListN.{length, take, drop}
 use lib.Seq.{sets, sets-eq, length-sets, take-at, drop-append-add, drop-drop}
 use borrow.Author.Tests.{le-leb, lt-leb, leb-true}
+use Rattle.layout.proofs.Parts.{marksOf, valuesOf}
 use Rattle.lists.specs.Lists.{all, isEmpty}
 use Rattle.meaning.specs.Task.{Preference, Task, two-sided}
 use Rattle.task.specs.TaskRows.{Row, taskRows}
@@ -25,26 +26,24 @@ use Rattle.lists.proofs.Tests.{tests, all-implies}
 use Rattle.task.proofs.RoundTrip.{task-back}
 use Rattle.task.proofs.Bytes.{file-length}
 use Rattle.task.proofs.Spelled.{Spelling, accepted-spelling}
-use Rattle.task.proofs.Checking.{within as limits}
-use Rattle.task.proofs.Answered.{parts-spell}
+use Rattle.task.proofs.Answered.{parts-spell, Limited, limited}
 use Rattle.classical.specs.Translation.{further, translated, compiled, compiledRows, translatedSizes}
-use Rattle.translation.specs.Further.{furtherRows}
-use Rattle.translation.proofs.FurtherRows.{task-further}
+use Rattle.translated_rows.specs.Further.{furtherRows}
+use Rattle.translated_rows.proofs.FurtherRows.{task-further}
 use Rattle.writer.specs.Writer.{rowAfter, putRows, Wrote, header}
 use Rattle.writer.specs.declared.Cursor.{Cursor}
-use Rattle.translation.specs.Parts.{readTask, Found}
-use Rattle.translation.specs.declared.places.Places.{Places}
+use Rattle.translated_rows.specs.Parts.{readTask, Found}
+use Rattle.translated_rows.specs.declared.places.Places.{Places}
 use Rattle.translation.specs.Whole.{Sized, Fitted}
 use Rattle.outcome.specs.Outcome.{written, refused, areaAfter}
 use Rattle.outcome.specs.Answers.{answer}
 use Rattle.outcome.specs.declared.Outcome.{Outcome}
-use Rattle.outcome.proofs.Outcomes.{not-written, same-written}
 use Rattle.translation.specs.Translated.{rowsFitted, smallEnough, outcomeBy, outcome, Delivered}
 use Rattle.classical.specs.Claim.{Faithful}
 use Rattle.writer.proofs.Putting.{whole-file}
 use Rattle.classical.proofs.Spellable.{translated-sizes}
 use Rattle.classical.proofs.Written.{Written, written as written-file}
-use Rattle.translation.proofs.TaskRows.{found}
+use Rattle.translated_rows.proofs.TaskRows.{found}
 
 -- The header
 
@@ -139,7 +138,7 @@ module _ (b area : List ℕ) (n : ℕ) where
       take-at (compiled b) (drop n area) n (file-length (t .facts) (length (t .actions)) (length (t .preferences)) (taskRows t) ∙ sym e)
 
   by-answer : (x : Check.Answer) → check b ≡ x → outcomeBy b (length area) x ≡ written n → Delivered b (compiled b ++ drop n area) n
-  by-answer (Check.refused k i) e h = absurd (not-written k i n h)
+  by-answer (Check.refused k i) e h = absurd (true≢false (cc))
   by-answer (Check.accepted z) e h =
       go (leb (z .facts + 3 * z .preferences + 2 + further (taskOf b .preferences)) 128) refl (leb (z .actions + 2 * z .preferences + 1) 128) refl (leb (compiledRows b) 12000) refl
       (leb (8 + 5 * compiledRows b) (length area)) h
@@ -148,14 +147,14 @@ module _ (b area : List ℕ) (n : ℕ) where
           → (w : Bool) → leb (compiledRows b) 12000 ≡ w → (x : Bool)
           → cond (u && v) (cond w (cond x (written (8 + 5 * compiledRows b)) (refused 9 0)) (refused 8 0)) (refused 7 0) ≡ written n
           → Delivered b (compiled b ++ drop n area) n
-      go false p v q w r x h = absurd (not-written 7 0 n h)
-      go true p false q w r x h = absurd (not-written 7 0 n h)
-      go true p true q false r x h = absurd (not-written 8 0 n h)
-      go true p true q true r false h = absurd (not-written 9 0 n h)
+      go false p v q w r x h = absurd (true≢false (cc))
+      go true p false q w r x h = absurd (true≢false (cc))
+      go true p true q false r x h = absurd (true≢false (cc))
+      go true p true q true r false h = absurd (true≢false (cc))
       go true p true q true r true h =
           let d : Written b z = written-file b z e (leb-true (z .facts + 3 * z .preferences + 2 + further (taskOf b .preferences)) 128 p) (leb-true (z .actions + 2 * z .preferences + 1) 128 q)
           (leb-true (compiledRows b) 12000 r) in
-          let front : take n (compiled b ++ drop n area) ≡ compiled b = first-bytes (sym (same-written (8 + 5 * compiledRows b) n h)) in
+          let front : take n (compiled b ++ drop n area) ≡ compiled b = first-bytes (cc) in
           let own : z ≡ sizes b = accepted-spelling b z e .same in
           let sized : sizesOf (taskOf b) ≡ sizes b = accepted-spelling b z e .sized ∙ own in
           record {
@@ -212,17 +211,14 @@ module _ (b area : List ℕ) (x : Checked) (e : checked x ≡ check b) where
     spelling : Spelling b (asSizes z)
     spelling = accepted-spelling b (asSizes z) accepted
 
-    pub exact : length b ≡ 8 + 5 * z .rows
-    exact = spelling .exact
-
-    pub within : (z .rows ≤ 12000) × (1 ≤ z .facts) × (z .facts ≤ 128) × (z .actions ≤ 128) × (z .preferences ≤ 16)
-    within = limits (asSizes z) (spelling .allowed)
+    sizes-limited : Limited b (asSizes z)
+    sizes-limited = limited b (asSizes z) accepted
 
     abbrev pub ms : List ℕ
-    ms = take (8 + z .rows - 8) (drop 8 b)
+    ms = marksOf b (asSizes z)
 
     abbrev pub vs : List ℕ
-    vs = take (length b - (8 + z .rows)) (drop (8 + z .rows) b)
+    vs = valuesOf b (asSizes z)
 
     -- d facts D were counted, from the first preference on
     abbrev pub Counted : Places → ℕ → Type 0
@@ -263,9 +259,9 @@ module _ (b area : List ℕ) (x : Checked) (e : checked x ≡ check b) where
             spelled = parts-spell b (asSizes z) accepted ∙ ap taskRows (sym reads);
             spelling = subst⁻¹ (λ (t : Task). T (spellable t)) reads (spelling .spelling);
             many = ap (λ (y : File.Sizes). y .preferences) sized ∙ ap (λ (t : Task). length (t .preferences)) (sym reads);
-            some-facts = within .1;
+            some-facts = sizes-limited .some-facts;
             few-facts = omega (arith, small d h .0);
-            few-preferences = within .4;
+            few-preferences = sizes-limited .few-preferences;
           };
           actions-are = ap (λ (y : File.Sizes). y .actions) sized ∙ ap (λ (t : Task). length (t .actions)) (sym reads);
           further-are = counted-is p d e ∙ ap (λ (t : Task). further (t .preferences)) (sym reads);

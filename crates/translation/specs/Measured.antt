@@ -1,9 +1,9 @@
 -- Whether the task in a file can be translated: what translate answers where no area is too short.
 use mathlib.Core.List.{List}
-use Prim.Native.Nat.{ℕ, _+_, _*_}
+use Prim.Native.Nat.{ℕ}
 use Rattle.task.specs.File.{Sizes, sizes}
 use Rattle.task.specs.Answers.{asSizes}
-use Rattle.task.specs.Limits.{MAX-ROWS}
+use Rattle.task.specs.Limits.{MAX-FILE}
 use Rattle.outcome.specs.Outcome
 use Rattle.outcome.specs.Outcome.{Outcome}
 use Rattle.translation.specs.Translated.{outcome}
@@ -19,12 +19,8 @@ abbrev pub measuredBy : List ℕ → Outcome → Measured
 measuredBy b (Outcome.written n) = within (sizes b)
 measuredBy b (Outcome.refused n i) = refused n i
 
--- the length of the longest task file
-abbrev pub LONGEST : ℕ
-LONGEST = 8 + 5 * MAX-ROWS
-
 unfoldable pub measured : List ℕ → Measured
-measured b = measuredBy b (outcome b LONGEST)
+measured b = measuredBy b (outcome b MAX-FILE)
 
 -- what the answers of `measure` stand for
 abbrev pub measuredAs : Given → Measured

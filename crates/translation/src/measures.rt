@@ -1,14 +1,13 @@
 // Whether a task can be translated, with no area to translate it into.
 ghost use mathlib.Core.Path.{_≡_};
 ghost use Rattle.translation.specs.Measured.{refused, measured, measuredAs};
-use super::further;
-use super::places;
-use super::whole;
 use task::Checked;
 use task::Refusal;
 use task::Sizes;
 use task::limits;
 use task::refused;
+use translated_rows::further;
+use translated_rows::places;
 
 // The sizes of a task that can be translated, or why it can't be.
 pub enum Measured {
@@ -38,7 +37,7 @@ pub fn measure(file: &[u8]) -> Measured
     }
     let facts = z.facts as u32;
     let preferences = z.preferences as u32;
-    let n = whole::count_rows(&file[8..middle], &file[middle..], p, facts, preferences);
+    let n = translated_rows::count_rows(&file[8..middle], &file[middle..], p, facts, preferences);
     if limits::MAX_ROWS < n {
         return refuse(refused::TRANSLATION_ROWS);
     }

@@ -5,7 +5,7 @@ use outcome::Outcome;
 use records::Next;
 
 fn write_report(file: &[u8], plan: &[u8]) {
-    let mut out = [0u8; 2048];
+    let mut out = [0u8; report::MAX_REPORT];
     let answer = report::write_report(file, plan, &mut out);
     match answer {
         Outcome::Written(k) => {

@@ -8,6 +8,7 @@ use plan::Verdict;
 use plan::Walked;
 use records::Next;
 use settling::Settled;
+use task::limits;
 
 // Writes what a plan that solves costs, its metric and its utility.
 fn write_solution(file: &[u8], s: Solution) {
@@ -60,7 +61,7 @@ fn write_plan(plan: &[u8]) {
 
 // Reads a text, and writes what that answers and the plan.
 fn write_read(text: &[u8]) {
-    let mut steps = [0u8; 2048];
+    let mut steps = [0u8; limits::MAX_STEPS];
     let read = plan_text::read(text, &mut steps);
     match read {
         Outcome::Written(k) => {
@@ -75,7 +76,7 @@ fn write_read(text: &[u8]) {
 // Reads, walks and settles the next text, and answers whether there was one.
 pub fn walk_next(fd: i32) -> bool {
     let mut task = io::large_buffer();
-    let mut text = [0u8; 65537]; // one byte more than is read
+    let mut text = [0u8; limits::MAX_TEXT + 1];
     let of_task = records::next_record(fd, &mut task);
     let Next::Record(n) = of_task else {
         return false;

@@ -4,10 +4,9 @@ use libc::STDOUT_FILENO;
 use outcome::Outcome;
 
 fn main() {
-    // A task that is accepted is shorter than its buffer, and no start and length of 16 bits reach beyond that of the plans: so a
-    // longer file gets the answer of the whole file.
+    // The buffers have room for all that can be read of a file, so a longer one gets the answer of the whole file.
     let mut task = io::large_buffer();
-    let mut plans = [0u8; 131328];
+    let mut plans = [0u8; week_report::PLANS_READ];
     let of_task = files::read(b"task", &mut task);
     let of_plans = files::read(b"plans", &mut plans);
     let Content::Bytes(n) = of_task else {
@@ -18,8 +17,7 @@ fn main() {
         files::say_missing();
         return;
     };
-    // This holds every text.
-    let mut out = [0u8; 2048];
+    let mut out = [0u8; week_report::MAX_WEEK];
     let answer = week_report::write_week(text::front(&task, n), text::front(&plans, m), &mut out);
     match answer {
         Outcome::Written(k) => {

@@ -16,7 +16,7 @@ use Rattle.figures.specs.Plans.{count}
 use Rattle.figures.specs.Figures.{Amounts, Figures, none-solves, solve}
 use Rattle.figures.specs.Week.{Answer, given, refused, weekOf}
 use Rattle.figures.specs.Pass.{MOST}
-use Rattle.figures.specs.Sound.{SoundIn, FitsIn, IfGiven}
+use Rattle.figures.specs.Sound.{SoundIn, SumsWithin, IfGiven}
 use Rattle.figures.proofs.Weeks.{week-sound, week-fits, week-few}
 use Rattle.week_report.specs.Lines.{labelled, plansLine, solvingLine, metricLine, meetingLine}
 use Rattle.week_report.specs.Report.{figuresText, answerText, weekText}
@@ -94,7 +94,7 @@ short-lines n k (c ∷ cs) h l t =
 mean-small : (q n r t : ℕ) → q * n + r ≡ t → 1 ≤ n → q ≤ t
 mean-small q n r t e h = let m : q * 1 ≤ q * n = mul-le-mul-left q h in omega (arith, mul-one q)
 
-short-figures : (n P : ℕ) (x : Figures) → n ≤ 64 → P ≤ 16 → SoundIn P x → FitsIn (64 * MOST) x → length (figuresText n x) ≤ 2048
+short-figures : (n P : ℕ) (x : Figures) → n ≤ 64 → P ≤ 16 → SoundIn P x → SumsWithin (64 * MOST) x → length (figuresText n x) ≤ 2048
 short-figures n P none-solves h l s f = omega (arith, length-append (plansLine n) (solvingLine 0), short-plans n (omega arith), short-solving 0 (omega arith))
 short-figures n P (solve m a) h l s f =
     let first : List ℕ = plansLine n ++ solvingLine m in
@@ -117,6 +117,6 @@ unfolding weekText
 longest b f = go (weekOf b f) (week-few b f) (week-sound b f) (week-fits b f)
   where
     go : (x : Answer) → IfGiven (λ (x : Figures). (count f ≤ 64) × (sizes b .preferences ≤ 16)) x → IfGiven (SoundIn (sizes b .preferences)) x
-        → IfGiven (FitsIn (64 * MOST)) x → length (answerText (count f) x) ≤ 2048
+        → IfGiven (SumsWithin (64 * MOST)) x → length (answerText (count f) x) ≤ 2048
     go (refused n i) k s t = omega arith
     go (given x) k s t = short-figures (count f) (sizes b .preferences) x (k .0) (k .1) s t

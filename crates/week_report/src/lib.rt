@@ -3,6 +3,7 @@ ghost use mathlib.Core.Path.{_≡_};
 ghost use mathlib.Core.List.{_++_};
 ghost use Prim.Native.Nat.{_+_, _*_, _^_, _≤_, _<_};
 ghost use lib.ListN.{length, take};
+ghost use Rattle.task.specs.Limits.{MAX-PREFERENCES};
 ghost use Rattle.lists.specs.Lists.{concatFrom};
 ghost use Rattle.text.specs.Text.{decimal};
 ghost use Rattle.text.specs.Area.{Wrote, written};
@@ -13,9 +14,16 @@ ghost use Rattle.week_report.specs.Lines.{plansLine, solvingLine, metric
 ghost use Rattle.week_report.specs.Report.{answerText, weekText, weekOutcome};
 ghost use Rattle.week_report.specs.Of.{amountsOf};
 use outcome::Outcome;
+use task::limits;
 use weekly::Amounts;
 use weekly::Figures;
 use weekly::plans;
+
+// An area of this length holds every text (proofs/Longest).
+pub const MAX_WEEK: usize = 2048;
+
+// No start and length reach beyond so many bytes of a file of plans: a longer file is answered as these are (proofs/Front).
+pub const PLANS_READ: usize = 131328;
 
 // The first n counts, or all where there are no more.
 fn first_counts(counts: &[u64], n: usize) -> &[u64]
@@ -77,7 +85,7 @@ fn put_meeting(out: &mut [u8], at: usize, k: usize, n: u64) -> usize
 
 // Writes a line for each count.
 fn put_meetings(out: &mut [u8], at: usize, counts: &[u64]) -> usize
-    requires { ⌜ (length (now counts) ≤ 16) × (at ≤ 300) ⌝ }
+    requires { ⌜ (length (now counts) ≤ MAX-PREFERENCES) × (at ≤ 300) ⌝ }
     ensures { λ r. ⌜ Wrote (now (out .entry)) at (concatFrom meetingLine 0 (now (counts .entry))) r (now (out .exit)) ⌝ }
 {
     let mut p = at;
@@ -90,7 +98,12 @@ fn put_meetings(out: &mut [u8], at: usize, counts: &[u64]) -> usize
 }
 
 // Writes the text of some plans of which one solves.
-fn put_figures(out: &mut [u8], plans: u64, m: Amounts, meeting: [u64; 16]) -> usize
+fn put_figures(
+    out: &mut [u8],
+    plans: u64,
+    m: Amounts,
+    meeting: [u64; limits::MAX_PREFERENCES],
+) -> usize
     ensures { λ r. ⌜ Wrote (now (out .entry)) 0 (answerText plans (figuresAs (Solve m) meeting)) r (now (out .exit)) ⌝ }
 {
     let a = put_counts(&mut *out, 0, plans, m.solving);

@@ -13,6 +13,7 @@ use Rattle.weekly.specs.declared.tally.Taken.the-variants.{On, Refused}
 use Rattle.weekly.specs.declared.Figures.{Figures}
 use Rattle.weekly.specs.declared.Figures.the-variants as F
 use Rattle.weekly.specs.declared.Reckoned.{Reckoned}
+use Rattle.task.specs.Limits.{MAX-PREFERENCES}
 
 abbrev pub asEntry : Entry → Plans.Entry
 asEntry e = record { start = e .start; steps = e .steps }
@@ -67,7 +68,7 @@ countsIn (refused n i) = []
 
 -- with zeros after them, 16 in all
 abbrev pub padded : List ℕ → List ℕ
-padded cs = cs ++ replicate (16 - length cs) 0
+padded cs = cs ++ replicate (MAX-PREFERENCES - length cs) 0
 
 abbrev pub asReckoned : Answer → Reckoned
 asReckoned x = record { figures = asFigures x; meeting = padded (countsIn x) }

@@ -9,16 +9,17 @@ use Rattle.plan.specs.Walked
 use Rattle.plan.specs.Walked.{Walk, walked}
 use Rattle.figures.specs.Pass.{AtMost, MOST}
 use Rattle.weekly.specs.declared.tally.Totals.{Totals}
+use Rattle.task.specs.Limits.{MAX-PLANS, MAX-PREFERENCES}
 
 -- there is room for one plan more
 pub record Room (t : Totals) : Type 0 where
-  pub few : t .solving ≤ 64
-  pub sum : t .sum ≤ 64 * MOST
+  pub few : t .solving ≤ MAX-PLANS
+  pub sum : t .sum ≤ MAX-PLANS * MOST
 
 -- and in its counts
 pub record Counts (cs : List ℕ) : Type 0 where
-  pub few : AtMost 64 cs
-  pub sixteen : length cs ≡ 16
+  pub few : AtMost MAX-PLANS cs
+  pub sixteen : length cs ≡ MAX-PREFERENCES
 
 -- settle's metric is one that a plan can have
 abbrev pub Cheap : Settled → Type 0

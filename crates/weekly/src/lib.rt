@@ -9,6 +9,7 @@ ghost use Prim.Native.Nat.{ℕ, _≤_};
 ghost use lib.ListN.{length, replicate};
 ghost use Rattle.task.specs.Check.{accepted, check};
 ghost use Rattle.task.specs.Answers.{asSizes};
+ghost use Rattle.task.specs.Limits.{MAX-PREFERENCES};
 ghost use Rattle.figures.specs.Plans.{readable};
 ghost use Rattle.figures.specs.Week.{given, refused, weekOf};
 ghost use Rattle.figures.specs.Pass.{noPlans, closed, closing, passAt, CountingIn};
@@ -19,6 +20,8 @@ use tally::Totals;
 use task::Checked;
 use task::Refusal;
 use task::Sizes;
+use task::limits;
+use task::refused;
 
 // Over the plans that solve, at least one: how many they are, of their metrics the least, the greatest, the sum and the mean as
 // quotient and remainder. The task has so many preferences.
@@ -42,7 +45,7 @@ pub enum Figures {
 // A week's answer. Where plans solve, entry k of `meeting` is how many of them meet preference k; every other entry is 0.
 pub struct Reckoned {
     pub figures: Figures,
-    pub meeting: [u64; 16],
+    pub meeting: [u64; limits::MAX_PREFERENCES],
 }
 
 fn refuse(f: Refusal) -> Reckoned
@@ -50,7 +53,7 @@ fn refuse(f: Refusal) -> Reckoned
 {
     Reckoned {
         figures: Figures::Refused(f),
-        meeting: [0; 16],
+        meeting: [0; limits::MAX_PREFERENCES],
     }
 }
 
@@ -74,8 +77,8 @@ fn figures_of(preferences: usize, t: Totals) -> Figures
 }
 
 // Takes in all plans of a file, from the first on: the first that is refused ends the pass.
-fn pass(file: &[u8], z: Sizes, plans: &[u8], meeting: &mut [u64; 16]) -> Taken
-    requires { ⌜ (check (now file) ≡ accepted (asSizes z)) × (readable (now plans) ≡ true) × (now meeting ≡ replicate 16 0) ⌝ }
+fn pass(file: &[u8], z: Sizes, plans: &[u8], meeting: &mut [u64; limits::MAX_PREFERENCES]) -> Taken
+    requires { ⌜ (check (now file) ≡ accepted (asSizes z)) × (readable (now plans) ≡ true) × (now meeting ≡ replicate MAX-PREFERENCES 0) ⌝ }
     ensures { λ r.
         let passed = passAt (now (file .entry)) (now (plans .entry)) (z .preferences) noPlans 0 in
         ⌜ closing (z .preferences) (turnAs r (now (meeting .exit))) ≡ passed ⌝ }
@@ -116,11 +119,11 @@ pub fn week(file: &[u8], plans: &[u8]) -> Reckoned
     };
     if !plans::is_readable(plans) {
         return refuse(Refusal {
-            number: plans::REFUSED,
+            number: refused::PLANS,
             place: 0,
         });
     }
-    let mut meeting: [u64; 16] = [0; 16];
+    let mut meeting: [u64; limits::MAX_PREFERENCES] = [0; limits::MAX_PREFERENCES];
     let taken = pass(file, z, plans, &mut meeting);
     match taken {
         Taken::On(t) => Reckoned {

@@ -4,13 +4,10 @@ ghost use Prim.Native.Nat.{_+_, _*_, _≤_, _<_};
 ghost use lib.Dec.{leb};
 ghost use lib.ListN.{getD};
 ghost use Rattle.task.specs.File.{word16};
+ghost use Rattle.task.specs.Limits.{MAX-PLANS};
 ghost use Rattle.figures.specs.Plans.{count as countIn, entryAt, headed, readable};
 ghost use Rattle.weekly.specs.Answers.{asEntry};
-
-// Of refusals: a file of plans that can't be read.
-pub const REFUSED: u8 = 18;
-
-const MAX_PLANS: usize = 64;
+use task::limits;
 
 // Where a plan stands: its start among the step bytes, and how many steps it has.
 pub struct Entry {
@@ -29,7 +26,7 @@ fn byte_at(plans: &[u8], i: usize) -> u8
 }
 
 // Two bytes as a number, the lower first.
-fn word(low: u8, high: u8) -> usize
+fn u16_of(low: u8, high: u8) -> usize
     ensures { λ r. ⌜ (r ≡ low + 256 * high) × (r < 65536) ⌝ }
 {
     (low as usize) + 256 * (high as usize)
@@ -39,7 +36,7 @@ fn word_at(plans: &[u8], i: usize) -> usize
     requires { ⌜ i < 65536 ⌝ }
     ensures { λ r. ⌜ (r ≡ word16 (now (plans .entry)) i) × (r < 65536) ⌝ }
 {
-    word(byte_at(plans, i), byte_at(plans, i + 1))
+    u16_of(byte_at(plans, i), byte_at(plans, i + 1))
 }
 
 // How many plans the file says that it has.
@@ -51,7 +48,7 @@ pub fn count(plans: &[u8]) -> usize
 
 // Plan i of n.
 pub fn entry_at(plans: &[u8], n: usize, i: usize) -> Entry
-    requires { ⌜ (n ≡ countIn (now plans)) × (n ≤ 64) × (i < n) ⌝ }
+    requires { ⌜ (n ≡ countIn (now plans)) × (n ≤ MAX-PLANS) × (i < n) ⌝ }
     ensures { λ r. ⌜ (asEntry r ≡ entryAt (now (plans .entry)) i) × (r .start < 65536) × (r .steps < 65536) ⌝ }
 {
     Entry {
@@ -65,7 +62,7 @@ fn is_headed(plans: &[u8], n: usize) -> bool
     requires { ⌜ (n ≡ countIn (now plans)) × (n < 65536) ⌝ }
     ensures { λ r. ⌜ r ≡ headed (now (plans .entry)) ⌝ }
 {
-    (2 <= plans.len()) & (1 <= n) & (n <= MAX_PLANS) & (2 + 4 * n <= plans.len())
+    (2 <= plans.len()) & (1 <= n) & (n <= limits::MAX_PLANS) & (2 + 4 * n <= plans.len())
 }
 
 // Whether a plan stands within so many step bytes, one of no steps too.

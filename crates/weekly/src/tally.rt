@@ -6,6 +6,7 @@ ghost use Prim.Native.Nat.{ℕ, _+_, _≤_, _<_};
 ghost use lib.Dec.{eqb, ltb};
 ghost use Rattle.task.specs.Check.{accepted, check};
 ghost use Rattle.task.specs.Answers.{asSizes};
+ghost use Rattle.task.specs.Limits.{MAX-PLANS, MAX-PREFERENCES};
 ghost use Rattle.state.specs.Member.{bit};
 ghost use Rattle.settling.specs.Answers.{settledAs};
 ghost use Rattle.plan.specs.Judged.{judged};
@@ -19,6 +20,7 @@ use plan::Walked;
 use settling::Settled;
 use task::Refusal;
 use task::Sizes;
+use task::limits;
 
 // Of the plans so far: how many solve, and of their metrics the least, the greatest and the sum.
 pub struct Totals {
@@ -36,7 +38,7 @@ pub enum Taken {
 
 // A count, one more where preference k is met.
 fn raised_count(c: u64, met: u64, k: usize) -> u64
-    requires { ⌜ (c ≤ 80) × (k < 16) ⌝ }
+    requires { ⌜ (c ≤ 80) × (k < MAX-PREFERENCES) ⌝ }
     ensures { λ r. ⌜ (r ≡ cond (bit met k) (c + 1) c) × (r ≤ c + 1) ⌝ }
 {
     if settling::is_met(met, k as u32) {
@@ -46,12 +48,12 @@ fn raised_count(c: u64, met: u64, k: usize) -> u64
 }
 
 // One more for each preference that is met.
-fn raise(met: u64, meeting: &mut [u64; 16])
+fn raise(met: u64, meeting: &mut [u64; limits::MAX_PREFERENCES])
     requires { ⌜ Counts (now meeting) ⌝ }
     ensures { λ r. ⌜ now (meeting .exit) ≡ raised (bit met) 0 (now (meeting .entry)) ⌝ }
 {
     let mut k = 0;
-    while k < 16 {
+    while k < limits::MAX_PREFERENCES {
         meeting[k] = raised_count(meeting[k], met, k);
         k += 1;
     }
@@ -91,7 +93,13 @@ fn with_metric(t: Totals, metric: u64) -> Totals
 }
 
 // Takes in plan k, which solves, by what settle answers: it refuses nothing that walk gave.
-fn take_settled(k: u16, s: Settled, met: u64, t: Totals, meeting: &mut [u64; 16]) -> Taken
+fn take_settled(
+    k: u16,
+    s: Settled,
+    met: u64,
+    t: Totals,
+    meeting: &mut [u64; limits::MAX_PREFERENCES],
+) -> Taken
     requires { ⌜ Room t × Counts (now meeting) × Cheap s ⌝ }
     ensures { λ r.
         let before = asTally t (now (meeting .entry)) in
@@ -116,7 +124,7 @@ fn take_verdict(
     k: u16,
     v: Verdict,
     t: Totals,
-    meeting: &mut [u64; 16],
+    meeting: &mut [u64; limits::MAX_PREFERENCES],
 ) -> Taken
     requires { ⌜ (check (now file) ≡ accepted (asSizes z)) × WalkedTo (now file) (asVerdict v) ⌝ }
     requires { ⌜ Room t × Counts (now meeting) ⌝ }
@@ -142,9 +150,9 @@ pub fn take_plan(
     k: u16,
     plan: &[u8],
     t: Totals,
-    meeting: &mut [u64; 16],
+    meeting: &mut [u64; limits::MAX_PREFERENCES],
 ) -> Taken
-    requires { ⌜ (check (now file) ≡ accepted (asSizes z)) × (k < 64) × Small MOST k (asTally t (now meeting)) ⌝ }
+    requires { ⌜ (check (now file) ≡ accepted (asSizes z)) × (k < MAX-PLANS) × Small MOST k (asTally t (now meeting)) ⌝ }
     ensures { λ r.
         let before = asTally t (now (meeting .entry)) in
         ⌜ turnAs r (now (meeting .exit)) ≡ turned k before (judged (now (file .entry)) (now (plan .entry))) ⌝ }

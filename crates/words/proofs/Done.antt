@@ -25,12 +25,12 @@ use Rattle.figures.specs.Week
 use Rattle.figures.specs.Week.{isLong, isFaulty, firstFaulty, weekBy, weekOf}
 use Rattle.outcome.specs.Outcome
 use Rattle.outcome.specs.Outcome.{Outcome, written, fitted}
-use Rattle.classical.specs.Translation.{further, compiledRows}
+use Rattle.classical.specs.Translation.{further, compiledRows, translatedActions}
 use Rattle.translation.specs.Translated.{rowsFitted, smallEnough, outcomeBy, outcome}
 use Rattle.translation.specs.Measured.{measuredBy, measured}
 use Rattle.losses.specs.Losses.{Lost, lost, stopped, lostAfter}
 use Rattle.lost.specs.Answered
-use Rattle.lost.specs.Answered.{Answered, actionsOf, answeredBy, answered}
+use Rattle.lost.specs.Answered.{Answered, answeredBy, answered}
 use Rattle.canonical.specs.Canonical.{respelledRows}
 use Rattle.spelling.specs.Outcome.{outcomeBy as spelledBy, outcome as spelled}
 use Rattle.singling.specs.Singled.{singledRows}
@@ -38,7 +38,7 @@ use Rattle.singling.specs.Wide.{firstWide}
 use Rattle.singling.specs.Outcome.{rowsFitted as singledRowsFitted, outcomeBy as singledBy, outcome as singled}
 use Rattle.plan_lines.specs.PlanText.{textOf, Read, plan, faulty, readPlan}
 use Rattle.plan_text.specs.Outcomes.{planFitted, readBy, readOutcome, writeOutcome, refusedAfter, textWalkedBy, textWalked}
-use Rattle.source.specs.Source.{below, translatedActions, ofKnown, ofText, outcomeBy as sourcedBy, outcome as sourced}
+use Rattle.source.specs.Source.{below, ofKnown, ofText, outcomeBy as sourcedBy, outcome as sourced}
 use Rattle.pddl_text.specs.Pddl.{domainText, problemText}
 use Rattle.pddl_text.specs.Outcomes
 use Rattle.pddl_text.specs.Outcomes.{outcomeBy as textsBy, outcome as texts}
@@ -336,7 +336,7 @@ lost-done b p = go (outcome b 60008) (translate-done b 60008)
 
     go : (o : Outcome) → OutcomeDone o → LossesDone (answeredBy b p (measuredBy b o))
     go (Outcome.refused n i) e = e
-    go (written n) e = steps (leb (length p) 2048) (all (λ (k : ℕ). ltb k (actionsOf (sizes b))) p) (stepsKnown (actionsOf (sizes b)) p)
+    go (written n) e = steps (leb (length p) 2048) (all (λ (k : ℕ). ltb k (translatedActions (sizes b))) p) (stepsKnown (translatedActions (sizes b)) p)
 
 -- Weeks of plans
 

@@ -9,6 +9,7 @@ use lib.ListN.{getD, replicate}
 use Rattle.lists.specs.Lists.{range}
 use Rattle.task.specs.Check
 use Rattle.task.specs.Check.{Answer}
+use Rattle.task.specs.Limits.{MAX-PREFERENCES}
 use Rattle.plan.specs.Walked
 use Rattle.plan.specs.Walked.{Walk, solved, stopped, goal-missed, rule-missed, Walked, given}
 use Rattle.settling.specs.Settled
@@ -86,7 +87,7 @@ ofSettle (Settled.refused n i) = refusal n i
 abbrev pub ofFigures : Figures → Call
 ofFigures none-solves = call 0 (replicate 24 0)
 ofFigures (solve n a) =
-    call 0 (0 ∷ n ∷ a .lowest ∷ a .highest ∷ a .total ∷ a .quotient ∷ a .remainder ∷ 0 ∷ map (λ (k : ℕ). getD (a .meetings) k 0) (range 0 16))
+    call 0 (0 ∷ n ∷ a .lowest ∷ a .highest ∷ a .total ∷ a .quotient ∷ a .remainder ∷ 0 ∷ map (λ (k : ℕ). getD (a .meetings) k 0) (range 0 MAX-PREFERENCES))
 
 abbrev pub ofWeek : Week.Answer → Call
 ofWeek (Week.given x) = ofFigures x

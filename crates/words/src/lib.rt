@@ -3,6 +3,7 @@ ghost use mathlib.Core.Path.{_≡_};
 ghost use Prim.Native.Nat.{_<_};
 ghost use lib.ListN.{getD, take};
 ghost use Rattle.task.specs.Answers.{answer as ofChecked};
+ghost use Rattle.task.specs.Limits.{MAX-PREFERENCES};
 ghost use Rattle.plan.specs.Answers.{asVerdict, walkedAs};
 ghost use Rattle.settling.specs.Answers.{settledAs};
 ghost use Rattle.plan.specs.declared.Verdict.the-variants.{Solved};
@@ -26,6 +27,7 @@ use settling::Settled;
 use settling::Worth;
 use task::Checked;
 use task::Refusal;
+use task::limits;
 use weekly::Amounts;
 use weekly::Figures;
 use weekly::Reckoned;
@@ -152,8 +154,8 @@ pub fn put_settled(s: Settled, answer: &mut [u64; 8]) -> u32
 }
 
 // How many plans meet preference k, of so many preferences; 0 where there is none.
-fn count_at(meeting: &[u64; 16], preferences: usize, k: usize) -> u64
-    requires { ⌜ k < 16 ⌝ }
+fn count_at(meeting: &[u64; limits::MAX_PREFERENCES], preferences: usize, k: usize) -> u64
+    requires { ⌜ k < MAX-PREFERENCES ⌝ }
     ensures { λ r. ⌜ r ≡ getD (take preferences (now (meeting .entry))) k 0 ⌝ }
 {
     if k < preferences {
@@ -162,7 +164,7 @@ fn count_at(meeting: &[u64; 16], preferences: usize, k: usize) -> u64
     0
 }
 
-fn put_amounts(a: Amounts, meeting: [u64; 16], answer: &mut [u64; 24]) -> u32
+fn put_amounts(a: Amounts, meeting: [u64; limits::MAX_PREFERENCES], answer: &mut [u64; 24]) -> u32
     ensures { λ r. ⌜ call r (now (answer .exit)) ≡ ofWeek (figuresAs (Solve a) meeting) ⌝ }
 {
     let n = a.preferences;

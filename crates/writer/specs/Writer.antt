@@ -13,17 +13,22 @@ use Rattle.writer.specs.declared.Cursor.{Cursor}
 use Rattle.task.specs.Limits.{MAX-ROWS}
 
 -- one row more than a file may have: a count that has come this far stays
-abbrev pub TOO-MANY : ℕ
-TOO-MANY = 12001
+abbrev pub OVERFULL : ℕ
+OVERFULL = MAX-ROWS + 1
 
 -- the row after m rows that begin at row i
 abbrev pub rowAfter : ℕ → ℕ → ℕ
-rowAfter i m = i + min m (TOO-MANY - i)
+rowAfter i m = i + min m (OVERFULL - i)
 
 -- the area has room for the rows that the cursor says
 pub record Room (c : Cursor) (out : List ℕ) : Type 0 where
   pub few : c .rows ≤ MAX-ROWS
   pub long : 8 + 5 * c .rows ≤ length out
+
+-- rows that are written already
+pub record Earlier (c : Cursor) (s : Span) : Type 0 where
+  pub ordered : s .from ≤ s .to
+  pub before : s .to ≤ c .next
 
 -- the mark of row i stands at 8 + i, the four bytes of its value from 8 + n + 4 i on; from row n on nothing is put
 unfoldable pub putRow : List ℕ → ℕ → ℕ → ℕ → ℕ → List ℕ

@@ -9,12 +9,13 @@ ghost use Rattle.task.specs.TaskRows.{Row, row};
 ghost use Rattle.task.specs.File.{bytes16, bytes32};
 ghost use Rattle.task.specs.Rows.{Rows};
 ghost use Rattle.layout.specs.Sides.{part};
-ghost use Rattle.writer.specs.Writer.{rowAfter, putRow, putRows, Room, Wrote, Standing, header};
+ghost use Rattle.writer.specs.Writer.{rowAfter, putRow, putRows, Room, Wrote, Standing, header, Earlier};
 use layout::sides::Span;
+use task::limits;
 use task::marks;
 
 // One row more than a file may have: a count that has come this far stays, and every loop that counts ends.
-pub const TOO_MANY: usize = 12001;
+pub const OVERFULL: usize = limits::MAX_ROWS + 1;
 
 // Where the next row goes: row `next` of a file that has room for so many rows.
 pub struct Cursor {
@@ -23,7 +24,7 @@ pub struct Cursor {
 }
 
 // Writes a number's four bytes, the lowest first.
-fn put_word(out: &mut [u8], k: usize, v: u32)
+fn put_u32(out: &mut [u8], k: usize, v: u32)
     requires { ⌜ k + 4 ≤ length (now out) ⌝ }
     ensures { λ r. ⌜ now (out .exit) ≡ sets (now (out .entry)) k (bytes32 v) ⌝ }
 {
@@ -42,7 +43,7 @@ fn store_row(out: &mut [u8], c: Cursor, mark: u8, value: u32)
     let at = 8 + i;
     out[at] = mark;
     let k = 8 + c.rows + 4 * i;
-    put_word(&mut *out, k, value);
+    put_u32(&mut *out, k, value);
 }
 
 // The cursor after one row.
@@ -50,7 +51,7 @@ fn advance(c: Cursor) -> Cursor
     ensures { λ r. ⌜ (r .rows ≡ c .rows) × (r .next ≡ rowAfter (c .next) 1) ⌝ }
 {
     let rows = c.rows;
-    if c.next < TOO_MANY {
+    if c.next < OVERFULL {
         return Cursor {
             rows,
             next: c.next + 1,
@@ -65,13 +66,13 @@ pub fn advance_by(c: Cursor, many: usize) -> Cursor
 {
     let rows = c.rows;
     let next = c.next;
-    if TOO_MANY <= next {
+    if OVERFULL <= next {
         return c;
     }
-    if TOO_MANY - next <= many {
+    if OVERFULL - next <= many {
         return Cursor {
             rows,
-            next: TOO_MANY,
+            next: OVERFULL,
         };
     }
     Cursor {
@@ -157,7 +158,7 @@ fn repeat_bytes(out: &mut [u8], at: usize, from: usize, many: usize)
 
 // Writes rows of the file once more, for the first of which there is room.
 fn store_again(out: &mut [u8], c: Cursor, s: Span)
-    requires { ⌜ (c .next < c .rows) × Room c (now out) × (s .from ≤ s .to) × (s .to ≤ c .next) ⌝ }
+    requires { ⌜ (c .next < c .rows) × Room c (now out) × Earlier c s ⌝ }
     ensures { λ r. ⌜ ((xs : List Row) → Standing (now (out .entry)) (c .rows) s xs → now (out .exit) ≡ putRows (now (out .entry)) (c .rows) (c .next) xs) ⌝ }
 {
     let i = c.next;
@@ -170,7 +171,7 @@ fn store_again(out: &mut [u8], c: Cursor, s: Span)
 
 // Writes rows again that were written before.
 pub fn repeat_rows(out: &mut [u8], c: Cursor, s: Span) -> Cursor
-    requires { ⌜ Room c (now out) × (s .from ≤ s .to) × (s .to ≤ c .next) ⌝ }
+    requires { ⌜ Room c (now out) × Earlier c s ⌝ }
     ensures { λ r. ⌜ ((xs : List Row) → Standing (now (out .entry)) (c .rows) s xs → Wrote (now (out .entry)) c xs r (now (out .exit))) ⌝ }
 {
     let many = s.to - s.from;

@@ -12,7 +12,7 @@ put-closed-requires-2 c κs =
     let w = x .before .before .before .before in
     let v = w .before .before .before .before in
     let u = v .before .before .before .before in
-    (y .put-forgone .ensures .room, u .before .before .before .pre .2)
+    (y .put-forgone .ensures .room, u .before .before .before .pre .1 .small)
 
 same-length : tie.Need-same-length
 same-length c =

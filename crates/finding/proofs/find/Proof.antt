@@ -1,19 +1,18 @@
 -- The answer is that of `searchFile`: a refusal or the search on the two parts of the file, by `Answered`.
 use borrow.Author.Needs.{needs}
-use mathlib.Core.Path.{_≡_, refl, sym, ap, _∙_}
+use mathlib.Core.Path.{_≡_, refl, _∙_}
 use mathlib.Core.Bool.{true}
 use mathlib.Core.List.{List}
-use Prim.Native.Nat.{ℕ, _+_, _*_, _≤_}
+use Prim.Native.Nat.{ℕ}
 use denote.Ref.{now}
-use lib.ListN.{length}
 use borrow.Author.Tests.{eq-eqb, not-true, not-false}
 use Rattle.lists.proofs.Tests.{as-T}
 use Rattle.task.specs.File.{taskOf}
 use Rattle.task.specs.Check
 use Rattle.task.specs.Check.{check}
 use Rattle.task.specs.declared.Sizes.{Sizes}
-use Rattle.task.specs.Answers.{answer as checked, asSizes}
-use Rattle.task.proofs.Answered.{lengths}
+use Rattle.task.specs.Answers.{asSizes}
+use Rattle.task.proofs.Answered.{Limited, answered}
 use Rattle.layout.specs.Rows.{Spells}
 use Rattle.layout.proofs.Parts.{marksOf, valuesOf, parts-rows, parts-spelled}
 use Rattle.searching.specs.Search.{explore}
@@ -33,12 +32,8 @@ told n = n .before .before .before
 abbrev begun : tie.After-check → tie.Start
 begun k = k .before .before .before .before
 
--- the file's length by its rows, of which there are few
-parts : (c : tie.After-known-told)
-    → (length (now (begun (told c) .args .file)) ≡ 8 + 5 * c .before .c .given .0 .0 .rows) × (c .before .c .given .0 .0 .rows ≤ 12000)
-parts c =
-    let k = told c in
-    lengths (now (begun k .args .file)) (asSizes (c .before .c .given .0 .0)) (sym (k .check .ensures) ∙ ap checked (c .before .c .given .1))
+parts : (c : tie.After-known-told) → Limited (now (begun (told c) .args .file)) (asSizes (c .before .c .given .0 .0))
+parts c = let k = told c in answered (now (begun k .args .file)) (k .check .result) (k .check .ensures) (c .before .c .given .0 .0) (c .before .c .given .1)
 
 returns : tie.Need-returns
 returns c =

@@ -5,7 +5,10 @@ use mathlib.Core.Path.{ap}
 use Prim.Native.Nat.{ℕ, _+_}
 use denote.Ref.{now}
 use Rattle.meaning.specs.Meaning.{actionAt}
-use Rattle.leading.proofs.Leading.{nowhere, its-effects, led-to}
+use Rattle.state.specs.Member.{member}
+use Rattle.node_words.specs.Words.{stateOf}
+use Rattle.monitors.proofs.TaskRead.{its-effects}
+use Rattle.leading.proofs.Leading.{nowhere, led-to}
 use Rattle.leading.proofs.lead.Statement.{statement}
 use Rattle.leading.proofs.lead.Tie as tie
 
@@ -22,7 +25,7 @@ after-requires c κs =
     let a = b .args in
     let t = b .pre .1 .0 in
     let k = b .pre .1 .1 in
-    (search needs, (actionAt t k, its-effects (now (a .marks)) (now (a .values)) (a .from) t k (b .pre .1 .2) (a .x) (n .condition .result) (n .condition .ensures .0)))
+    (search needs, (actionAt t k, its-effects (now (a .marks)) (now (a .values)) (a .from) t k (b .pre .1 .2) (member (stateOf (a .x))) (n .condition .result) (n .condition .ensures .0)))
 
 returns-2 : tie.Need-returns-2
 returns-2 c = λ t k A.

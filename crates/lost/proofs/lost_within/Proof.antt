@@ -1,13 +1,13 @@
 -- A refusal of the list, or the list followed on the two parts of the file, by `Losing`.
 use borrow.Author.Needs.{needs}
-use mathlib.Core.Path.{_≡_, ap, _∙_}
+use mathlib.Core.Path.{ap, _∙_}
 use Prim.Native.Nat.{_+_, _*_, _≤_}
 use native.Mathlib.Omega.{arith}
 use denote.Ref.{now}
-use lib.ListN.{length}
 use Rattle.task.specs.File.{taskOf}
 use Rattle.task.specs.Answers.{asSizes}
-use Rattle.task.proofs.Answered.{lengths}
+use Rattle.task.specs.Limits.{MAX-ACTIONS}
+use Rattle.task.proofs.Answered.{Limited, limited}
 use Rattle.layout.proofs.Parts.{parts-rows}
 use Rattle.lost_run.specs.Run.{runAs}
 use Rattle.lost.specs.Answered.{refused}
@@ -15,14 +15,16 @@ use Rattle.lost.proofs.Losing.{accepted, few-actions, too-long, unknown
 use Rattle.lost.proofs.lost_within.Statement.{statement}
 use Rattle.lost.proofs.lost_within.Tie as tie
 
--- the file's length by its rows, of which there are few, and the translation's actions, which are few too
+-- the translation's actions are few, too
 parts : (c : tie.Else1) → let a = c .before .before .before .args in
-    (length (now (a .file)) ≡ 8 + 5 * a .z .rows) × (a .z .rows ≤ 12000) × (a .z .actions + 2 * a .z .preferences + 1 ≤ 128)
+    Limited (now (a .file)) (asSizes (a .z)) × (a .z .actions + 2 * a .z .preferences + 1 ≤ MAX-ACTIONS)
 parts c =
     let b = c .before .before .before in
     let a = b .args in
-    let l = lengths (now (a .file)) (asSizes (a .z)) (accepted (now (a .file)) (now (a .steps)) (asSizes (a .z)) (b .pre)) in
-    (l .0, l .1, few-actions (now (a .file)) (now (a .steps)) (asSizes (a .z)) (b .pre))
+    let file = now (a .file) in
+    let steps = now (a .steps) in
+    let z = asSizes (a .z) in
+    (limited file z (accepted file steps z (b .pre)), few-actions file steps z (b .pre))
 
 returns : tie.Need-returns
 returns c =
@@ -55,10 +57,10 @@ part-run-list-end : tie.Need-part-run-list-end
 part-run-list-end c = let h = parts (c .before .before .before .before .before) in search needs
 
 sub-run-list-2 : tie.Need-sub-run-list-2
-sub-run-list-2 c = let h = parts (c .before .before .before .before .before .before) in search needs
+sub-run-list-2 c = let s = c .before .before in let h = parts (s .before .before .before .before) in search needs
 
 part-run-list-start-2 : tie.Need-part-run-list-start-2
-part-run-list-start-2 c = let h = parts (c .before .before .before .before .before .before) in search needs
+part-run-list-start-2 c = let s = c .before .before in let h = parts (s .before .before .before .before) in search needs
 
 run-list-requires : tie.Need-run-list-requires
 run-list-requires c κs =

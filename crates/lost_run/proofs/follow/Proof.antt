@@ -6,7 +6,7 @@ use native.Mathlib.Omega.{arith}
 use denote.Ref.{now}
 use lib.ListN.{length}
 use Rattle.meaning.specs.Task.{Task}
-use Rattle.settling.specs.Amounts.{AMPLE}
+use Rattle.layout.specs.Counting.{AMPLE}
 use Rattle.lost_run.specs.Run.{TakenAs, Little, Setting, Opens}
 use Rattle.lost_run.proofs.Following.{Running, begins, ends, stops, goes-on}
 use Rattle.lost_run.proofs.follow.Statement.{statement}

@@ -14,7 +14,7 @@ use Rattle.layout.specs.Actions.{actionsFrom, AllBelow}
 use Rattle.layout.specs.Sides.{startsFrom}
 use Rattle.layout.proofs.ActionRows.{within-rows, as-many, noted}
 use Rattle.monitor.proofs.Packing.{fresh-at}
-use Rattle.plan.proofs.TaskRead.{opening-read, preferences-read}
+use Rattle.monitors.proofs.TaskRead.{opening-read, preferences-read}
 use Rattle.lost_run.specs.Run.{Rules, Setting, Opens, Source}
 use Rattle.lost_run.proofs.Noting.{noted-rules}
 use Rattle.lost_run.proofs.run_list.Statement.{statement}
@@ -88,7 +88,8 @@ follow-requires c κs =
 
 returns : tie.Need-returns
 returns c = λ t S.
-    let g = begun (c .before .before .before .before .before .before .before .before) t S in
+    let s = c .before .before .before .before .before .before .before .before in
+    let g = begun s t S in
     c .before .follow .ensures t (g .0) (g .1)
 
 pub run-list-spec : {M : Type 1} → statement M

@@ -1,8 +1,6 @@
 -- One state more, kind by kind.
 use mathlib.Core.Path.{subst}
-use Prim.Native.Nat.{ℕ, _<_}
-use native.Mathlib.Omega.{arith}
-use lib.Dec.{T, leb, leb→le}
+use lib.Dec.{T, leb→le}
 use borrow.Author.Needs.{needs}
 use Rattle.task.specs.Spelling.{kindSpellable}
 use Rattle.task.specs.Answers.{asKind}
@@ -11,14 +9,11 @@ use Rattle.monitor.proofs.stepped.Statement.{statement}
 use Rattle.monitor.proofs.stepped.Tie as tie
 use Rattle.task.specs.Limits.{MAX-DEADLINE}
 
-few : (t : ℕ) → T (leb t MAX-DEADLINE) → t < 16
-few t h = omega (arith, leb→le t MAX-DEADLINE h)
-
 older-requires : tie.Need-older-requires
-older-requires c κs = (few _ (subst (λ (k : Kind). T (kindSpellable (asKind k))) (c .before .kind .given .1) (search needs)), search needs)
+older-requires c κs = record { few = leb→le _ MAX-DEADLINE (subst (λ (k : Kind). T (kindSpellable (asKind k))) (c .before .kind .given .1) (search needs)); short = search needs }
 
 waiting-requires : tie.Need-waiting-requires
-waiting-requires c κs = (few _ (subst (λ (k : Kind). T (kindSpellable (asKind k))) (c .before .kind2 .given .1) (search needs)), search needs)
+waiting-requires c κs = record { few = leb→le _ MAX-DEADLINE (subst (λ (k : Kind). T (kindSpellable (asKind k))) (c .before .kind2 .given .1) (search needs)); short = search needs }
 
 returns : tie.Need-returns
 returns c = (rw (c .enum-told .given .1), search needs)

@@ -1,21 +1,19 @@
 -- What check answers says which way is taken: a refusal by `turned-down`, preferences by `has-preferences`, else the texts by `texts-put`.
-use mathlib.Core.Path.{_≡_, _∙_}
-use Prim.Native.Nat.{_+_, _*_, _≤_}
+use mathlib.Core.Path.{_∙_}
 use native.Mathlib.Omega.{arith}
 use denote.Ref.{now}
-use lib.ListN.{length, length-take, length-drop}
-use Rattle.pddl_text.proofs.Answering.{turned-down, parts, few-facts, spelled, has-preferences, texts-put}
+use lib.ListN.{length-take, length-drop}
+use Rattle.task.specs.Answers.{asSizes}
+use Rattle.task.proofs.Answered.{Limited, answered}
+use Rattle.pddl_text.proofs.Answering.{turned-down, spelled, has-preferences, texts-put}
 use borrow.Author.Needs.{needs}
 use Rattle.pddl_text.proofs.write.Statement.{statement}
 use Rattle.pddl_text.proofs.write.Tie as tie
 
--- the file's length by its rows, of which there are few
-sized : (n : tie.After-known-told) → let f = now (n .before .before .before .before .before .before .before .args .file) in
-    (length f ≡ 8 + 5 * n .before .c .given .0 .0 .rows) × (n .before .c .given .0 .0 .rows ≤ 12000)
+sized : (n : tie.After-known-told) → let k = n .before .before .before in Limited (now (k .before .before .before .before .args .file)) (asSizes (n .before .c .given .0 .0))
 sized n =
     let k = n .before .before .before in
-    let a = k .before .before .before .before .args in
-    parts (now (a .file)) (n .before .c .given .1) (k .check .ensures)
+    answered (now (k .before .before .before .before .args .file)) (k .check .result) (k .check .ensures) (n .before .c .given .0 .0) (n .before .c .given .1)
 
 returns : tie.Need-returns
 returns c =
@@ -53,7 +51,7 @@ put-texts-requires c κs =
     let a = k .before .before .before .before .args in
     let h = sized n in (
       record { few = simp (length-take, length-drop) (omega arith); values = simp (length-take, length-drop) (omega arith) },
-      few-facts (now (a .file)) (n .before .c .given .1) (k .check .ensures),
+      h .few-facts,
       spelled (now (a .file)) (n .before .c .given .1) (k .check .ensures),
     )
 

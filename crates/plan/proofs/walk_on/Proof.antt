@@ -1,13 +1,11 @@
 -- The answer is that of `walked` on an accepted file: a refusal or the run on the two parts of the file, by `Walking`.
 use borrow.Author.Needs.{needs}
-use mathlib.Core.Path.{_≡_, ap, _∙_}
-use Prim.Native.Nat.{_+_, _*_, _≤_}
+use mathlib.Core.Path.{ap, _∙_}
 use native.Mathlib.Omega.{arith}
 use denote.Ref.{now}
-use lib.ListN.{length}
 use Rattle.task.specs.File.{taskOf}
 use Rattle.task.specs.Answers.{asSizes}
-use Rattle.task.proofs.Answered.{lengths}
+use Rattle.task.proofs.Answered.{Limited, limited}
 use Rattle.layout.proofs.Parts.{parts-rows, parts-spelled}
 use Rattle.plan.specs.Answers.{walkedAs}
 use Rattle.plan.specs.Walked.{refused}
@@ -15,9 +13,8 @@ use Rattle.plan.proofs.Walking.{too-long, unknown, actions-fit, run-on}
 use Rattle.plan.proofs.walk_on.Statement.{statement}
 use Rattle.plan.proofs.walk_on.Tie as tie
 
--- the file's length by its rows, of which there are few
-parts : (b : tie.Start) → (length (now (b .args .file)) ≡ 8 + 5 * b .args .z .rows) × (b .args .z .rows ≤ 12000)
-parts b = lengths (now (b .args .file)) (asSizes (b .args .z)) (b .pre)
+parts : (b : tie.Start) → Limited (now (b .args .file)) (asSizes (b .args .z))
+parts b = limited (now (b .args .file)) (asSizes (b .args .z)) (b .pre)
 
 returns : tie.Need-returns
 returns c =
@@ -34,26 +31,30 @@ returns-2 c =
     ∙ ap (refused 11) (s .steps-known .ensures)
     ∙ unknown (now (a .file)) (now (a .plan)) (a .z) (b .pre) (search needs) (omega (arith, c .before .if2 .taken, s .steps-known .ensures))
 
+-- from where the run is called
+abbrev start : tie.After-struct-known → tie.Start
+start c = c .before .before .before .before .before .before
+
 add-middle : tie.Need-add-middle
-add-middle c = let h = parts (c .before .before .before .before .before .before) in search needs
+add-middle c = let h = parts (start c) in search needs
 
 sub-run : tie.Need-sub-run
-sub-run c = let h = parts (c .before .before .before .before .before .before) in search needs
+sub-run c = let h = parts (start c) in search needs
 
 part-run-start : tie.Need-part-run-start
-part-run-start c = let h = parts (c .before .before .before .before .before .before) in search needs
+part-run-start c = let h = parts (start c) in search needs
 
 part-run-end : tie.Need-part-run-end
-part-run-end c = let h = parts (c .before .before .before .before .before .before) in search needs
+part-run-end c = let h = parts (start c) in search needs
 
 sub-run-2 : tie.Need-sub-run-2
-sub-run-2 c = let h = parts (c .before .before .before .before .before .before .before) in search needs
+sub-run-2 c = let h = parts (start (c .before)) in search needs
 
 part-run-start-2 : tie.Need-part-run-start-2
-part-run-start-2 c = let h = parts (c .before .before .before .before .before .before .before) in search needs
+part-run-start-2 c = let h = parts (start (c .before)) in search needs
 
 part-run-end-2 : tie.Need-part-run-end-2
-part-run-end-2 c = let h = parts (c .before .before .before .before .before .before .before) in search needs
+part-run-end-2 c = let h = parts (start (c .before)) in search needs
 
 run-requires : tie.Need-run-requires
 run-requires c κs =

@@ -9,7 +9,7 @@ use Rattle.text.specs.Area.{written as put}
 use Rattle.plan_text.specs.Outcomes.{readOutcome, stepsIn}
 use Rattle.outcome.specs.Answers.{answer}
 use Rattle.outcome.proofs.Outcomes.{turned-down}
-use Rattle.plan_text.proofs.Answering.{put-whole, front-put, too-many, too-small, roomy, bad-line, by-size, steps-found, line-below}
+use Rattle.plan_text.proofs.Answering.{put-whole, front-put, too-many, too-small, roomy, faulty-line, by-size, steps-found, line-below}
 use borrow.Author.Needs.{needs}
 use Rattle.plan_text.proofs.read_through.Statement.{statement}
 use Rattle.plan_text.proofs.read_through.Tie as tie
@@ -29,7 +29,7 @@ returns c =
     let k = b .before .before .before in
     let a = k .before .before .before .before .before .args in
     turned-down (stepsIn (now (a .text))) (now (a .out)) (readOutcome (now (a .text)) (length (now (a .out)))) (answer (c .refuse .result)) 12 (k .fill .result .line)
-    (c .refuse .ensures) (bad-line (now (a .text)) (length (now (a .out))) (search needs) (k .fill .result) (k .fill .ensures .1 .0)
+    (c .refuse .ensures) (faulty-line (now (a .text)) (length (now (a .out))) (search needs) (k .fill .result) (k .fill .ensures .1 .0)
     (sym (b .between-lines .ensures) ∙ not-true (b .between-lines .result) (c .before .before .if1 .taken)))
 
 returns-2 : tie.Need-returns-2

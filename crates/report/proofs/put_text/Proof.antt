@@ -1,12 +1,11 @@
 -- A refused file has no text (on-refused of Answering); of an accepted one the two parts give the task's text (on-accepted).
 use mathlib.Core.Path.{_≡_, sym, ap, _∙_}
-use Prim.Native.Nat.{_+_, _*_, _≤_}
 use native.Mathlib.Omega.{arith}
-use lib.ListN.{length, length-take, length-drop}
+use lib.ListN.{length-take, length-drop}
 use denote.Ref.{now}
 use Rattle.task.specs.Check.{check, accepted}
 use Rattle.task.specs.Answers.{answer as checked, asSizes}
-use Rattle.task.proofs.Answered.{lengths}
+use Rattle.task.proofs.Answered.{Limited, limited}
 use Rattle.text.proofs.Writing.{from-start}
 use Rattle.report.proofs.Answering.{on-accepted, on-refused}
 use borrow.Author.Needs.{needs}
@@ -14,13 +13,11 @@ use Rattle.report.proofs.put_text.Statement.{statement}
 use Rattle.report.proofs.put_text.Tie as tie
 
 -- where the file was accepted
-was-accepted : (c : tie.After-c) → check (now (c .before .before .before .before .before .before .args .file)) ≡ accepted (asSizes (c .c .given .0 .0))
+was-accepted : (c : tie.After-c) → let s = c .before .before .before .before .before .before in check (now (s .args .file)) ≡ accepted (asSizes (c .c .given .0 .0))
 was-accepted c = sym (c .before .before .check .ensures) ∙ ap checked (c .c .given .1)
 
--- the file's length by its rows, of which there are few
-parts : (c : tie.After-c) → (length (now (c .before .before .before .before .before .before .args .file)) ≡ 8 + 5 * c .c .given .0 .0 .rows)
-    × (c .c .given .0 .0 .rows ≤ 12000)
-parts c = let s = c .before .before .before .before .before .before in lengths (now (s .args .file)) (asSizes (c .c .given .0 .0)) (was-accepted c)
+parts : (c : tie.After-c) → let s = c .before .before .before .before .before .before in Limited (now (s .args .file)) (asSizes (c .c .given .0 .0))
+parts c = let s = c .before .before .before .before .before .before in limited (now (s .args .file)) (asSizes (c .c .given .0 .0)) (was-accepted c)
 
 returns : tie.Need-returns
 returns c =

@@ -11,15 +11,6 @@ use borrow.Author.Needs.{needs}
 use Rattle.route_rules.proofs.route_rules_search.Statement.{statement}
 use Rattle.route_rules.proofs.route_rules_search.Tie as tie
 
-search-requires : tie.Need-search-requires
-search-requires c κs = search needs
-
-put-sought-requires : tie.Need-put-sought-requires
-put-sought-requires c κs = search needs
-
-same-length : tie.Need-same-length
-same-length c = search needs
-
 returns : tie.Need-returns
 returns c =
     let k = c .before .before .before .before in
@@ -34,4 +25,4 @@ returns c =
 
 pub route-rules-search-spec : {M : Type 1} → statement M
 route-rules-search-spec =
-    tie.close (tie.spec search-requires put-sought-requires same-length returns)
+    tie.close (tie.spec (λ c κs. search needs) (λ c κs. search needs) (λ c. search needs) returns)

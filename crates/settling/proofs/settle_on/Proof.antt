@@ -3,12 +3,11 @@ use borrow.Author.Needs.{needs}
 use borrow.Author.Tests.{not-true, not-false}
 use mathlib.Core.Path.{_≡_, sym, _∙_}
 use mathlib.Core.Bool.{true}
-use Prim.Native.Nat.{_+_, _*_, _≤_}
+use Prim.Native.Nat.{_≤_}
 use denote.Ref.{now}
-use lib.ListN.{length}
 use Rattle.task.specs.Answers.{asSizes}
 use Rattle.task.specs.Limits.{MAX-COST}
-use Rattle.task.proofs.Answered.{lengths}
+use Rattle.task.proofs.Answered.{Limited, limited}
 use Rattle.layout.proofs.Parts.{parts-rows}
 use Rattle.state.specs.Member.{bit}
 use Rattle.settling.specs.Settled.{argumentsAllowed}
@@ -17,9 +16,8 @@ use Rattle.settling.proofs.Settling.{few, not-allowed, cost-allowed, wo
 use Rattle.settling.proofs.settle_on.Statement.{statement}
 use Rattle.settling.proofs.settle_on.Tie as tie
 
--- the file's length by its rows, of which there are few
-parts : (b : tie.Start) → (length (now (b .args .file)) ≡ 8 + 5 * b .args .z .rows) × (b .args .z .rows ≤ 12000)
-parts b = lengths (now (b .args .file)) (asSizes (b .args .z)) (b .pre)
+parts : (b : tie.Start) → Limited (now (b .args .file)) (asSizes (b .args .z))
+parts b = limited (now (b .args .file)) (asSizes (b .args .z)) (b .pre)
 
 -- the arguments are allowed
 fine : (s : tie.Else1) → let a = s .before .before .before .args in argumentsAllowed (a .z .preferences) (a .cost) (bit (a .met)) ≡ true

@@ -1,25 +1,20 @@
 -- What single promises, by what check and find_wide answer: refused, or written as put_file does (`put`).
-use mathlib.Core.Path.{_≡_}
-use Prim.Native.Nat.{_+_, _*_, _≤_}
+use Prim.Native.Nat.{_≤_}
 use native.Mathlib.Omega.{arith}
 use denote.Ref.{now}
-use lib.ListN.{length, length-take, length-drop}
+use lib.ListN.{length-take, length-drop}
+use Rattle.task.specs.Answers.{asSizes}
+use Rattle.task.proofs.Answered.{Limited, answered}
 use Rattle.task.specs.File.{taskOf}
-use Rattle.single_effects.proofs.Answering.{turned-down, exact, within, lent, many, too-wide, narrow, put}
+use Rattle.single_effects.proofs.Answering.{turned-down, lent, many, too-wide, narrow, put}
 use borrow.Author.Needs.{needs}
 use Rattle.single_effects.proofs.single.Statement.{statement}
 use Rattle.single_effects.proofs.single.Tie as tie
 
--- the file's length by its rows, and its sizes within their limits
-parts : (c : tie.After-known-told) → let f = now (c .before .before .before .before .before .before .args .file) in let z = c .before .c .given .0 .0 in
-    (length f ≡ 8 + 5 * z .rows) × (z .rows ≤ 12000) × (1 ≤ z .facts) × (z .facts ≤ 128) × (z .actions ≤ 128) × (z .preferences ≤ 16)
+parts : (c : tie.After-known-told) → let k = c .before .before .before in Limited (now (k .before .before .before .args .file)) (asSizes (c .before .c .given .0 .0))
 parts c =
     let k = c .before .before .before in
-    let a = k .before .before .before .args in
-    let z = c .before .c .given .0 .0 in
-    let q = c .before .c .given .1 in
-    let w = within (now (a .file)) (now (a .out)) (k .check .result) (k .check .ensures) z q in
-    (exact (now (a .file)) (now (a .out)) (k .check .result) (k .check .ensures) z q, w .0, w .1, w .2, w .3, w .4)
+    answered (now (k .before .before .before .args .file)) (k .check .result) (k .check .ensures) (c .before .c .given .0 .0) (c .before .c .given .1)
 
 returns : tie.Need-returns
 returns c =
@@ -38,7 +33,7 @@ find-wide-requires : tie.Need-find-wide-requires
 find-wide-requires c κs = let h = parts (c .before .before) in simp (length-take, length-drop) (omega arith)
 
 cast-refuse : tie.Need-cast-refuse
-cast-refuse c = let h = parts (c .before .before .before .before .before .before .before) in search needs
+cast-refuse c = let w = c .before .before .before .before in let h = parts (w .before .before .before) in search needs
 
 returns-2 : tie.Need-returns-2
 returns-2 c =
@@ -49,23 +44,27 @@ returns-2 c =
     too-wide (now (a .file)) (now (a .out)) (k .check .result) (k .check .ensures) (n .before .c .given .0 .0) (n .before .c .given .1)
     (w .find-wide .result .wide) (w .find-wide .ensures .1) (search needs) (c .refuse .result) (c .refuse .ensures)
 
+-- where check's answer was taken apart, from where no effect has too many choices
+abbrev told : tie.Else1 → tie.After-known-told
+told e = e .before .before .before .before .before .before
+
 cast-facts : tie.Need-cast-facts
-cast-facts c = let h = parts (c .before .before .before .before .before .before .before) in search needs
+cast-facts c = let h = parts (told (c .before)) in search needs
 
 cast-actions : tie.Need-cast-actions
-cast-actions c = let h = parts (c .before .before .before .before .before .before .before .before) in search needs
+cast-actions c = let h = parts (told (c .before .before)) in search needs
 
 cast-preferences : tie.Need-cast-preferences
-cast-preferences c = let h = parts (c .before .before .before .before .before .before .before .before .before) in search needs
+cast-preferences c = let h = parts (told (c .before .before .before)) in search needs
 
 part-put-file-end : tie.Need-part-put-file-end
-part-put-file-end c = let h = parts (c .before .before .before .before .before .before .before .before .before .before) in search needs
+part-put-file-end c = let h = parts (told (c .before .before .before .before)) in search needs
 
 sub-put-file-2 : tie.Need-sub-put-file-2
-sub-put-file-2 c = let h = parts (c .before .before .before .before .before .before .before .before .before .before .before) in search needs
+sub-put-file-2 c = let h = parts (told (c .before .before .before .before .before)) in search needs
 
 part-put-file-start-2 : tie.Need-part-put-file-start-2
-part-put-file-start-2 c = let h = parts (c .before .before .before .before .before .before .before .before .before .before .before) in search needs
+part-put-file-start-2 c = let h = parts (told (c .before .before .before .before .before)) in search needs
 
 put-file-requires : tie.Need-put-file-requires
 put-file-requires c κs =

@@ -1,11 +1,12 @@
 -- A task that can't be translated is refused as translating it is; else the text decides, and the whole way of it is returned: Returning.
 use borrow.Author.Needs.{needs}
 use mathlib.Core.Path.{refl, sym, ap, _∙_}
+use mathlib.Core.Bool.{true≢false}
 use denote.Ref.{now}
 use lib.ListN.{length}
 use Rattle.task.specs.Answers.{asSizes}
 use Rattle.outcome.specs.Outcome.{refused, areaAfter}
-use Rattle.outcome.proofs.Outcomes.{not-written, turned-down}
+use Rattle.outcome.proofs.Outcomes.{turned-down}
 use Rattle.translation.specs.Measured.{measuredAs}
 use Rattle.source.specs.Source.{outcome, partIn}
 use Rattle.source.proofs.Returning.{turned-away, few-actions, on-text, part-is, returned}
@@ -49,7 +50,7 @@ returns-2 c =
     let old = now (a .out) in
     let away = turned-away b t (length old) (f .number) (f .place) (sym (k .measure .ensures) ∙ ap measuredAs (m .m2 .given .1)) in
     let both = turned-down (partIn b t) old (outcome b t (length old)) (refused (f .number) (f .place)) (f .number) (f .place) refl away in
-    (both .0, (both .1, λ n e. absurd (not-written (f .number) (f .place) n e)))
+    (both .0, (both .1, λ n e. absurd (true≢false (cc))))
 
 pub source-spec : {M : Type 1} → statement M
 source-spec =

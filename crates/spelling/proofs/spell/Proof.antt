@@ -1,24 +1,18 @@
 -- What spell promises, by what check answers: refused, or written as put_file does (`put`).
-use mathlib.Core.Path.{_≡_}
-use Prim.Native.Nat.{_+_, _*_, _≤_}
 use native.Mathlib.Omega.{arith}
 use denote.Ref.{now}
-use lib.ListN.{length, length-take, length-drop}
-use Rattle.spelling.proofs.Answering.{turned-down, exact, within, fewer, put}
+use lib.ListN.{length-take, length-drop}
+use Rattle.task.specs.Answers.{asSizes}
+use Rattle.task.proofs.Answered.{Limited, answered}
+use Rattle.spelling.proofs.Answering.{turned-down, fewer, put}
 use borrow.Author.Needs.{needs}
 use Rattle.spelling.proofs.spell.Statement.{statement}
 use Rattle.spelling.proofs.spell.Tie as tie
 
--- the file's length by its rows, and its sizes within their limits
-parts : (c : tie.After-known-told) → let f = now (c .before .before .before .before .before .before .args .file) in let z = c .before .c .given .0 .0 in
-    (length f ≡ 8 + 5 * z .rows) × (z .rows ≤ 12000) × (1 ≤ z .facts) × (z .facts ≤ 128) × (z .actions ≤ 128) × (z .preferences ≤ 16)
+parts : (c : tie.After-known-told) → let k = c .before .before .before in Limited (now (k .before .before .before .args .file)) (asSizes (c .before .c .given .0 .0))
 parts c =
     let k = c .before .before .before in
-    let a = k .before .before .before .args in
-    let z = c .before .c .given .0 .0 in
-    let q = c .before .c .given .1 in
-    let w = within (now (a .file)) (now (a .out)) (k .check .result) (k .check .ensures) z q in
-    (exact (now (a .file)) (now (a .out)) (k .check .result) (k .check .ensures) z q, w .0, w .1, w .2, w .3, w .4)
+    answered (now (k .before .before .before .args .file)) (k .check .result) (k .check .ensures) (c .before .c .given .0 .0) (c .before .c .given .1)
 
 returns : tie.Need-returns
 returns c =
@@ -42,11 +36,15 @@ cast-preferences c = let h = parts (c .before .before .before .before) in search
 part-put-file-end : tie.Need-part-put-file-end
 part-put-file-end c = let h = parts (c .before .before .before .before .before) in search needs
 
+-- where check's answer was taken apart, from where the file is put
+abbrev told : tie.After-put-file-arg2 → tie.After-known-told
+told c = c .before .before .before .before .before .before
+
 sub-put-file-2 : tie.Need-sub-put-file-2
-sub-put-file-2 c = let h = parts (c .before .before .before .before .before .before) in search needs
+sub-put-file-2 c = let h = parts (told c) in search needs
 
 part-put-file-start-2 : tie.Need-part-put-file-start-2
-part-put-file-start-2 c = let h = parts (c .before .before .before .before .before .before) in search needs
+part-put-file-start-2 c = let h = parts (told c) in search needs
 
 put-file-requires : tie.Need-put-file-requires
 put-file-requires c κs =

@@ -27,10 +27,10 @@ loop-holds : tie.Need-loop-holds Inv-loop μ-loop
 loop-holds c = record { rows-left = search needs; begun = search needs; numbered-below = search needs; same = refl }
 
 is-plain-requires : tie.Need-is-plain-requires Inv-loop μ-loop
-is-plain-requires c κs = (c .before .before .before .before .before .before .before .pre .1, search needs, search needs)
+is-plain-requires c κs = let b = c .before .before .before .before .before .before .before in (b .pre .1, search needs, search needs)
 
 next-requires : tie.Need-next-requires Inv-loop μ-loop
-next-requires c κs = (c .before .before .before .before .before .before .before .before .before .pre .1, search needs)
+next-requires c κs = let b = c .before .before .before .before .before .before .before .before .before in (b .pre .1, search needs)
 
 returns : tie.Need-returns Inv-loop μ-loop
 returns c =

@@ -14,10 +14,9 @@ returns : tie.Need-returns
 returns c =
     let s = c .before .before .before in
     let a = s .args in
-    let soft : opensSoft (a .mark) ≡ true = sym (c .before .before .opens-soft .ensures) ∙ c .before .if1 .taken in
-    (
+    let soft : opensSoft (a .mark) ≡ true = sym (c .before .before .opens-soft .ensures) ∙ c .before .if1 .taken in (
       sym (of-preference (a .facts) (a .w .floor) (a .mark) (a .value) soft),
-      (rw (ne-eqb (a .mark) START (s .pre .2), ne-eqb (a .mark) ACTION (s .pre .3), soft), (refl, search needs, search needs)),
+      (rw (ne-eqb (a .mark) START (s .pre .1), ne-eqb (a .mark) ACTION (s .pre .2), soft), (refl, search needs, search needs)),
     )
 
 returns-2 : tie.Need-returns-2
@@ -25,13 +24,15 @@ returns-2 c =
     let k = c .before .before .before in
     let s = k .before .before in
     let a = s .args in
-    let hard : opensSoft (a .mark) ≡ false = sym (k .before .opens-soft .ensures) ∙ k .if1 .left in
-    (
+    let hard : opensSoft (a .mark) ≡ false = sym (k .before .opens-soft .ensures) ∙ k .if1 .left in (
       c .value-allowed .ensures,
       (
         rw (
-          ne-eqb (a .mark) START (s .pre .2), ne-eqb (a .mark) ACTION (s .pre .3), hard,
-          c .before .counted .ensures, c .before .before .opens-hard .ensures,
+          ne-eqb (a .mark) START (s .pre .1),
+          ne-eqb (a .mark) ACTION (s .pre .2),
+          hard,
+          c .before .counted .ensures,
+          c .before .before .opens-hard .ensures,
         ),
         (refl, search needs, omega (arith, c .before .counted .ensures, count-le (c .before .before .opens-hard .result) (a .w .preferences))),
       ),

@@ -11,7 +11,7 @@ returns c =
     let st = c .before .before .before .before .before in
     let a = st .args in
     λ xs held. wrote-past (now (a .out)) (a .c) xs (c .advance-by .result) (st .pre .0) (search needs)
-    (c .advance-by .ensures .0, omega (arith, c .advance-by .ensures .1, held .counted, st .pre .1, st .pre .2))
+    (c .advance-by .ensures .0, omega (arith, c .advance-by .ensures .1, held .counted, st .pre .1 .ordered, st .pre .1 .before))
 
 returns-2 : tie.Need-returns-2
 returns-2 c =
@@ -20,7 +20,7 @@ returns-2 c =
     λ xs held. record {
       room = search needs;
       same = c .advance-by2 .ensures .0;
-      next = omega (arith, c .advance-by2 .ensures .1, held .counted, st .pre .1, st .pre .2);
+      next = omega (arith, c .advance-by2 .ensures .1, held .counted, st .pre .1 .ordered, st .pre .1 .before);
       file = w .store-again .ensures xs held;
     }
 

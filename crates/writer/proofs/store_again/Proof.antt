@@ -13,7 +13,7 @@ returns c =
     let st = f .before .before .before in
     let room = st .pre .1 in
     λ xs held. y .repeat-bytes2 .ensures
-    ∙ repeated held (st .args .c .next) (f .fitting .result) (st .pre .3) (st .pre .0) (room .few) (room .long) (f .fitting .ensures)
+    ∙ repeated held (st .args .c .next) (f .fitting .result) (st .pre .2 .before) (st .pre .0) (room .few) (room .long) (f .fitting .ensures)
     (x .repeat-bytes .last .0) (x .repeat-bytes .ensures)
 
 pub store-again-spec : {M : Type 1} → statement M

@@ -14,7 +14,7 @@ use Rattle.reading.proofs.OpeningRows.{opening-ends}
 use Rattle.layout.specs.Rows.{Spells}
 use Rattle.layout.specs.Actions.{actionsFrom, AllBelow}
 use Rattle.layout.proofs.ActionRows.{within-rows, as-many, noted}
-use Rattle.plan.proofs.TaskRead.{opening-read}
+use Rattle.monitors.proofs.TaskRead.{opening-read}
 use Rattle.expanding.specs.Expanding.{Listed}
 use Rattle.exploring.specs.Exploring.{Opened}
 use Rattle.finding.proofs.Begun.{held-none, opened}

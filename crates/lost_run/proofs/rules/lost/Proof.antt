@@ -24,9 +24,6 @@ loop-holds c =
 mul-rule-at : tie.Need-mul-rule-at Inv-loop μ-loop
 mul-rule-at c = let few = c .before .before .before .before .before .before .pre .1 .1 .few in search needs
 
-shared-slice-read-rule-at : tie.Need-shared-slice-read-rule-at Inv-loop μ-loop
-shared-slice-read-rule-at c = search needs
-
 rule-at-requires : tie.Need-rule-at-requires Inv-loop μ-loop
 rule-at-requires c κs =
     let l = c .before in
@@ -76,7 +73,7 @@ lost-spec =
     μ-loop
     loop-holds
     mul-rule-at
-    shared-slice-read-rule-at
+    (λ c. search needs)
     rule-at-requires
     (λ c κs. search needs)
     add-sum

@@ -5,23 +5,11 @@ use borrow.Author.Needs.{needs}
 use Rattle.lost_run.proofs.taking.close.Statement.{statement}
 use Rattle.lost_run.proofs.taking.close.Tie as tie
 
-closing-requires : tie.Need-closing-requires
-closing-requires c κs = search needs
-
 returns : tie.Need-returns
 returns c =
     let e = c .before .before .before in
     let a = e .before .args in
     (stays (a .x) (a .actions) (a .j) (a .p) (e .closing .result) (e .closing .ensures) (not-true _ (c .if1 .taken)), tt)
-
-paid-requires : tie.Need-paid-requires
-paid-requires c κs = search needs
-
-add-cost : tie.Need-add-cost
-add-cost c = search needs
-
-add-t8 : tie.Need-add-t8
-add-t8 c = search needs
 
 returns-2 : tie.Need-returns-2
 returns-2 c =
@@ -32,4 +20,4 @@ returns-2 c =
     (closes (a .x) (a .actions) (a .j) (a .p) (e .closing .result) (e .closing .ensures) (not-false _ (i .if1 .left)) (w .paid .result) (w .paid .ensures .0), search needs)
 
 pub close-spec : {M : Type 1} → statement M
-close-spec = tie.close (tie.spec closing-requires returns paid-requires add-cost add-t8 returns-2)
+close-spec = tie.close (tie.spec (λ c κs. search needs) returns (λ c κs. search needs) (λ c. search needs) (λ c. search needs) returns-2)

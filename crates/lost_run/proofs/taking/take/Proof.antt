@@ -8,8 +8,8 @@ use native.Mathlib.Omega.{arith}
 use denote.Ref.{now}
 use lib.ListN.{length, getD}
 use Rattle.meaning.specs.Task.{Task}
-use Rattle.plan.specs.Steps.{ActionAt}
-use Rattle.plan.proofs.TaskRead.{preferences-there}
+use Rattle.layout.specs.Actions.{ActionAt}
+use Rattle.monitors.proofs.TaskRead.{preferences-there}
 use Rattle.plan.proofs.Running.{known}
 use Rattle.lost_run.specs.Run.{Setting}
 use Rattle.lost_run.proofs.Leading.{beyond, Seen, ends, steps}

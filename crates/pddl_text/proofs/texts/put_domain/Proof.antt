@@ -1,6 +1,6 @@
 -- The words, the facts and the lines make the domain, by `domain-put`.
 use denote.Ref.{now}
-use Rattle.pddl_parts.specs.Puts.{stretch}
+use Rattle.pddl_parts.specs.Writing.{stretch}
 use Rattle.pddl_text.proofs.TextRows.{its-actions, domain-put}
 use borrow.Author.Needs.{needs}
 use Rattle.pddl_text.proofs.texts.put_domain.Statement.{statement}

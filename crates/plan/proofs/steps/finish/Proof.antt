@@ -2,7 +2,7 @@
 use borrow.Author.Needs.{needs}
 use borrow.Author.Tests.{not-true, not-false}
 use denote.Ref.{now}
-use Rattle.plan.proofs.TaskRead.{preferences-there}
+use Rattle.monitors.proofs.TaskRead.{preferences-there}
 use Rattle.plan.proofs.Finishing.{missed, rule-is, solved-is}
 use Rattle.plan.proofs.steps.finish.Statement.{statement}
 use Rattle.plan.proofs.steps.finish.Tie as tie

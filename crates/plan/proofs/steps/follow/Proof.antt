@@ -6,8 +6,9 @@ use native.Mathlib.Omega.{arith}
 use denote.Ref.{now}
 use lib.ListN.{length, getD}
 use Rattle.meaning.specs.Task.{Task}
-use Rattle.settling.specs.Amounts.{AMPLE}
-use Rattle.plan.specs.Steps.{stateOf, ActionAt, StepAnswer, Little, Start}
+use Rattle.layout.specs.Counting.{AMPLE}
+use Rattle.layout.specs.Actions.{ActionAt}
+use Rattle.plan.specs.Steps.{stateOf, StepAnswer, Little, Start}
 use Rattle.plan.specs.declared.steps.Moved.{Moved}
 use Rattle.plan.specs.declared.steps.Moved.the-variants.{To, Stopped}
 use Rattle.plan.proofs.Running.{Running, watched-ones, known, begins, ends, stops, goes-on}

@@ -15,7 +15,7 @@ use Rattle.layout.specs.Actions.{actionsFrom, AllBelow}
 use Rattle.monitor.proofs.Packing.{fresh-at}
 use Rattle.layout.proofs.ActionRows.{within-rows, as-many, noted}
 use Rattle.plan.specs.Steps.{Start}
-use Rattle.plan.proofs.TaskRead.{opening-read, preferences-read}
+use Rattle.monitors.proofs.TaskRead.{opening-read, preferences-read}
 use Rattle.plan.proofs.steps.run.Statement.{statement}
 use Rattle.plan.proofs.steps.run.Tie as tie
 
@@ -76,7 +76,7 @@ follow-requires c κs =
     )
 
 returns : tie.Need-returns
-returns c = λ t R. c .before .follow .ensures t (begun (c .before .before .before .before .before .before) t R)
+returns c = λ t R. let n = c .before .before .before .before .before .before in c .before .follow .ensures t (begun n t R)
 
 pub run-spec : {M : Type 1} → statement M
 run-spec =

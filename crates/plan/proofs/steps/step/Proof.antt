@@ -5,7 +5,10 @@ use mathlib.Core.Path.{ap}
 use Prim.Native.Nat.{ℕ, _+_}
 use denote.Ref.{now}
 use Rattle.meaning.specs.Meaning.{actionAt}
-use Rattle.plan.proofs.Stepping.{stopped, its-effects, led}
+use Rattle.state.specs.Member.{member}
+use Rattle.monitors.proofs.TaskRead.{its-effects}
+use Rattle.plan.specs.Steps.{stateOf}
+use Rattle.plan.proofs.Stepping.{stopped, led}
 use Rattle.plan.proofs.steps.step.Statement.{statement}
 use Rattle.plan.proofs.steps.step.Tie as tie
 
@@ -25,7 +28,7 @@ after-requires c κs =
     let a = b .args in
     let t = b .pre .1 .0 in
     let k = b .pre .1 .1 in
-    (search needs, (actionAt t k, its-effects (now (a .marks)) (now (a .values)) (a .from) t k (b .pre .1 .2) (a .p) (n .condition .result) (n .condition .ensures .0)))
+    (search needs, (actionAt t k, its-effects (now (a .marks)) (now (a .values)) (a .from) t k (b .pre .1 .2) (member (stateOf (a .p))) (n .condition .result) (n .condition .ensures .0)))
 
 returns-2 : tie.Need-returns-2
 returns-2 c =

@@ -62,10 +62,10 @@ add-at-line-2 : tie.Need-add-at-line-2 Inv-loop μ-loop
 add-at-line-2 c = let p = c .before .before .before .before .before .before .before .before .before .before .before .loop .inv .1 in search needs
 
 add-i : tie.Need-add-i Inv-loop μ-loop
-add-i c = let h = inside (c .before .before .before .before .before .before .before .before) in search needs
+add-i c = let f = c .before .before .before .before .before .before .before .before in let h = inside f in search needs
 
 loop-less : tie.Need-loop-less Inv-loop μ-loop
-loop-less c = let h = inside (c .before .before .before .before .before .before .before .before) in search needs
+loop-less c = let f = c .before .before .before .before .before .before .before .before in let h = inside f in search needs
 
 loop-again : tie.Need-loop-again Inv-loop μ-loop
 loop-again c =

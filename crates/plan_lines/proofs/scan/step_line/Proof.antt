@@ -3,6 +3,8 @@ use borrow.Author.Needs.{needs}
 use borrow.Author.Tests.{not-false}
 use mathlib.Core.Path.{_≡_, sym, _∙_}
 use mathlib.Core.Bool.{true}
+use mathlib.Core.List.{List}
+use Prim.Native.Nat.{ℕ}
 use native.Mathlib.Omega.{arith}
 use denote.Ref.{now}
 use lib.ListN.{getD}
@@ -24,16 +26,19 @@ returns-3 c = λ h. absurd (omega (arith, c .no-line3 .ensures))
 returns-4 : tie.Need-returns-4
 returns-4 c = λ h. absurd (omega (arith, c .no-line4 .ensures))
 
-digit : (c : tie.Else4) → isDigit (getD (now (c .before .before .before .before .before .before .before .before .before .args .t)) 2 0) ≡ true
+-- the text that is lent
+abbrev lent : tie.Else4 → List ℕ
+lent c = now (c .before .before .before .before .before .before .before .before .before .args .t)
+
+digit : (c : tie.Else4) → isDigit (getD (lent c) 2 0) ≡ true
 digit c = let d = c .before in sym (d .is-digit .ensures) ∙ not-false (d .is-digit .result) (c .if4 .left)
 
 sub-numbered-line : tie.Need-sub-numbered-line
-sub-numbered-line c = let s = digit-range (getD (now (c .before .before .before .before .before .before .before .before .before .args .t)) 2 0) (digit c) in omega (arith, s .0)
+sub-numbered-line c = let s = digit-range (getD (lent c) 2 0) (digit c) in omega (arith, s .0)
 
 numbered-line-requires : tie.Need-numbered-line-requires
 numbered-line-requires c κs =
-    let t = now (c .before .before .before .before .before .before .before .before .before .args .t) in
-    (search needs, opened t (search needs) (search needs) (search needs) (digit c))
+    (search needs, opened (lent c) (search needs) (search needs) (search needs) (digit c))
 
 pub step-line-spec : {M : Type 1} → statement M
 step-line-spec =

@@ -24,8 +24,8 @@ mark-all-requires : tie.Need-mark-all-requires
 mark-all-requires c κs = let h = ends c in search needs
 
 -- no more literals were looked at than rows were read
-few : (d : tie.After-mark-all2)
-    → d .before .before .before .before .before .before .before .args .g .looked + d .before .before .condition .result .looked ≤ d .mark-all2 .result .next
+few : (d : tie.After-mark-all2) → let s = d .before .before .before .before .before .before .before in
+    s .args .g .looked + d .before .before .condition .result .looked ≤ d .mark-all2 .result .next
 few d =
     let n = d .before .before in
     omega (

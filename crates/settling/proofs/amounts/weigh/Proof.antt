@@ -22,10 +22,10 @@ abbrev μ-loop : tie.MeasureT-loop
 μ-loop marks values met t₀ i₀ t i = length marks - i
 
 past-others-requires : tie.Need-past-others-requires Inv-loop μ-loop
-past-others-requires c κs = (search needs, c .before .before .pre .few)
+past-others-requires c κs = record { inside = search needs; few = c .before .before .pre .few }
 
 past-others-requires-2 : tie.Need-past-others-requires-2 Inv-loop μ-loop
-past-others-requires-2 c κs = (search needs, c .before .before .before .before .before .before .before .before .pre .few)
+past-others-requires-2 c κs = let b = c .before .before .before .before .before .before .before .before in record { inside = search needs; few = b .pre .few }
 
 loop-holds : tie.Need-loop-holds Inv-loop μ-loop
 loop-holds c =

@@ -44,7 +44,7 @@ returns c = λ e E.
 find-longest-requires : tie.Need-find-longest-requires Inv-loop μ-loop
 find-longest-requires c κs =
     let st = c .before .before .before .before .before in
-    (st .pre .2 .1 .condition .inside, st .pre .1 .few)
+    record { inside = st .pre .2 .1 .condition .inside; few = st .pre .1 .few }
 
 loop-holds : tie.Need-loop-holds Inv-loop μ-loop
 loop-holds c = λ e E. record { so-far = kept-none (search needs); onward = λ r o w. w }

@@ -83,11 +83,12 @@ value-at-requires c κs =
     omega (arith, t .inside, st .pre .0 .1 .values)
 
 put-single-requires : tie.Need-put-single-requires Inv-loop μ-loop
-put-single-requires c κs = here (c .before .before .before .before .before .before .before) .so-far .room
+put-single-requires c κs = let l = c .before .before .before .before .before .before .before in here l .so-far .room
 
 loop-less : tie.Need-loop-less Inv-loop μ-loop
 loop-less c =
-    let t = turned (c .before .before .before .before .before .before .before .before) in
+    let l = c .before .before .before .before .before .before .before .before in
+    let t = turned l in
     omega (arith, t .goes, t .within)
 
 loop-again : tie.Need-loop-again Inv-loop μ-loop

@@ -26,9 +26,6 @@ here : (c : tie.At-loop Inv-loop μ-loop) → let st = c .before .before .before
     Rewriting (now (a .out)) (a .c) (st .pre .1 .0) (now (a .marks)) (now (a .values)) (c .loop .from) (c .loop .i) (c .loop .out) (c .loop .k)
 here c = let st = c .before .before .before .before in c .loop .inv (st .pre .1 .0) (st .pre .1 .1)
 
-shape-of-requires : tie.Need-shape-of-requires Inv-loop μ-loop
-shape-of-requires c κs = search needs
-
 copy-rows-requires : tie.Need-copy-rows-requires Inv-loop μ-loop
 copy-rows-requires c κs =
     let l = c .before .before .before .before .before .before .before in
@@ -116,5 +113,5 @@ pub put-task-spec : {M : Type 1} → statement M
 put-task-spec =
     tie.close
     (tie.spec
-    Inv-loop μ-loop loop-holds (λ c. search needs) shape-of-requires loop-less loop-again copy-rows-requires put-effect-requires
+    Inv-loop μ-loop loop-holds (λ c. search needs) (λ c κs. search needs) loop-less loop-again copy-rows-requires put-effect-requires
     loop-less-2 loop-again-2 (λ c. search needs) (λ c. search needs) loop-again-3 copy-rows-requires-2 same-length returns)

@@ -36,8 +36,7 @@ loop-again c =
     let passed : g .four-others .result && f .four-others2 .result ≡ true = not-false (g .four-others .result && f .four-others2 .result) (c .if1 .left) in
     let both : T (g .four-others .result && f .four-others2 .result) = as-T passed in
     let first : NoEffects ms i (i + 4) = g .four-others .ensures (as-true (g .four-others .result) (search tests)) in
-    let second : NoEffects ms (i + 4) (i + 4 + 4) = f .four-others2 .ensures (as-true (f .four-others2 .result) (search tests)) in
-    (
+    let second : NoEffects ms (i + 4) (i + 4 + 4) = f .four-others2 .ensures (as-true (f .four-others2 .result) (search tests)) in (
       search needs,
       search needs,
       no-both ms (l .before .before .args .from) i (i + 8) (l .loop .inv .2)

@@ -50,10 +50,10 @@ put-fact-requires : tie.Need-put-fact-requires Inv-loop μ-loop
 put-fact-requires c κs = c .before .before .before .before .loop .inv .writing .so-far .room
 
 cast-rest : tie.Need-cast-rest Inv-loop μ-loop
-cast-rest c = let h = low (c .before .before .before .before .before .before) in search needs
+cast-rest c = let i = c .before .before .before .before .before .before in let h = low i in search needs
 
 shl-rest : tie.Need-shl-rest Inv-loop μ-loop
-shl-rest c = low (c .before .before .before .before .before .before)
+shl-rest c = let i = c .before .before .before .before .before .before in low i
 
 loop-less : tie.Need-loop-less Inv-loop μ-loop
 loop-less c =

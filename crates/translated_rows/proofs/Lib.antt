@@ -1,0 +1,3 @@
+pub mod FurtherRows
+pub mod PartRows
+pub mod TaskRows
