@@ -173,7 +173,7 @@ class Citations:
 
     def numbers(self, name):
         """Refusals and limits by name, as `name` finds them: their numbers are those of the definitions, and no refusal is left out."""
-        specs = [text_of(f'crates/task/specs/{file}.antt') for file in ('Refused', 'Limits')]
+        specs = [text_of('crates/task/specs/Refused.antt'), text_of('crates/task/specs/Limits.antt') + text_of('crates/searching/specs/Limits.antt')]
         refusals, limits = (dict(re.findall(r'^([A-Z-]+) = (\d+)$', text, re.M)) for text in specs)
         given = {label.replace('_', '-'): number.replace('_', '') for label, number in name.findall(self.text)}
         self.count += len(given)
