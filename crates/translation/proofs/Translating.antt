@@ -129,7 +129,7 @@ module _ (t : Task) (F A P D : ℕ) (facts : F ≡ t .facts) (acts : A ≡ lengt
 spelled-preferences : (t : Task) → T (spellable t) → T (all preferenceSpellable (t .preferences))
 spelled-preferences t s = search tests
 
--- Demand 3
+-- Faithfulness (demand 3)
 
 module _ (b area : List ℕ) (n : ℕ) where
   first-bytes : n ≡ 8 + 5 * compiledRows b → take n (compiled b ++ drop n area) ≡ compiled b
