@@ -1,0 +1,11 @@
+-- The loop counts the rows from `at` on, by the laws of a row automaton (`Reading`).
+use Prim.Native.Nat.{◌-◌}
+use lib.ListN.{length}
+use Rattle.monitors.proofs.Meeting.{Finding}
+use Rattle.monitors.proofs.met.find.Given as goal
+
+abbrev pub invariant-loop-i : goal.invariant-loop-i
+invariant-loop-i l = Finding l.marks l.at l.ms l.f l.i
+
+abbrev pub decreases-loop-i : goal.decreases-loop-i
+decreases-loop-i l = length l.marks - l.i

@@ -1,0 +1,18 @@
+-- False literals are passed one by one, by `Reader`.
+use mathlib.Core.Path.{◌≡◌}
+use mathlib.Core.Bool.{true, false}
+use Prim.Native.Nat.{ℕ, ◌+◌, ◌-◌, ◌≤◌}
+use lib.ListN.{length}
+use Rattle.state.specs.Member.{member}
+use Rattle.reading.specs.Conditions.{reading, evaluate_at}
+use Rattle.reading.proofs.conditions.past_false.Given as goal
+
+abbrev pub invariant-loop-i : goal.invariant-loop-i
+invariant-loop-i l =
+    (l.at ≤ l.i) × (l.i ≤ length l.marks)
+    × ((n : ℕ)
+    → evaluate_at (member (record { low = l.low; high = l.high })) (reading true false n) l.marks l.values l.at
+    ≡ evaluate_at (member (record { low = l.low; high = l.high })) (reading true false (n + (l.i - l.at))) l.marks l.values l.i)
+
+abbrev pub decreases-loop-i : goal.decreases-loop-i
+decreases-loop-i l = length l.marks - l.i

@@ -1,0 +1,42 @@
+use borrow.Author.Rules.{rules}
+use mathlib.Core.Path.{refl, sym, ap, ◌∙◌}
+use Prim.Native.Nat.{ℕ, ◌+◌, ◌-◌}
+use borrow.Author.Tests.{eq-eqb, ne_eqb}
+use lib.Dec.{eqb}
+use Rattle.meaning.specs.Meaning.{State as Facts}
+use Rattle.task.proofs.Reading.{goes_on, stops_at, ends_at}
+use Rattle.state.specs.Member.{member}
+use Rattle.reading.specs.Effects.{ending, mark_row, mark_at}
+use Rattle.reading.proofs.effects.mark_all.Goals as goal
+
+pub loop-i-init : goal.loop-i-init
+loop-i-init c = (search rules, search rules, refl)
+
+pub returns-then-marks-i : goal.returns-then-marks-i
+returns-then-marks-i c =
+    let a = c.args in record {
+      result_value = sym (stops_at (mark_row a.fires) (λ (n : ℕ). eqb n a.mark) ending (member c.loop-i.f) a.marks.now a.values.now c.loop-i.i (search rules)
+          (ne_eqb _ _ c.if-marks-i.true))
+          ∙ c.loop-i.invariant.2;
+      at_le_next = search rules;
+    }
+
+pub loop-i-preserved : goal.loop-i-preserved
+loop-i-preserved c =
+    let a = c.args in (
+      search rules,
+      search rules,
+      ap (λ (g : Facts). mark_at a.mark a.fires g a.marks.now a.values.now (c.loop-i.i + 1))
+          (c.with_if-f.ensures ∙ rw c.value_at.ensures)
+          ∙ sym (goes_on (mark_row a.fires) (λ (n : ℕ). eqb n a.mark) ending (member c.loop-i.f) a.marks.now a.values.now c.loop-i.i (search rules)
+          (eq-eqb _ _ c.if-marks-i.false))
+          ∙ c.loop-i.invariant.2,
+    )
+
+pub returns : goal.returns
+returns c =
+    let a = c.args in record {
+      result_value = sym (ends_at (mark_row a.fires) (λ (n : ℕ). eqb n a.mark) ending (member c.loop-i.f) a.marks.now a.values.now c.loop-i.i (search rules))
+          ∙ c.loop-i.invariant.2;
+      at_le_next = search rules;
+    }

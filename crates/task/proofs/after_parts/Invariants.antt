@@ -1,0 +1,11 @@
+-- The walk from row i on answers as that from row `from` on: Kept of CheckSteps, which each plain row keeps by one-part.
+use Prim.Native.Nat.{◌-◌}
+use lib.ListN.{length}
+use Rattle.task.proofs.CheckSteps.{Kept}
+use Rattle.task.proofs.after_parts.Given as goal
+
+abbrev pub invariant-loop-i : goal.invariant-loop-i
+invariant-loop-i l = Kept l.z l.marks l.values l.w l.from l.i l.context
+
+abbrev pub decreases-loop-i : goal.decreases-loop-i
+decreases-loop-i l = length l.marks - l.i

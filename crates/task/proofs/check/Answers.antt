@@ -1,0 +1,54 @@
+-- Each refusal is check's, and so is the walk over the two parts: short, wrong-sizes, wrong-length and walked of Checking.
+use mathlib.Core.Path.{◌≡◌, sym, ◌∙◌}
+use mathlib.Core.Bool.{true}
+use Prim.Native.Nat.{◌≤◌}
+use native.Mathlib.Omega.{arith}
+use lib.ListN.{length-take, length-drop}
+use borrow.Author.Tests.{not-true, not-false}
+use Rattle.task.specs.Check.{sizes_allowed}
+use Rattle.task.specs.Answers.{as_sizes}
+use Rattle.lists.proofs.Tests.{as_t}
+use Rattle.task.proofs.Checking.{within, short, wrong_sizes, wrong_length, walked}
+use borrow.Author.Rules.{rules}
+use Rattle.task.proofs.check.Goals as goal
+use Rattle.task.proofs.check.Goals.{Else-not-sizes_allowed}
+
+allowed : (c : Else-not-sizes_allowed) → sizes_allowed (as_sizes c.sizes_of-z.result) ≡ true
+allowed c = sym c.sizes_allowed.ensures ∙ not-false _ c.if-not-sizes_allowed.false-raw
+
+few : (c : Else-not-sizes_allowed) → c.sizes_of-z.result.rows ≤ 12000
+few c = (within (as_sizes c.sizes_of-z.result) (as_t (allowed c))).0
+
+pub returns-then-file-lt8 : goal.returns-then-file-lt8
+returns-then-file-lt8 c = c.refuse.ensures ∙ sym (short c.args.file.now (search rules))
+
+pub returns-then-not-sizes_allowed : goal.returns-then-not-sizes_allowed
+returns-then-not-sizes_allowed c = c.refuse-then-not-sizes_allowed.ensures
+    ∙ sym (wrong_sizes c.args.file.now (as_sizes c.sizes_of-z.result) c.sizes_of-z.ensures (search rules)
+    (sym c.sizes_allowed.ensures ∙ not-true _ c.if-not-sizes_allowed.true-raw))
+
+pub overflow_add-middle : goal.overflow_add-middle
+overflow_add-middle c = omega (arith, few c)
+
+pub overflow_mul-n : goal.overflow_mul-n
+overflow_mul-n c = omega (arith, few c)
+
+pub overflow_add-middle-2 : goal.overflow_add-middle-2
+overflow_add-middle-2 c = omega (arith, few c)
+
+pub returns-then-file-middle : goal.returns-then-file-middle
+returns-then-file-middle c =
+    c.refuse-then-file-middle.ensures
+    ∙ sym (wrong_length c.args.file.now (as_sizes c.sizes_of-z.result) c.sizes_of-z.ensures (search rules)
+    (allowed (goal.at.returns-then-file-middle c).Else-not-sizes_allowed) c.if-file-middle.true)
+
+pub walk_rows-requires : goal.walk_rows-requires
+walk_rows-requires c =
+    let f = few (goal.at.walk_rows-requires c).Else-not-sizes_allowed in
+    record { few = simp (length-take, length-drop) (omega arith); values = simp (length-take, length-drop) (omega arith) }
+
+pub returns : goal.returns
+returns c =
+    c.walk_rows.ensures
+    ∙ sym (walked c.args.file.now (as_sizes c.sizes_of-z.result) c.sizes_of-z.ensures (search rules)
+    (allowed (goal.at.returns c).Else-not-sizes_allowed) c.if-file-middle.false)

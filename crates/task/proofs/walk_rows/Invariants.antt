@@ -1,0 +1,12 @@
+-- The walk from row i on answers as the whole one: Reached of CheckSteps, kept by one-row and what after_parts promises; refusals by
+-- no-mark and no_value.
+use Prim.Native.Nat.{◌-◌}
+use lib.ListN.{length}
+use Rattle.task.proofs.CheckSteps.{Reached}
+use Rattle.task.proofs.walk_rows.Given as goal
+
+abbrev pub invariant-loop-i : goal.invariant-loop-i
+invariant-loop-i l = Reached l.z l.marks l.values l.w l.i
+
+abbrev pub decreases-loop-i : goal.decreases-loop-i
+decreases-loop-i l = length l.marks - l.i

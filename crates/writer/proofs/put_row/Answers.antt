@@ -1,0 +1,15 @@
+-- A row is put by store_row, or the file has no room for it (`wrote_past`).
+use mathlib.Core.List.{[], ◌∷◌}
+use Rattle.task.specs.TaskRows.{row}
+use Rattle.writer.proofs.Putting.{wrote_past}
+use borrow.Author.Rules.{rules}
+use Rattle.writer.proofs.put_row.Goals as goal
+
+pub returns-then-c : goal.returns-then-c
+returns-then-c c =
+    let a = c.args in
+    wrote_past a.out.now a.c (row a.mark a.value ∷ []) c.advance.result (search rules) (search rules) c.advance.ensures
+
+pub returns : goal.returns
+returns c =
+    record { room = search rules; same = c.advance-2.ensures.0; next = c.advance-2.ensures.1; file = c.store_row.ensures }

@@ -1,0 +1,22 @@
+-- The two blocks are the rows put in turn, by `copied`.
+use mathlib.Core.Path.{◌∙◌, ap}
+use mathlib.Core.List.{List}
+use Prim.Native.Nat.{ℕ, ◌+◌, ◌*◌}
+use native.Mathlib.Omega.{arith}
+use lib.ListN.{take, drop}
+use lib.Seq.{sets}
+use borrow.Author.Rules.{rules}
+use Rattle.writer.proofs.Copying.{copied}
+use Rattle.writer.proofs.store_rows.Goals as goal
+
+pub returns : goal.returns
+returns c =
+    let a = c.args in
+    let i = a.c.next in
+    let n = a.c.rows in
+    let vs = a.values.now in
+    let k = c.fitting-many.result in
+    c.copy_bytes-2.ensures
+    ∙ ap (λ (l : List ℕ). sets l (8 + n + 4 * i) (take (4 * k) (drop (4 * a.s.from) vs))) c.copy_bytes.ensures
+    ∙ copied a.marks.now vs a.s.from a.s.to a.out.now n i k c.requires.2 (λ j. omega (arith, c.shared_slice_known-2-1.given j)) (search rules) (search rules)
+    (omega (arith, c.requires.0)) c.fitting-many.ensures
