@@ -52,7 +52,7 @@ extern "C" {
 /* An area of this length is never too short for a report. */
 #define ROUTE_RULES_MAX_REPORT 2048
 
-/* That no area of these five lengths is refused by 9 or 14 is proved: never-too-short in crates/plan_text/proofs/Longest.antt,
+/* That no area of these five lengths is refused by 9 or 14 is proved: never_too_short in crates/plan_text/proofs/Longest.antt,
  * crates/source/proofs/Longest.antt, crates/translation/proofs/Longest.antt, crates/spelling/proofs/Longest.antt,
  * crates/single_effects/proofs/Longest.antt and crates/pddl_text/proofs/Longest.antt, and Longest of report; that no accepted file is
  * longer than MAX_FILE: longest in crates/task/proofs/Longest.antt. */
