@@ -68,7 +68,7 @@ def declared_in_antt(text):
 
 DECLARED = {
     '.antt': declared_in_antt,
-    '.rt': lambda text: set(re.findall(r'\b(?:fn|struct|enum|const|mod) (\w+)', text)),
+    '.rt': lambda text: set(re.findall(r'\b(?:fn|struct|enum|trait|type|const|mod) (\w+)', text)),
     '.rs': lambda text: set(re.findall(r'\bfn (\w+)', text)),
     '.py': lambda text: {name for names in re.findall(r'^(?:def |class )(\w+)|^(\w+)(?:, \w+)* = ', text, re.M) for name in names},
 }
@@ -174,8 +174,8 @@ class Citations:
     def numbers(self, name):
         """Refusals and limits by name, as `name` finds them: their numbers are those of the definitions, and no refusal is left out."""
         specs = [text_of('crates/task/specs/Refused.antt'), text_of('crates/task/specs/Limits.antt') + text_of('crates/searching/specs/Limits.antt')]
-        refusals, limits = (dict(re.findall(r'^([A-Z-]+) = (\d+)$', text, re.M)) for text in specs)
-        given = {label.replace('_', '-'): number.replace('_', '') for label, number in name.findall(self.text)}
+        refusals, limits = (dict(re.findall(r'^([A-Z_]+) = (\d+)$', text, re.M)) for text in specs)
+        given = {label: number.replace('_', '') for label, number in name.findall(self.text)}
         self.count += len(given)
         for label, number in {**refusals, **{label: limits[label] for label in limits if label in given}}.items():
             if given.get(label) != number:
