@@ -64,6 +64,8 @@ def tree(folder, crates):
     """A repository of some crates and those below them, without their edits."""
     names = {name for crate in crates for name in [crate, *prover.below(crate)]}
     write(f'{folder}/crates.txt', ''.join(line for line in read('crates.txt').splitlines(True) if re.split(r'[ :]', line)[0] in names))
+    if os.path.exists('HANDLES'):
+        shutil.copy('HANDLES', folder)
     for name in names:
         for part in ('src', 'specs', 'proofs'):
             if os.path.isdir(f'crates/{name}/{part}'):

@@ -5,7 +5,7 @@ import shutil
 
 HOME = os.path.dirname(os.path.dirname(os.path.realpath(shutil.which('rt'))))
 PROVER = f'{HOME}/bin/rattle'
-ROW = re.compile(r'(\w+)(?: +(staticlib))?[^:\n#]*:([^\n#]*)$', re.M)
+ROW = re.compile(r'^(\w+)(?: +(staticlib))?[^:\n#]*:([^\n#]*)$', re.M)
 
 
 def rows():
