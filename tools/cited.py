@@ -11,7 +11,7 @@ name is declared in its file, or is the label of an edit in its folder. Three of
 - Required forms by place: the code beside a function stands in that function;
 - C functions: each program stands there.
 The other documents cite as text: a crate's file, `NAME` before its file, crate::name, crate/edit, and the tables with a column `file`.
-Links lead to files and headings. docs/LANDINGS.md says how things were, and is left out. include/ has the numbers of the definitions.
+Links lead to files and headings. docs/LANDINGS.md and docs/PORT.md say how things were, and are left out. include/ has the numbers of the definitions.
 """
 import glob
 import os
@@ -19,7 +19,7 @@ import re
 import sys
 
 ROOT = os.path.dirname(os.path.dirname(os.path.abspath(__file__)))
-ASSURANCE = 'docs/ASSURANCE.md'
+ASSURANCE, HISTORY = 'docs/ASSURANCE.md', ('docs/LANDINGS.md', 'docs/PORT.md')
 CRATES = sorted(os.listdir(os.path.join(ROOT, 'crates')))
 CRATE = '(?:' + '|'.join(sorted(CRATES, key=len, reverse=True)) + ')'
 PART = rf'(?<![\w/])(?:crates/)?{CRATE}/(?:specs|proofs|src|must-fail)(?:/[\w-]+)*'
@@ -233,7 +233,7 @@ class Citations:
 
 
 def documents():
-    return [path for path in ['README.md', 'tests/README.md', *listed('docs/*.md')] if path != 'docs/LANDINGS.md']
+    return [path for path in ['README.md', 'tests/README.md', *listed('docs/*.md')] if path not in HISTORY]
 
 
 def all_citations():

@@ -7,7 +7,7 @@ import os
 import re
 
 ENDS = {'Answers', 'Invariants', 'Proof', 'Examples', 'DocumentExamples', 'Looked', 'Refuted'}  # files that are there to be read, not to be used
-HISTORY = {'docs/LANDINGS.md', 'docs/CHANGELOG.md'}
+HISTORY = {'docs/LANDINGS.md', 'docs/CHANGELOG.md', 'docs/PORT.md'}
 HEAD = re.compile(r'^ *(?:(?:pub|abbrev|unfoldable) )*(?:(?:data|record|ruleset) )?([^\s:(){}]+)(?: [({][^\n]*[)}])*(?: :|$)')
 FROM = re.compile(r'use Rattle\.(\w+)\.(specs|proofs)((?:\.[^\s.{;]+)*)(?:\.\{([^}]*)\})?(?: as ([^\s;]+))?;?$', re.M)
 GIVEN = re.compile(r'\b(\w+)::(specs|proofs)::((?:\w+::)*)([^\s,():]+)')  # what an attribute `tactic` hands to the search
