@@ -3,8 +3,8 @@
  * planner prints for it, walk a plan on a task, given as bytes or as planners print it, settle what it is worth, put up to 64 plans
  * into figures, and say what a half-made plan has already lost.
  *
- * Link libroute_rules.a: of a release by what pkg-config says of route_rules; in the repository `rt staticlib route_rules` writes it
- * into target/staticlib. Every function is proved: it answers every input as the definitions say (crates/words/specs/Numbers.antt has
+ * Link libroute_rules.a: of a release by what pkg-config says of route_rules; in the repository `tools/staticlib` writes it
+ * into crates/route_rules/out. Every function is proved: it answers every input as the definitions say (crates/words/specs/Numbers.antt has
  * the words of the answers), always returns, and touches no memory but the areas lent to it. Nothing is kept between calls, so several
  * threads may call at once.
  *
@@ -52,7 +52,7 @@ extern "C" {
 /* An area of this length is never too short for a report. */
 #define ROUTE_RULES_MAX_REPORT 2048
 
-/* That no area of these five lengths is refused by 9 or 14 is proved: never-too-short in crates/plan_text/proofs/Longest.antt,
+/* That no area of these five lengths is refused by 9 or 14 is proved: never_too_short in crates/plan_text/proofs/Longest.antt,
  * crates/source/proofs/Longest.antt, crates/translation/proofs/Longest.antt, crates/spelling/proofs/Longest.antt,
  * crates/single_effects/proofs/Longest.antt and crates/pddl_text/proofs/Longest.antt, and Longest of report; that no accepted file is
  * longer than MAX_FILE: longest in crates/task/proofs/Longest.antt. */

@@ -1,7 +1,7 @@
 //! Safe functions over the static library, for Rust. It says what include/route_rules.h says.
 //!
 //! Take it into a crate as a module, and link `libroute_rules.a`: `rustc -L FOLDER -l static=route_rules`, the folder being lib of a
-//! release, or target/staticlib.
+//! release, or crates/route_rules/out.
 #![allow(dead_code)]
 
 /// Why a call was refused, and where: a row, a step, a line, a plan, or 0. The numbers are those of `refused`.

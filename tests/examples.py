@@ -1,7 +1,7 @@
 #!/usr/bin/env python3
 """The examples as text, the tool that turns texts into files and back, and the programs' answers on the batch house.
 
-tests/examples.py            needs target/bin/translate, target/bin/pddl, target/bin/search, target/bin/confirm and target/bin/judge
+tests/examples.py            needs crates/translate/out/translate, crates/pddl/out/pddl, crates/search/out/search, crates/confirm/out/confirm and crates/judge/out/judge
 tests/examples.py --write    writes examples/batch_house/answers anew
 """
 import os

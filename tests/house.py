@@ -10,12 +10,20 @@ KEPT = {
     'README.md': 'The law `doubled`.\n',
     'docs/THEORY.md': '',
     'crates/small/src/lib.rt': '''// A number with its limit.
-ghost use Rattle·small·specs.specs.Limits.{MAX-NODES};
+#![tactic(auto)]
+
+ghost use Rattle.std.specs.Prelude.{◌≤◌};
+ghost use Rattle.small.specs.Limits.{MAX_NODES};
 
 pub const MAX_NODES: usize = 1024;
 
+fn zero() -> usize {
+    0
+}
+
+#[tactic(auto, using(crate::proofs::Handed::handed_over))]
 pub fn least(a: usize, b: usize) -> usize
-    ensures { λ r. ⌜ r ≤ MAX-NODES ⌝ }
+    ensures small { result ≤ MAX_NODES }
 {
     while a < b {
         return a;
@@ -23,15 +31,15 @@ pub fn least(a: usize, b: usize) -> usize
     refuse(refused::LIMIT)
 }
 ''',
-    'crates/small/specs/Limits.antt': '''use Prim.Native.Nat.{ℕ}
+    'crates/small/specs/Limits.antt': '''use Rattle.std.specs.Prelude.{ℕ}
 
-abbrev pub MAX-NODES : ℕ
-MAX-NODES = 1024
+abbrev pub MAX_NODES : ℕ
+MAX_NODES = 1024
 
 pub record Near (a b c d e f : ℕ) : Type 0 where
   pub near : ℕ
 ''',
-    'crates/small/proofs/Laws.antt': '''use Rattle·small·specs.specs.Limits.{Near}
+    'crates/small/proofs/Laws.antt': '''use Rattle.small.specs.Limits.{Near}
 
 helped : Near
 helped = refl
@@ -39,11 +47,39 @@ helped = refl
 pub doubled : Near
 doubled = helped
 ''',
-    'crates/small/proofs/least/Proof.antt': '''-- The lesser of two, by its tests.
-returns c = let s = c .before .before .before .before .before .before in s
+    'crates/small/proofs/Handed.antt': '''use Rattle.small.specs.Limits.{Near}
+
+pub handed_over : Near
+handed_over = refl
+''',
+    'crates/small/proofs/least/Invariants.antt': '''-- The lesser of two, by its tests.
+use Rattle.small.proofs.least.Given as goal
+
+abbrev pub invariant-loop : goal.invariant-loop
+invariant-loop l = l.a ≤ l.b
+''',
+    'crates/small/proofs/least/Answers.antt': '''use Rattle.small.proofs.least.Goals as goal
+
+pub returns : goal.returns
+returns c = let s = c.before.before.before.before.before.before in s
+''',
+    'crates/small/proofs/most/Answers.antt': '''-- The greater of two.
+use Rattle.small.proofs.most.Goals as goal
+
+pub returns : goal.returns
+returns c = c.if1.true
+''',
+    'crates/small/proofs/walked/Proof.antt': '''-- A walk by hand.
+returns c = let s = c.before.before.before.before.before.before in s
 fitted : tie.Need-fitted
-fitted c = search needs
-least-spec = tie.close (tie.spec returns fitted)
+fitted c = search rules
+walked_spec = tie.close (tie.spec returns fitted)
+''',
+    # What rt makes is none of the house's.
+    'crates/small/out/rlib/small.rlib/lang/antt/proofs/Laws.antt': '''use Rattle.std.specs.Prelude.{◌+◌}
+
+left_over : Near
+left_over = refl
 ''',
     'crates/small/must-fail/shorter.edit': 'old: fitted\n',
 }
@@ -53,19 +89,27 @@ BROKEN = [
     ('src/lib.rt', 'a: usize, b: usize', ', '.join(f'{name}: usize' for name in 'abcdefghi'), 'least has 9 parameters'),
     ('src/lib.rt', '        return a;\n', '        return a;\n' * 40, 'least has 43 lines'),
     ('src/lib.rt', '    refuse(', '    while b < a {\n    }\n    refuse(', 'least has two loops'),
-    ('src/lib.rt', 'r ≤ MAX-NODES', 'r ≤ MAX-NODES' + ' × (r ≤ MAX-NODES)' * 8, 'least has a contract line of'),
-    ('src/lib.rt', 'r ≤ MAX-NODES', 'r ≤ 1024', 'lib.rt:7: the limit 1024'),
+    ('src/lib.rt', 'result ≤ MAX_NODES', 'result ≤ MAX_NODES' + ' × (result ≤ MAX_NODES)' * 7, 'least has a contract line of'),
+    ('src/lib.rt', 'result ≤ MAX_NODES', 'result ≤ 1024', 'lib.rt:15: the limit 1024'),
     ('src/lib.rt', 'refuse(refused::LIMIT)', 'refuse(16)', 'the number of a refusal'),
     ('src/lib.rt', '    refuse(refused::LIMIT)\n}\n', '    refuse(refused::LIMIT)\n}\n' + ''.join(
-        f'\nfn {name}(a: usize)\n    requires {{ ⌜ (1 ≤ a) × (a ≤ MAX-NODES) ⌝ }}\n{{\n}}\n' for name in ('one', 'other')),
-     'other asks (1 ≤ a) × (a ≤ MAX-NODES), as one does'),
+        f'\nfn {name}(a: usize)\n    requires {{ (1 ≤ a) × (a ≤ MAX_NODES) }}\n{{\n}}\n' for name in ('one', 'other')),
+     'other asks (1 ≤ a) × (a ≤ MAX_NODES), as one does'),
+    ('src/lib.rt', '    refuse(refused::LIMIT)\n}\n', '    refuse(refused::LIMIT)\n}\n' + ''.join(
+        f'\nfn {name}(a: usize) -> usize\n    requires low {{ 1 ≤ a }}\n    requires high {{ a ≤ MAX_NODES }}\n{{\n    a\n}}\n' for name in ('one', 'other')),
+     'other asks 1 ≤ a × a ≤ MAX_NODES, as one does'),
     ('specs/Limits.antt', '(a b c d e f : ℕ)', '(a b c d e f g : ℕ)', 'Near has 7 arguments'),
-    ('proofs/least/Proof.antt', '-- The lesser of two, by its tests.\n', '', 'no line that says what is proved'),
-    ('proofs/least/Proof.antt', 'let s = c .before .before .before .before .before .before in s', 'law (c .before .before .before .before .before .before)',
-     'a place far back without a name'),
+    ('proofs/least/Invariants.antt', '-- The lesser of two, by its tests.\n', '', 'Invariants.antt:1: no line that says what is proved'),
+    ('proofs/most/Answers.antt', '-- The greater of two.\n', '', 'Answers.antt:1: no line that says what is proved'),
+    ('proofs/walked/Proof.antt', '-- A walk by hand.\n', '', 'Proof.antt:1: no line that says what is proved'),
+    *(('proofs/' + path, 'let s = c.before.before.before.before.before.before in', 'law (c.before.before.before.before.before.before)',
+       'a place far back without a name') for path in ('least/Answers.antt', 'walked/Proof.antt')),
+    ('proofs/most/Answers.antt', 'returns c = c.if1.true', 'returns c = search rules', 'returns only searches, as the check does by itself'),
     ('must-fail/shorter.edit', 'old: fitted\n', '', 'fitted only searches'),
     ('proofs/Laws.antt', 'doubled = helped', 'doubled = refl', 'helped is reached by nothing'),
-    ('specs/Limits.antt', 'Nat.{ℕ}', 'Nat.{ℕ, _+_}', '_+_ is not used'),
+    ('src/lib.rt', '(auto, using(crate::proofs::Handed::handed_over))', '(auto)', 'handed_over is reached by nothing'),
+    ('specs/Limits.antt', 'Prelude.{ℕ}', 'Prelude.{ℕ, ◌+◌}', '◌+◌ is not used'),
+    ('src/lib.rt', 'Prelude.{◌≤◌}', 'Prelude.{◌≤◌, length}', 'length is not used'),
 ]
 
 

@@ -2,7 +2,7 @@
 """What tools/route.py draws, held to accounts that share nothing with the library: conditions by state, what is lost and what it costs
 by shared/translated.py, which rules are met by the stored texts of program judge; and the picture of docs/ to what it draws today.
 
-tests/picture.py            needs what `rt staticlib route_rules` wrote
+tests/picture.py            needs what `tools/staticlib` wrote
 tests/picture.py --write    writes docs/route.svg anew
 """
 import math

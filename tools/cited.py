@@ -11,7 +11,7 @@ name is declared in its file, or is the label of an edit in its folder. Three of
 - Required forms by place: the code beside a function stands in that function;
 - C functions: each program stands there.
 The other documents cite as text: a crate's file, `NAME` before its file, crate::name, crate/edit, and the tables with a column `file`.
-Links lead to files and headings. docs/LANDINGS.md says how things were, and is left out. include/ has the numbers of the definitions.
+Links lead to files and headings. docs/LANDINGS.md and docs/PORT.md say how things were, and are left out. include/ has the numbers of the definitions.
 """
 import glob
 import os
@@ -19,7 +19,7 @@ import re
 import sys
 
 ROOT = os.path.dirname(os.path.dirname(os.path.abspath(__file__)))
-ASSURANCE = 'docs/ASSURANCE.md'
+ASSURANCE, HISTORY = 'docs/ASSURANCE.md', ('docs/LANDINGS.md', 'docs/PORT.md')
 CRATES = sorted(os.listdir(os.path.join(ROOT, 'crates')))
 CRATE = '(?:' + '|'.join(sorted(CRATES, key=len, reverse=True)) + ')'
 PART = rf'(?<![\w/])(?:crates/)?{CRATE}/(?:specs|proofs|src|must-fail)(?:/[\w-]+)*'
@@ -68,7 +68,7 @@ def declared_in_antt(text):
 
 DECLARED = {
     '.antt': declared_in_antt,
-    '.rt': lambda text: set(re.findall(r'\b(?:fn|struct|enum|const|mod) (\w+)', text)),
+    '.rt': lambda text: set(re.findall(r'\b(?:fn|struct|enum|trait|type|const|mod) (\w+)', text)),
     '.rs': lambda text: set(re.findall(r'\bfn (\w+)', text)),
     '.py': lambda text: {name for names in re.findall(r'^(?:def |class )(\w+)|^(\w+)(?:, \w+)* = ', text, re.M) for name in names},
 }
@@ -174,8 +174,8 @@ class Citations:
     def numbers(self, name):
         """Refusals and limits by name, as `name` finds them: their numbers are those of the definitions, and no refusal is left out."""
         specs = [text_of('crates/task/specs/Refused.antt'), text_of('crates/task/specs/Limits.antt') + text_of('crates/searching/specs/Limits.antt')]
-        refusals, limits = (dict(re.findall(r'^([A-Z-]+) = (\d+)$', text, re.M)) for text in specs)
-        given = {label.replace('_', '-'): number.replace('_', '') for label, number in name.findall(self.text)}
+        refusals, limits = (dict(re.findall(r'^([A-Z_]+) = (\d+)$', text, re.M)) for text in specs)
+        given = {label: number.replace('_', '') for label, number in name.findall(self.text)}
         self.count += len(given)
         for label, number in {**refusals, **{label: limits[label] for label in limits if label in given}}.items():
             if given.get(label) != number:
@@ -233,7 +233,7 @@ class Citations:
 
 
 def documents():
-    return [path for path in ['README.md', 'tests/README.md', *listed('docs/*.md')] if path != 'docs/LANDINGS.md']
+    return [path for path in ['README.md', 'tests/README.md', *listed('docs/*.md')] if path not in HISTORY]
 
 
 def all_citations():

@@ -12,10 +12,11 @@ import dead
 import unused
 
 PARAMETERS, ARGUMENTS, LINES, WIDTH, CHAIN = 8, 6, 40, 160, 6
+PROOFS = ('Invariants.antt', 'Answers.antt', 'Proof.antt')  # of a function: what says first what is proved
 # Limits that no width of a number is. Where one has its name is told by `const` or by the name alone on the left.
 LIMITS = re.compile(r'(?<![\w.^])(1023|1024|2048|4096|12000|12001|60008|262144)(?!\w)')
-NAMING = re.compile(r'\bconst [A-Z_]+:|^[A-Z-]+ = ')
-FUNCTION = re.compile(r'^( *)(?:pub )?(?:extern "C" )?fn (\w+)(?:<[^>]*>)?\(([^)]*)\)(.*?)^\1\{\n(.*?)^\1\}', re.M | re.S)
+NAMING = re.compile(r'\bconst [A-Z_]+:|^[A-Z_]+ = ')
+FUNCTION = re.compile(r'^( *)(?:pub(?:\(\w+\))? )?(?:extern "C" )?fn (\w+)(?:<[^>]*>)?\(([^)]*)\)((?:[^{}]|\{[^\n].*?\})*?)(?<=[\n ])\{\n(.*?)^\1\}', re.M | re.S)
 RELATION = re.compile(r'^(?:(?:pub|abbrev|unfoldable) )*(?:record )?([^\s:(]+)((?: [({][^)}]*[)}])*) : ([^\n]*Type 0)(?: where)?$', re.M)
 
 
@@ -68,13 +69,23 @@ def conjuncts(text):
     return [part.strip() for part in parts]
 
 
+def facts(kind, text):
+    """The facts of a contract's clauses of a kind, each without its braces."""
+    for match in re.finditer(rf'\b{kind}(?:\*)?(?: \w+)? \{{', text):
+        depth, end = 1, match.end()
+        while depth and end < len(text):
+            depth += (text[end] == '{') - (text[end] == '}')
+            end += 1
+        yield text[match.end():end - 1].strip()
+
+
 def contexts():
     """No two bounds stand together in the requires of two functions: they have a name."""
     first = {}
     for path in files('src/**/*.rt'):
         text = read(path)
         for match in FUNCTION.finditer(text):
-            asked = [part for fact in re.findall(r'requires(?: \w+)? \{ ⌜ (.*?) ⌝ \}', match.group(4), re.S) for part in conjuncts(fact)]
+            asked = [part for fact in facts('requires', match.group(4)) for part in conjuncts(fact)]
             bounds = sorted(part for part in asked if re.search(r' [≤<≡] ', part) and '→' not in part)
             for pair in itertools.combinations(bounds, 2):
                 if first.setdefault(pair, match.group(2)) != match.group(2):
@@ -105,24 +116,28 @@ def limits():
 
 
 def proofs():
-    """A proof says first what it proves, names places that are far back, and answers in place what is only searched for."""
+    """A proof says first what it proves, names places that are far back, and answers only what the check does not find by itself."""
     edits = '\n'.join(read(path) for path in files('must-fail/*.edit'))
+    for folder in sorted({os.path.dirname(path) for path in files(*(f'proofs/**/{name}' for name in PROOFS))}):
+        first = next(path for path in (f'{folder}/{name}' for name in PROOFS) if os.path.exists(path))
+        if not read(first).startswith('-- '):
+            yield f'{first}:1: no line that says what is proved'
     for path in files('proofs/**/*.antt'):
         text = read(path)
-        if path.endswith('/Proof.antt') and not text.startswith('-- '):
-            yield f'{path}:1: no line that says what is proved'
-        for match in re.finditer(r'[^\s(]+(?: \.before){%d,}' % CHAIN, text):
-            if not re.search(r'=(?: now \()? ?$', text[:match.start()]):
+        for match in re.finditer(r'[^\s().]+(?:\.before){%d,}' % CHAIN, text):
+            if not re.search(r'= \(?$', text[:match.start()]):
                 yield f'{at(path, text, match.start())}: a place far back without a name'
-        for match in re.finditer(r'^(\S+) c(?: κs)? = search needs$', text, re.M):
+        for match in re.finditer(r'^(\S+) c(?: κs)? = search rules$', text, re.M):
             name = match.group(1)
-            if len(re.findall(r'(?<![\w-])%s(?![\w-])' % re.escape(name), text)) == 3 and not re.search(r'(?<![\w-])%s(?![\w-])' % re.escape(name), edits):
+            if os.path.basename(path) == 'Answers.antt':
+                yield f'{at(path, text, match.start())}: {name} only searches, as the check does by itself'
+            elif len(re.findall(r'(?<![\w-])%s(?![\w-])' % re.escape(name), text)) == 3 and not re.search(r'(?<![\w-])%s(?![\w-])' % re.escape(name), edits):
                 yield f'{at(path, text, match.start())}: {name} only searches, and can stand in its place'
 
 
 def names():
     """No name is brought in that is not used, and no law stands there that nothing reaches."""
-    for path in files('src/*.rt', '**/*.antt'):
+    for path in files(*unused.PARTS):
         for name in unused.pruned(path, read(path))[1]:
             yield f'{path}: {name} is not used'
     for place in dead.unreached():

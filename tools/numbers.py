@@ -36,9 +36,9 @@ def count(pattern, paths):
 def numbers():
     code = files('*/src/**/*.rt')
     definitions = files('*/specs/**/*.antt')
-    walks = files('*/proofs/**/Proof.antt')
-    laws = [path for path in files('*/proofs/**/*.antt') if path not in walks]
-    of_code, of_proofs = lines(code), lines(walks) + lines(laws)
+    answers = [path for name in ('Invariants', 'Answers', 'Proof') for path in files(f'*/proofs/**/{name}.antt')]
+    laws = [path for path in files('*/proofs/**/*.antt') if path not in answers]
+    of_code, of_proofs = lines(code), lines(answers) + lines(laws)
     return [
         ('crates', len(files('*'))),
         ('functions, each proved', count(r'^\s*(?:pub(?:\(crate\))? )?(?:extern "C" )?fn \w', code)),
@@ -46,9 +46,9 @@ def numbers():
         ('lines of code, contracts among them', of_code),
         ('lines of definitions', lines(definitions)),
         ('lines of laws', lines(laws)),
-        ('lines of proofs of functions', lines(walks)),
+        ('lines of proofs of functions', lines(answers)),
         ('lines of proof for a line of code', f'{of_proofs / of_code:.1f}'),
-        ('laws that other files use', count(r'^\s*pub [\w′-]+ :', laws)),
+        ('laws that other files use', count(r'^\s*pub [\w\'-]+ :', laws)),
         ('must-fail edits', len(files('*/must-fail/*.edit'))),
     ]
 

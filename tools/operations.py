@@ -65,7 +65,7 @@ def calls(path, name):
 
 def for_c(name):
     """a function that the header declares and the library exports"""
-    exported = re.search(rf'^#\[no_mangle\]\npub extern "C" fn route_rules_{name}\(', code(LIBRARY), re.MULTILINE)
+    exported = re.search(rf'^#\[unsafe\(no_mangle\)\]\npub extern "C" fn route_rules_{name}\(', code(LIBRARY), re.MULTILINE)
     return exported and link(f'`route_rules_{name}`', HEADER)
 
 
@@ -84,7 +84,7 @@ def called(name):
 
 def contract(name):
     """a contract of the exported function, and a function of its own that it calls"""
-    promised = 'ensures {' in body(LIBRARY, rf'pub extern "C" fn route_rules_{name}\(')
+    promised = re.search(r'\bensures(?: \w+)? \{', body(LIBRARY, rf'pub extern "C" fn route_rules_{name}\('))
     return promised and called(name) and link(f'`{called(name)}`', LIBRARY)
 
 

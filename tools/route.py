@@ -4,7 +4,7 @@
 tools/route.py TASK PLAN > route.svg
 
 TASK is a task file, or where its name ends in .txt the text of one, as tools/task.py reads it; PLAN is then a text too, names or numbers
-of the actions, and else a byte for each step. Needs gcc, and what `rt staticlib route_rules` wrote.
+of the actions, and else a byte for each step. Needs gcc, and what `tools/staticlib` wrote.
 
 Everything that is drawn is what the library answers. Which conditions hold in a state is asked by tasks made for that: the same facts and
 actions, no goal, and rules at-end φ and at-end ψ, walked up to the state. Which rules are lost is asked with the rule's own bit for a
@@ -25,7 +25,7 @@ sys.dont_write_bytecode = True
 sys.path.insert(0, os.path.join(ROOT, 'tools'))
 import task as tool
 
-ARCHIVE = os.path.join(ROOT, 'target/staticlib/libroute_rules.a')
+ARCHIVE = os.path.join(ROOT, 'crates/route_rules/out/libroute_rules.a')
 SHARED = os.path.join(ROOT, 'target/route/libroute_rules.so')
 SOLVED, STOPPED, GOAL_MISSED, RULE_MISSED = 1, 2, 3, 4
 MOST_RULES = 16
@@ -41,7 +41,7 @@ class Library:
     """The functions for C, from the static library as a shared one."""
     def __init__(self):
         if not os.path.exists(ARCHIVE):
-            raise tool.Wrong('no library yet: rt staticlib route_rules')
+            raise tool.Wrong('no library yet: tools/staticlib')
         if not os.path.exists(SHARED) or os.path.getmtime(SHARED) < os.path.getmtime(ARCHIVE):
             os.makedirs(os.path.dirname(SHARED), exist_ok=True)
             subprocess.run(['gcc', '-shared', '-o', SHARED, '-Wl,--whole-archive', ARCHIVE, '-Wl,--no-whole-archive'], check=True)

@@ -2,7 +2,7 @@
 """Random task files, good and damaged, through the program check_vectors; each line is held to the account in
 shared/account.py.
 
-tests/check/compare.py PROGRAM [COUNT [SEED]]     PROGRAM is target/bin/check_vectors
+tests/check/compare.py PROGRAM [COUNT [SEED]]     PROGRAM is crates/check_vectors/out/check_vectors
 """
 import collections
 import os

@@ -1,7 +1,7 @@
 #!/usr/bin/env python3
 """What program confirm says of a planner's text: judge's lines about its source part and what the planner paid, or one line.
 
-tests/confirm/program.py CONFIRM TRANSLATE JUDGE [COUNT [SEED]]     the programs of these names in target/bin
+tests/confirm/program.py CONFIRM TRANSLATE JUDGE [COUNT [SEED]]     the programs of these names, crates/NAME/out/NAME
 
 Cases by hand on the belt and small tasks; files that are missing, that are folders, too long, or not to be read to their end. Then
 random small tasks that the outside engine plans on their translation: judge's lines about the source part, which is found here, and the

@@ -2,7 +2,7 @@
 """What program judge does with its two files: one that is missing, that is a folder, that is longer than any accepted one, or
 that can't be read to its end.
 
-tests/judge/program.py PROGRAM     PROGRAM is target/bin/judge
+tests/judge/program.py PROGRAM     PROGRAM is crates/judge/out/judge
 """
 import os
 import sys

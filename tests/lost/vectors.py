@@ -4,7 +4,7 @@
 tests/lost/vectors.py           writes tests/lost/data/vectors and tests/lost/stdout
 tests/lost/vectors.py --check   writes nothing, and fails where these two files are not what it makes
 tests/lost/vectors.py --list    says what each vector is for, and its line
-tests/lost/vectors.py PROGRAM   holds the account's translations of these tasks to what PROGRAM, target/bin/translate, writes
+tests/lost/vectors.py PROGRAM   holds the account's translations of these tasks to what PROGRAM, crates/translate/out/translate, writes
 
 A vector is two records (shared/stored.py): the task file, then the list. The line is `run cost C lost L`, `stopped I`, or a refusal.
 tests/compare holds the library to them.

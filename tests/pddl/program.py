@@ -2,7 +2,7 @@
 """What program pddl does with its files: `domain.pddl` and `problem.pddl` made, replaced, left alone or emptied, and the lines it
 writes.
 
-tests/pddl/program.py PROGRAM     PROGRAM is target/bin/pddl
+tests/pddl/program.py PROGRAM     PROGRAM is crates/pddl/out/pddl
 
 The texts are those of texts.py, written out letter by letter.
 """

@@ -1,7 +1,7 @@
 #!/usr/bin/env python3
 """The whole way of random small tasks: translated, written as PDDL, planned from the two texts, the plan's text read and judged.
 
-tests/pddl/whole_way.py PDDL TRANSLATE JUDGE TEXT_VECTORS [COUNT [SEED]]     the four programs of these names in target/bin
+tests/pddl/whole_way.py PDDL TRANSLATE JUDGE TEXT_VECTORS [COUNT [SEED]]     the four programs of these names, crates/NAME/out/NAME
 
 The planner is that of shared/planning.py, over gringo and clasp (Debian packages of these names).
 Each task goes by its translation, and one without preferences also as it stands. Then, for the cheapest list and for the dearest:

@@ -1,7 +1,7 @@
 #!/usr/bin/env python3
 """A release, as a buyer gets it: made into a folder elsewhere, moved, and used from there alone.
 
-tests/release/outside.py     needs what rt check and rt staticlib route_rules wrote, gcc, g++, rustc and pkg-config
+tests/release/outside.py LOG     LOG is what rt ci wrote; needs what it and tools/staticlib left, gcc, g++, rustc and pkg-config
 
 - made twice it has the same bytes, and none of them names this repository's place;
 - every file has its checksum, and every checksum its file; every link of its documents leads to one of them;
@@ -9,8 +9,9 @@ tests/release/outside.py     needs what rt check and rt staticlib route_rules wr
 - a program in C99 and in C++17 builds without a warning by what pkg-config says and links with libc alone, and one in Rust builds, too;
   the example in C, which calls every operation, prints what it prints in the repository;
 - its programs do the belt, and each says `no file` where there is none;
-- nothing is made where something is not proved, is missing, or is of another version.
+- nothing is made where something is not proved, has changed since, is missing, or is of another version.
 """
+import glob
 import os
 import re
 import shutil
@@ -26,6 +27,7 @@ from shared.expected import expect
 LIBC = {'memcpy', 'memset', 'memmove', 'memcmp', 'bcmp', 'abort'}
 STRICT = ['-Wall', '-Wextra', '-pedantic', '-Werror', '-O2']
 LANGUAGES = {'C99': ['gcc', '-std=c99'], 'C++17': ['g++', '-std=c++17', '-x', 'c++']}
+LIBRARY, SAID = 'crates/route_rules/out/libroute_rules.a', 'crates/route_rules/out/libroute_rules.said'
 PROGRAMS = ['confirm', 'judge', 'pddl', 'search', 'single', 'spell', 'translate', 'week']
 ON_BELT = '2 facts, 2 actions, 2 preferences, 18 rows\n'
 
@@ -122,21 +124,25 @@ def run_programs(folder, place):
 
 STAND_IN = '''#!/bin/sh
 [ "$1" = version ] && exec echo '{kit}'
-[ "$1" = check ] && [ ! -e refused ]
+[ "$1" = ci ] && [ ! -e refused ] && exec cat log
 '''
 
 
-def tree(place, kit):
+def tree(place, kit, log):
     """What tools/release reads, in a folder of its own, with a stand-in for rt that says yes until it finds a file `refused`."""
     root = os.path.join(place, 'tree')
-    for name in ('crates.txt', 'tools/release', 'include', 'docs', 'target/bin', 'target/log', 'target/staticlib', 'target/stamp'):
+    out = [f'crates/{name}/out/{name}' for name in PROGRAMS] + [LIBRARY]
+    for name in ('crates.txt', 'tools/release', 'tools/passed', 'include', 'docs', *out, *(f'{os.path.splitext(name)[0]}.said' for name in out),
+                 *(os.path.relpath(path, ROOT) for path in glob.glob(f'{ROOT}/crates/*/src'))):
         to = os.path.join(root, name)
         os.makedirs(os.path.dirname(to), exist_ok=True)
         (shutil.copytree if os.path.isdir(os.path.join(ROOT, name)) else shutil.copy2)(os.path.join(ROOT, name), to)
+    shutil.copy2(log, os.path.join(root, 'log'))
     os.mkdir(os.path.join(place, 'stand_in'))
-    with open(os.path.join(place, 'stand_in/rt'), 'w') as file:
-        file.write(STAND_IN.format(kit=kit))
-    os.chmod(os.path.join(place, 'stand_in/rt'), 0o755)
+    for path, text in [(os.path.join(place, 'stand_in/rt'), STAND_IN.format(kit=kit)), (os.path.join(root, 'tools/staticlib'), '#!/bin/sh\n')]:
+        with open(path, 'w') as file:
+            file.write(text)
+        os.chmod(path, 0o755)
     return root, dict(os.environ, PATH=os.path.join(place, 'stand_in') + ':' + os.environ['PATH'])
 
 
@@ -157,13 +163,16 @@ def refuse(path):
 
 # What is changed in the tree, and what is said then.
 FAILURES = [
-    ('refused', refuse, 'rt check'),
-    ('target/bin/week', os.remove, 'target/bin/week: No such file'),
-    ('target/staticlib/libroute_rules.a', os.remove, 'rt staticlib route_rules makes it'),
-    ('target/staticlib/libroute_rules.a', lambda path: os.utime(path, (0, 0)), 'rt staticlib route_rules makes it'),
-    ('target/log/plan.say', os.remove, 'target/log/plan.say: No such file'),
-    ('target/log/plan.say', replaced('logic=proved', 'logic=refused'), 'target/log/plan.say: not proved'),
-    ('target/log/meaning.say', replaced('logic=proved functions=0 sum=', 'logic=proved functions=0 sum=f'), 'proved by another kit'),
+    ('log', replaced(' passed, 0 failed', ' passed, 1 failed'), 'tools/passed'),
+    ('log', replaced('; must-fail edits: ', '; must-fail edits: 1 refused, 1 bad; '), 'bad: 1'),
+    ('crates/plan/src/lib.rt', os.utime, 'crates/plan/src/lib.rt: changed since'),
+    ('crates/week/out/week', os.remove, 'crates/week/out/week: No such file'),
+    (LIBRARY, os.remove, 'tools/staticlib makes it'),
+    (LIBRARY, lambda path: os.utime(path, (0, 0)), 'tools/staticlib makes it'),
+    (SAID, os.remove, f'{SAID}: No such file'),
+    (SAID, replaced('logic=proved', 'logic=refused'), f'{SAID}: not proved'),
+    (SAID, replaced(' sum=', ' sum=f'), 'proved by another kit'),
+    ('crates/week/out/week.said', replaced('logic=proved', 'logic=refused'), 'crates/week/out/week.said: not proved'),
     ('include/route_rules.rs', replaced('VERSION: &str = "', 'VERSION: &str = "9'), 'include/route_rules.rs: version'),
     ('include/route_rules.h', replaced('VERSION "', 'VERSION "9'), 'and the header has'),
     ('docs/CHANGELOG.md', replaced('\n## ', '\n## 9'), 'docs/CHANGELOG.md: version'),
@@ -171,35 +180,40 @@ FAILURES = [
 ]
 
 
-def check_failures(place, sums):
-    root, env = tree(place, said('rt', 'version').strip())
-    release, folder = os.path.join(root, 'tools/release'), os.path.join(place, 'never')
-    said(release, folder, env=env)
-    expect('a release by the stand-in', text(folder, 'SHA256SUMS'), sums)
-    again = subprocess.run([release, folder], env=env, capture_output=True, text=True)
-    expect('a release over another', (again.returncode, 'is there already' in again.stderr), (1, True))
-    shutil.rmtree(folder)
+def check_failures(place, sums, log):
+    root, env = tree(place, said('rt', 'version').strip(), log)
+    release, folder, log = os.path.join(root, 'tools/release'), os.path.join(place, 'never'), os.path.join(root, 'log')
+    for words in ([release, folder], [release, folder, log]):
+        said(*words, env=env)
+        expect('a release by the stand-in', text(folder, 'SHA256SUMS'), sums)
+        again = subprocess.run(words, env=env, capture_output=True, text=True)
+        expect('a release over another', (again.returncode, 'is there already' in again.stderr), (1, True))
+        shutil.rmtree(folder)
+
+    def fail(what, words, message):
+        done = subprocess.run(words, env=env, capture_output=True, text=True)
+        expect(f'{what}: the release', (done.returncode, os.path.exists(folder), message in done.stderr), (1, False, True))
+
+    refused = os.path.join(root, 'refused')
+    refuse(refused)
+    fail('refused', [release, folder], 'rt ci: not proved')
+    os.remove(refused)
     for name, change, message in FAILURES:
         path = os.path.join(root, name)
         kept = os.path.join(place, 'kept')
-        if os.path.exists(path):
-            shutil.copy2(path, kept)
+        shutil.copy2(path, kept)
         change(path)
-        done = subprocess.run([release, folder], env=env, capture_output=True, text=True)
-        expect(f'{name}: the release', (done.returncode, os.path.exists(folder), message in done.stderr), (1, False, True))
-        if os.path.exists(kept):
-            shutil.move(kept, path)
-        else:
-            os.remove(path)
-    said(release, folder, env=env)
-    return len(FAILURES) + 1
+        fail(name, [release, folder, log], message)
+        shutil.move(kept, path)
+    said(release, folder, log, env=env)
+    return len(FAILURES) + 2
 
 
-def main():
+def main(log):
     with tempfile.TemporaryDirectory() as place:
         first, folder = os.path.join(place, 'first'), os.path.join(place, 'route_rules')
         for made in (first, folder + '_unmoved'):
-            said(os.path.join(ROOT, 'tools/release'), made)
+            said(os.path.join(ROOT, 'tools/release'), made, log)
         sums = text(first, 'SHA256SUMS')
         expect('the checksums of a second release', text(folder + '_unmoved', 'SHA256SUMS'), sums)
         os.rename(folder + '_unmoved', folder)
@@ -214,10 +228,12 @@ def main():
         version = check_version(folder, env)
         build(folder, place, version, env)
         run_programs(folder, place)
-        failures = check_failures(place, sums)
+        failures = check_failures(place, sums, log)
         count = len(names_in(folder))
     print(f'a release of version {version}, {count} files, used from outside: as it should be; {failures} that are not made')
 
 
 if __name__ == '__main__':
-    main()
+    if len(sys.argv) != 2:
+        sys.exit(__doc__)
+    main(sys.argv[1])

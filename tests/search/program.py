@@ -1,7 +1,7 @@
 #!/usr/bin/env python3
 """What program search writes: a cheapest plan as planners print it, in `planned`, or a line; and what it does with its files.
 
-tests/search/program.py PROGRAM     PROGRAM is target/bin/search
+tests/search/program.py PROGRAM     PROGRAM is crates/search/out/search
 
 Plans of tasks written here are written by hand. Those of the stored vectors and of random tasks are held to the account in
 shared/searching.py.

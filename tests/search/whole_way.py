@@ -1,7 +1,7 @@
 #!/usr/bin/env python3
 """From a task to a judged plan with no other planner: translated, searched, and the plan's source part judged.
 
-tests/search/whole_way.py SEARCH TRANSLATE JUDGE [COUNT [SEED]]     the three programs of these names in target/bin
+tests/search/whole_way.py SEARCH TRANSLATE JUDGE [COUNT [SEED]]     the three programs of these names, crates/NAME/out/NAME
 
 The belt, the small site and random small tasks. Judge finds that the source part's metric is the cost in the last line of `planned`.
 The outside engine (gringo and clasp) is the other planner, on the source: its least metric is that cost, or it finds no plan where

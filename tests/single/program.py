@@ -1,7 +1,7 @@
 #!/usr/bin/env python3
 """What program single writes: a task with single literals in its effects, in `singled`, and its lines; and what it does with its files.
 
-tests/single/program.py PROGRAM     PROGRAM is target/bin/single
+tests/single/program.py PROGRAM     PROGRAM is crates/single/out/single
 
 Effects and their choices are written out in cases.py row by row. Those of the examples, of check's vectors and of random tasks are held to the
 account in shared/singling.py.

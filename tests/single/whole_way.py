@@ -1,7 +1,7 @@
 #!/usr/bin/env python3
 """Tasks for a planner that takes no "or" in effects: translated, given single literals, written as PDDL, planned from the texts, judged.
 
-tests/single/whole_way.py SINGLE PDDL TRANSLATE JUDGE [COUNT [SEED]]     the four programs of these names in target/bin
+tests/single/whole_way.py SINGLE PDDL TRANSLATE JUDGE [COUNT [SEED]]     the four programs of these names, crates/NAME/out/NAME
 
 Each random small task goes by its translation, and one without preferences also as it stands. Then, for the cheapest list and for the
 dearest:

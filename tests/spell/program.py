@@ -1,7 +1,7 @@
 #!/usr/bin/env python3
 """What program spell writes: the spelling of a task, in `spelled`, and its lines; and what it does with its files.
 
-tests/spell/program.py PROGRAM     PROGRAM is target/bin/spell
+tests/spell/program.py PROGRAM     PROGRAM is crates/spell/out/spell
 
 Spellings are written by hand, row by row (shared/spellings.py). Those of the examples, of check's vectors and of random tasks are held to
 the account in shared/spelling.py.

@@ -1,7 +1,7 @@
 #!/usr/bin/env python3
 """Random small tasks through program translate: an outside planner has to find the same on a task and on its translation.
 
-tests/translate/planner.py PROGRAM [COUNT [SEED]]     PROGRAM is target/bin/translate
+tests/translate/planner.py PROGRAM [COUNT [SEED]]     PROGRAM is crates/translate/out/translate
 
 The planner (shared/planning.py) is two logic programs run by gringo and clasp (Debian packages of these names). source.lp plans on the
 task, by the documents' meanings of the preferences, with at most HORIZON steps. classical.lp knows nothing of preferences, and plans on

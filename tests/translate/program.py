@@ -1,7 +1,7 @@
 #!/usr/bin/env python3
 """What program translate does with its files: `compiled` made, replaced, left alone or emptied, and the lines it writes.
 
-tests/translate/program.py PROGRAM     PROGRAM is target/bin/translate
+tests/translate/program.py PROGRAM     PROGRAM is crates/translate/out/translate
 """
 import os
 import struct

@@ -1,7 +1,7 @@
 #!/usr/bin/env python3
 """What program week writes: the figures of the plans in `plans` on the task in `task`; and what it does with its two files.
 
-tests/week/program.py PROGRAM JUDGE     target/bin/week and target/bin/judge
+tests/week/program.py PROGRAM JUDGE     crates/week/out/week and crates/judge/out/judge
 
 Figures are written out here by hand, taken from the stored vectors (tests/week/vectors.py), and made by Python's statistics from what
 program judge prints about each plan.

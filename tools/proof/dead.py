@@ -6,14 +6,15 @@ import glob
 import os
 import re
 
-ENDS = {'Proof', 'Examples', 'DocumentExamples', 'Looked', 'Refuted'}  # files that are there to be read, not to be used
-HISTORY = {'docs/LANDINGS.md', 'docs/CHANGELOG.md'}
+ENDS = {'Answers', 'Invariants', 'Proof', 'Examples', 'DocumentExamples', 'Looked', 'Refuted'}  # files that are there to be read, not to be used
+HISTORY = {'docs/LANDINGS.md', 'docs/CHANGELOG.md', 'docs/PORT.md'}
 HEAD = re.compile(r'^ *(?:(?:pub|abbrev|unfoldable) )*(?:(?:data|record|ruleset) )?([^\s:(){}]+)(?: [({][^\n]*[)}])*(?: :|$)')
-FROM = re.compile(r'use Rattle·([a-z_]+)(?:·\w+)?\.(specs|proofs)((?:\.[^\s.{]+)*)(?:\.\{([^}]*)\})?(?: as (\S+?))?;?$', re.M)
+FROM = re.compile(r'use Rattle\.(\w+)\.(specs|proofs)((?:\.[^\s.{;]+)*)(?:\.\{([^}]*)\})?(?: as ([^\s;]+))?;?$', re.M)
+GIVEN = re.compile(r'\b(\w+)::(specs|proofs)::((?:\w+::)*)([^\s,():]+)')  # what an attribute `tactic` hands to the search
 
 
 def words(text):
-    return set(re.split(r'[\s(){};,"⌜⌝.]+', re.sub(r'(?:--|//)[^\n]*', '', text)))
+    return set(re.split(r'[\s(){};,".@]+', re.sub(r'(?:--|//)[^\n]*', '', text)))
 
 
 def blocks(path):
@@ -60,7 +61,7 @@ def imports(path, paths):
 
 
 def unreached():
-    paths = {path for path in glob.glob('crates/*/*/**/*.antt', recursive=True)}
+    paths = {path for part in ('specs', 'proofs') for path in glob.glob(f'crates/*/{part}/**/*.antt', recursive=True)}
     code = glob.glob('crates/*/src/**/*.rt', recursive=True)
     defined = {path: blocks(path) for path in paths}
     brought = {path: imports(path, paths) for path in [*paths, *code]}
@@ -68,6 +69,8 @@ def unreached():
     def uses(path, text):
         names, modules = brought[path]
         used = words(text)
+        for crate, kind, parts, name in GIVEN.findall(text) if path.endswith('.rt') else ():
+            yield file_of(path.split('/')[1] if crate == 'crate' else crate, kind, [part for part in parts.split('::') if part], paths), name
         for word in used:
             if word in defined.get(path, ()):
                 yield path, word

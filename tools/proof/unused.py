@@ -1,17 +1,19 @@
 #!/usr/bin/env python3
 """unused.py [CRATE...] [--write]: names in `use` groups of definitions, proofs and contracts that their file does not use, in the
-named crates or in all. With --write they are taken out. A use of code in a .rt file is left alone: the compiler looks at those."""
+named crates or in all. With --write they are taken out. A use of code in a .rt file is left alone: the compiler looks at those. In a
+crate that is proved `rt tidy` does the same, by what the check read."""
 import glob
 import re
 import sys
 
 GROUP = re.compile(r'^((?:ghost )?use )([^{};\n]+)\.\{([^}\n]*)\}(;?)\n', re.M)
-EDGE = r'[\s(){};,.⌜⌝]'
+EDGE = r'[\s(){};,.@]'
+PARTS = ('src/**/*.rt', 'specs/**/*.antt', 'proofs/**/*.antt')  # and nothing of out/
 
 
 def uses(text, name):
-    if name.startswith('_') or name.endswith('_'):  # an operator: its parts stand between what it joins
-        return name in text or all(part in text for part in name.split('_') if part)
+    if '◌' in name:  # an operator: its parts stand between what it joins
+        return name in text or all(part in text for part in name.split('◌') if part)
     return re.search(f'(?:^|{EDGE}){re.escape(name)}(?:{EDGE}|$)', text) is not None
 
 
@@ -34,8 +36,7 @@ def pruned(path, old):
 
 def main():
     crates = [word for word in sys.argv[1:] if word != '--write'] or ['*']
-    for path in sorted(path for crate in crates for kind in ('src/*.rt', '**/*.antt')
-                       for path in glob.glob(f'crates/{crate}/{kind}', recursive=True)):
+    for path in sorted(path for crate in crates for kind in PARTS for path in glob.glob(f'crates/{crate}/{kind}', recursive=True)):
         with open(path) as file:
             old = file.read()
         new, found = pruned(path, old)

@@ -1,7 +1,9 @@
 // Checks the task files of the file `vectors`.
 #![tactic(auto)]
+
+use std::io;
 use vectors::Family;
 
-fn main() {
-    vectors::run(Family::Checks);
+fn main(rt: HostRuntime) -> io::Result<()> {
+    vectors::run(&rt, Family::Checks)
 }

@@ -1,12 +1,20 @@
 // Files by name, and the lines that every program prints.
 #![tactic(auto)]
+
 ghost use Rattle.files.specs.Content.{WithinBuffer};
 
-use libc::STDOUT_FILENO;
+use std::fs::{File, OpenOptions};
+use std::io::{Read, Write};
+use std::rt::Files;
+use std::{fs, io};
+use std_io::io::last_error;
 use task::Refusal;
 
+// Room for more than any accepted file, and for all that is written of one.
+pub const LARGE: usize = 65536;
+
 // What was read of a file: so many bytes, or none since it can't be opened or read.
-#[derive(Clone, Copy)]
+#[derive(Drop)]
 pub enum Content {
     Bytes(usize),
     Missing,
@@ -14,16 +22,14 @@ pub enum Content {
 
 // Reads an open file to its end, or as much of it as the buffer has room for. A read that fails counts for the whole file: what
 // came before it is no file.
-fn read_open(fd: i32, buf: &mut [u8]) -> Content
+fn read_open(file: &mut impl Read, buf: &mut [u8]) -> Content
     ensures { WithinBuffer result buf.new }
 {
     let mut done = 0;
     while done < buf.len() {
-        let got = libc::read(fd, &mut buf[done..]);
-        if got < 0 {
+        let Ok(n) = file.read(&mut buf[done..]) else {
             return Content::Missing;
-        }
-        let n = io::count(got, &buf[done..]);
+        };
         if n == 0 {
             return Content::Bytes(done);
         }
@@ -33,25 +39,13 @@ fn read_open(fd: i32, buf: &mut [u8]) -> Content
 }
 
 // Reads a file into the start of a buffer, as much of it as fits.
-pub fn read(name: &[u8], buf: &mut [u8]) -> Content
+pub fn read(rt: &impl Files, name: &str, buf: &mut [u8]) -> Content
     ensures { WithinBuffer result buf.new }
 {
-    let fd = os::open_read(name);
-    if fd < 0 {
+    let Ok(mut file) = File::open(rt, name) else {
         return Content::Missing;
-    }
-    let r = read_open(fd, buf);
-    libc::close(fd);
-    r
-}
-
-// Whether a file was opened, which is then closed.
-fn opened(fd: i32) -> bool {
-    if fd < 0 {
-        return false;
-    }
-    libc::close(fd);
-    true
+    };
+    read_open(&mut file, buf)
 }
 
 // What came of trying to open a file for writing: it was there, it was missing and is now made, or it can't be opened.
@@ -64,14 +58,19 @@ enum Tried {
 
 // Tries to open a file for writing, and leaves its bytes as they are. A link to a file that is missing counts as one that was
 // there.
-fn try_open(name: &[u8]) -> Tried {
-    if opened(os::open_append(name)) {
+fn try_open(rt: &impl Files, name: &str) -> Tried {
+    if OpenOptions::new().append(true).open(rt, name).is_ok() {
         return Tried::Old;
     }
-    if opened(os::create(name)) {
+    if OpenOptions::new()
+        .write(true)
+        .create_new(true)
+        .open(rt, name)
+        .is_ok()
+    {
         return Tried::New;
     }
-    if opened(os::open_overwrite(name)) {
+    if File::create(rt, name).is_ok() {
         return Tried::Old;
     }
     Tried::Closed
@@ -85,56 +84,64 @@ fn is_open(tried: Tried) -> bool {
 }
 
 // Takes back what trying to open a file has made.
-fn take_back(name: &[u8], tried: Tried) {
+fn take_back(rt: &impl Files, name: &str, tried: Tried) {
     match tried {
         Tried::New => {
-            os::unlink(name);
+            let _ = fs::remove_file(rt, name);
         }
         _ => {}
     }
 }
 
 // Whether two files can be opened for writing. Neither is emptied, and where one can't be opened neither is made.
-pub fn both_open(a: &[u8], b: &[u8]) -> bool {
-    let of_a = try_open(a);
-    let of_b = try_open(b);
+pub fn both_open(rt: &impl Files, a: &str, b: &str) -> bool {
+    let of_a = try_open(rt, a);
+    let of_b = try_open(rt, b);
     let both = is_open(of_a) & is_open(of_b);
     if !both {
-        take_back(a, of_a);
-        take_back(b, of_b);
+        take_back(rt, a, of_a);
+        take_back(rt, b, of_b);
     }
     both
 }
 
 // Empties a file.
-pub fn empty(name: &[u8]) {
-    opened(os::open_overwrite(name));
+pub fn empty(rt: &impl Files, name: &str) {
+    let _ = File::create(rt, name);
+}
+
+// Closes a file, and answers whether that went well. A dropped file is closed, and of what the system answers only the number of its last
+// error is left. It is read before and after: opening a file with no name has set it to one that no close gives.
+fn closed<R: Files>(rt: &R, file: R::File) -> bool {
+    let _ = File::open(rt, "");
+    let before = last_error().raw_os_error();
+    drop(file);
+    last_error().raw_os_error() == before
 }
 
 // Writes a file, and answers whether it now holds the bytes alone: it was opened, and every write and the close went well. Where
 // one of these failed the file is emptied, so that nothing takes a part for the whole.
-pub fn write(name: &[u8], bytes: &[u8]) -> bool {
-    let fd = os::open_overwrite(name);
-    if fd < 0 {
+pub fn write(rt: &impl Files, name: &str, bytes: &[u8]) -> bool {
+    let Ok(mut file) = File::create(rt, name) else {
         return false;
-    }
-    let all = io::write_all(fd, bytes);
-    let closed = libc::close(fd);
-    let whole = all & (closed == 0);
+    };
+    let all = file.write_all(bytes).is_ok();
+    let closed = closed(rt, file);
+    let whole = all & closed;
     if !whole {
-        empty(name);
+        empty(rt, name);
     }
     whole
 }
 
 // Prints that a file is missing.
-pub fn say_missing() {
-    io::write_all(STDOUT_FILENO, b"no file\n");
+pub fn say_missing(rt: &impl Print) -> io::Result<()> {
+    rt.write_all(b"no file\n")
 }
 
 // Prints the line of a refusal.
-pub fn say_refused(f: Refusal) {
+pub fn say_refused(rt: &impl Print, f: Refusal) -> io::Result<()> {
     let mut line = [0u8; 64];
     let k = text::put_refused(&mut line, 0, f.number as u64, f.place as u64);
-    io::write_all(STDOUT_FILENO, text::front(&line, k));
+    rt.write_all(text::front(&line, k))
 }

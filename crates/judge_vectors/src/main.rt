@@ -1,7 +1,9 @@
 // Reports on the plans of the file `vectors`.
 #![tactic(auto)]
+
+use std::io;
 use vectors::Family;
 
-fn main() {
-    vectors::run(Family::Plans);
+fn main(rt: HostRuntime) -> io::Result<()> {
+    vectors::run(&rt, Family::Plans)
 }

@@ -1,23 +1,25 @@
 // A file of test vectors: records one after the other, each a little-endian length of 32 bits and then that many bytes.
 #![tactic(auto)]
+
 ghost use Rattle.records.specs.Records.{Filled};
 
+use std::io::Read;
+
 // What stands next in a file: a record of so many bytes, or none.
-#[derive(Clone, Copy)]
+#[derive(Drop)]
 pub enum Next {
     Record(usize),
     Nothing,
 }
 
 // Reads the n bytes of a record, where the buffer has room for them.
-fn read_body(fd: i32, buf: &mut [u8], n: usize) -> Next
+fn read_body(file: &mut impl Read, buf: &mut [u8], n: usize) -> Next
     ensures { Filled result buf.old buf.new }
 {
     if buf.len() < n {
         return Next::Nothing;
     }
-    let got = io::read_full(fd, &mut buf[..n]);
-    if got == n {
+    if file.read_exact(&mut buf[..n]).is_ok() {
         Next::Record(n)
     } else {
         Next::Nothing
@@ -25,14 +27,14 @@ fn read_body(fd: i32, buf: &mut [u8], n: usize) -> Next
 }
 
 // Reads the next record into the start of the buffer. There is none at the end of the file, where the file ends inside
-// the record, and where the record is longer than the buffer.
-pub fn next_record(fd: i32, buf: &mut [u8]) -> Next
+// the record, where a read fails, and where the record is longer than the buffer.
+pub fn next_record(file: &mut impl Read, buf: &mut [u8]) -> Next
     ensures { Filled result buf.old buf.new }
 {
     let mut length = [0u8; 4];
-    if io::read_full(fd, &mut length) < 4 {
+    if file.read_exact(&mut length).is_err() {
         return Next::Nothing;
     }
     let n = task::rows::value_at(&length, 0);
-    read_body(fd, buf, n as usize)
+    read_body(file, buf, n as usize)
 }

@@ -1,7 +1,9 @@
 // Settles the costs and met preferences of the file `vectors`.
 #![tactic(auto)]
+
+use std::io;
 use vectors::Family;
 
-fn main() {
-    vectors::run(Family::Amounts);
+fn main(rt: HostRuntime) -> io::Result<()> {
+    vectors::run(&rt, Family::Amounts)
 }

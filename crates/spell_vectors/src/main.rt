@@ -1,7 +1,9 @@
 // Spells the tasks of the file `vectors`.
 #![tactic(auto)]
+
+use std::io;
 use vectors::Family;
 
-fn main() {
-    vectors::run(Family::Spellings);
+fn main(rt: HostRuntime) -> io::Result<()> {
+    vectors::run(&rt, Family::Spellings)
 }

@@ -1,9 +1,11 @@
 // Settles costs and met preferences, where a task's record comes before theirs: 16 bytes, the cost and then the met preferences
 // as bits, each a number of 64 bits with its lowest byte first. Of each it writes a line: `metric` and `utility`, or `refused`,
 // number and place.
-use super::lines;
+use super::{ROOM, lines};
 use records::Next;
 use settling::Settled;
+use std::io;
+use std::io::Read;
 use task::rows;
 
 // A number of 64 bits, from its halves.
@@ -18,24 +20,24 @@ fn settle(file: &[u8], b: &[u8; 16]) -> Settled {
 }
 
 // Settles the next cost and met preferences, and answers whether there were any.
-pub fn settle_next(fd: i32) -> bool {
-    let mut task = io::large_buffer();
+pub fn settle_next(rt: &impl Print, vectors: &mut impl Read) -> io::Result<bool> {
+    let mut task = [0u8; ROOM];
     let mut amounts = [0u8; 16];
-    let of_task = records::next_record(fd, &mut task);
+    let of_task = records::next_record(&mut *vectors, &mut task);
     let Next::Record(n) = of_task else {
-        return false;
+        return Ok(false);
     };
-    let of_amounts = records::next_record(fd, &mut amounts);
+    let of_amounts = records::next_record(vectors, &mut amounts);
     let Next::Record(m) = of_amounts else {
-        return false;
+        return Ok(false);
     };
     if m < 16 {
-        return false;
+        return Ok(false);
     }
     let settled = settle(text::front(&task, n), &amounts);
     match settled {
-        Settled::Given(w) => lines::write_worth(w),
-        Settled::Refused(f) => lines::write_refused(f),
+        Settled::Given(w) => lines::write_worth(rt, w)?,
+        Settled::Refused(f) => lines::write_refused(rt, f)?,
     }
-    true
+    Ok(true)
 }

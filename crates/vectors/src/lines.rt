@@ -1,27 +1,26 @@
 // Parts of the lines that are written about vectors.
-use libc::STDOUT_FILENO;
 use settling::Worth;
+use std::io;
 use task::Refusal;
 
 // Writes words and a number after them.
-pub fn write_amount(words: &[u8], n: u64) {
-    io::write_all(STDOUT_FILENO, words);
-    io::print_decimal(STDOUT_FILENO, n);
+pub fn write_amount(rt: &impl Print, words: &str, n: u64) -> io::Result<()> {
+    print!(rt; "{words}{n}")
 }
 
 // Writes metric and utility, and ends the line.
-pub fn write_worth(w: Worth) {
-    write_amount(b"metric ", w.metric);
-    io::write_all(STDOUT_FILENO, b" utility ");
+pub fn write_worth(rt: &impl Print, w: Worth) -> io::Result<()> {
+    write_amount(rt, "metric ", w.metric)?;
+    rt.write_all(b" utility ")?;
     let mut utility = [0u8; 64];
     let k = text::put_integer(&mut utility, 0, w.utility);
-    io::write_all(STDOUT_FILENO, text::front(&utility, k));
-    io::write_all(STDOUT_FILENO, b"\n");
+    rt.write_all(text::front(&utility, k))?;
+    rt.write_all(b"\n")
 }
 
 // Writes the line of a refusal.
-pub fn write_refused(f: Refusal) {
+pub fn write_refused(rt: &impl Print, f: Refusal) -> io::Result<()> {
     let mut line = [0u8; 64];
     let k = text::put_refused(&mut line, 0, f.number as u64, f.place as u64);
-    io::write_all(STDOUT_FILENO, text::front(&line, k));
+    rt.write_all(text::front(&line, k))
 }

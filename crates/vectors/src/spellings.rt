@@ -1,48 +1,49 @@
 // Spells tasks, where a task's record comes before the area that is lent for its spelling. Of each it writes a line, `spelled` and
 // the length, or `refused`, number and place; then the bytes of the area, as they are after the call, and a newline.
-use super::lines;
-use libc::STDOUT_FILENO;
+use super::{ROOM, lines};
 use outcome::Outcome;
 use records::Next;
+use std::io;
+use std::io::Read;
 
-fn write_outcome(answer: Outcome) {
+fn write_outcome(rt: &impl Print, answer: Outcome) -> io::Result<()> {
     match answer {
         Outcome::Written(k) => {
-            lines::write_amount(b"spelled ", k as u64);
-            io::write_all(STDOUT_FILENO, b"\n");
+            lines::write_amount(rt, "spelled ", k as u64)?;
+            rt.write_all(b"\n")
         }
-        Outcome::Refused(f) => lines::write_refused(f),
+        Outcome::Refused(f) => lines::write_refused(rt, f),
     }
 }
 
 // Spells a task, and writes the answer and the area.
-fn spell_into(file: &[u8], area: &mut [u8]) {
+fn spell_into(rt: &impl Print, file: &[u8], area: &mut [u8]) -> io::Result<()> {
     let answer = spelling::spell(file, &mut *area);
-    write_outcome(answer);
-    io::write_all(STDOUT_FILENO, &*area);
-    io::write_all(STDOUT_FILENO, b"\n");
+    write_outcome(rt, answer)?;
+    rt.write_all(&*area)?;
+    rt.write_all(b"\n")
 }
 
 // Spells a task into an area of so many bytes, the first of a buffer, and answers whether it has them.
-fn spell_front(file: &[u8], buf: &mut [u8], room: usize) -> bool {
+fn spell_front(rt: &impl Print, file: &[u8], buf: &mut [u8], room: usize) -> io::Result<bool> {
     if buf.len() < room {
-        return false;
+        return Ok(false);
     }
-    spell_into(file, &mut buf[..room]);
-    true
+    spell_into(rt, file, &mut buf[..room])?;
+    Ok(true)
 }
 
 // Spells the next task, and answers whether there was one.
-pub fn spell_next(fd: i32) -> bool {
-    let mut task = io::large_buffer();
-    let mut area = io::large_buffer();
-    let of_task = records::next_record(fd, &mut task);
+pub fn spell_next(rt: &impl Print, vectors: &mut impl Read) -> io::Result<bool> {
+    let mut task = [0u8; ROOM];
+    let mut area = [0u8; ROOM];
+    let of_task = records::next_record(&mut *vectors, &mut task);
     let Next::Record(n) = of_task else {
-        return false;
+        return Ok(false);
     };
-    let of_area = records::next_record(fd, &mut area);
+    let of_area = records::next_record(vectors, &mut area);
     let Next::Record(room) = of_area else {
-        return false;
+        return Ok(false);
     };
-    spell_front(text::front(&task, n), &mut area, room)
+    spell_front(rt, text::front(&task, n), &mut area, room)
 }

@@ -1,47 +1,46 @@
 // Walks plans, where a task's record comes before its plan's. Of each it writes a line: the verdict, of a plan that solves with the
 // cost and the met preferences, and the literals looked at; or `refused`, number and place.
-use super::lines;
-use libc::STDOUT_FILENO;
+use super::{ROOM, lines};
 use plan::{Verdict, Walked};
 use records::Next;
+use std::io;
+use std::io::Read;
 
-fn write_verdict(v: Verdict) {
+fn write_verdict(rt: &impl Print, v: Verdict) -> io::Result<()> {
     match v {
         Verdict::Solved(s) => {
-            lines::write_amount(b"solved cost ", s.cost);
-            lines::write_amount(b" met ", s.met);
+            lines::write_amount(rt, "solved cost ", s.cost)?;
+            lines::write_amount(rt, " met ", s.met)
         }
-        Verdict::Stopped(i) => lines::write_amount(b"stopped ", i as u64),
-        Verdict::GoalMissed => {
-            io::write_all(STDOUT_FILENO, b"goal missed");
-        }
-        Verdict::RuleMissed(i) => lines::write_amount(b"rule missed ", i as u64),
+        Verdict::Stopped(i) => lines::write_amount(rt, "stopped ", i as u64),
+        Verdict::GoalMissed => rt.write_all(b"goal missed"),
+        Verdict::RuleMissed(i) => lines::write_amount(rt, "rule missed ", i as u64),
     }
 }
 
-fn write_walked(walked: Walked) {
+fn write_walked(rt: &impl Print, walked: Walked) -> io::Result<()> {
     match walked {
         Walked::Given(v, looked) => {
-            write_verdict(v);
-            lines::write_amount(b" literals ", looked);
-            io::write_all(STDOUT_FILENO, b"\n");
+            write_verdict(rt, v)?;
+            lines::write_amount(rt, " literals ", looked)?;
+            rt.write_all(b"\n")
         }
-        Walked::Refused(f) => lines::write_refused(f),
+        Walked::Refused(f) => lines::write_refused(rt, f),
     }
 }
 
 // Walks the next plan, and answers whether there was one.
-pub fn walk_next(fd: i32) -> bool {
-    let mut task = io::large_buffer();
-    let mut plan = io::large_buffer();
-    let of_task = records::next_record(fd, &mut task);
+pub fn walk_next(rt: &impl Print, vectors: &mut impl Read) -> io::Result<bool> {
+    let mut task = [0u8; ROOM];
+    let mut plan = [0u8; ROOM];
+    let of_task = records::next_record(&mut *vectors, &mut task);
     let Next::Record(n) = of_task else {
-        return false;
+        return Ok(false);
     };
-    let of_plan = records::next_record(fd, &mut plan);
+    let of_plan = records::next_record(vectors, &mut plan);
     let Next::Record(m) = of_plan else {
-        return false;
+        return Ok(false);
     };
-    write_walked(plan::walk(text::front(&task, n), text::front(&plan, m)));
-    true
+    write_walked(rt, plan::walk(text::front(&task, n), text::front(&plan, m)))?;
+    Ok(true)
 }

@@ -34,8 +34,12 @@ moves : (c : After-step-moved)
     → Start c.args.marks.now c.args.values.now c.args.places c.args.starts.now c.args.s t
     → StepAnswer t c.step_index.result c.looked_on.result r
 moves c r e t S =
+    let entry' : c.step_index.result < length c.args.starts.now = known (length c.args.starts.now) c.args.plan.now c.requires.all_below.1 c.loop-i.i (search rules) c.step_index.result c.step_index.ensures in
+    let action' : (t : Task) → Start c.args.marks.now c.args.values.now c.args.places c.args.starts.now c.args.s t → ActionAt c.args.marks.now c.args.values.now (get_or c.args.starts.now c.step_index.result 0) t c.step_index.result = λ t S. let k = c.step_index.result in
+    let h : k < length t.actions = subst (λ (n : ℕ). k < n) S.all_actions entry' in
+    record { spells = S.placed.spells; known = h; begins = S.actions k h } in
     let k = c.step_index.result in
-    subst (StepAnswer t k c.looked_on.result) e (c.step-moved.ensures.step_answer t k (action c t S))
+    subst (StepAnswer t k c.looked_on.result) e (c.step-moved.ensures.step_answer t k (action' t S))
 
 pub loop-i-init : goal.loop-i-init
 loop-i-init c =

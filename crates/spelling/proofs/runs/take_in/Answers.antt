@@ -14,7 +14,7 @@ use Rattle.spelling.proofs.runs.take_in.Goals.{After-slot-k}
 within : (c : After-slot-k) → c.slot-k.result < 4
 within c =
     let a = c.args in
-    subst⁻¹ (λ (k : ℕ). k < 4) c.slot-k.ensures (slot_within a.fact a.in-first (search rules))
+    subst⁻¹ (λ (k : ℕ). k < 4) c.slot-k.ensures (slot_within a.fact a.in_first (search rules))
 
 pub offset_bounds-words-k : goal.offset_bounds-words-k
 offset_bounds-words-k c = let h = within c in search rules
@@ -34,9 +34,9 @@ returns-then-fact-lt128 c =
     let ws = a.words.now in
     let n = a.fact in
     (λ i. sets_in (set ws (c.slot-k.ensures i) (bit_or (get_or ws (c.slot-k.ensures i) 0) (shifted_one (n % 64) (omega arith) i))))
-    ∙ takes_in ws c.requires n a.in-first (search rules)
+    ∙ takes_in ws c.requires n a.in_first (search rules)
 
 pub returns-else-fact-lt128 : goal.returns-else-fact-lt128
 returns-else-fact-lt128 c =
     let a = c.args in
-    left_out a.words.now c.requires a.fact a.in-first (search rules)
+    left_out a.words.now c.requires a.fact a.in_first (search rules)

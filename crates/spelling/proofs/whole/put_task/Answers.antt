@@ -27,14 +27,14 @@ listed c = sym c.is_listed.ensures ∙ c.if-is_listed.true
 pub loop-i-smaller-then-is_listed : goal.loop-i-smaller-then-is_listed
 loop-i-smaller-then-is_listed c =
     let a = c.args in
-    let e = run_goes a.marks.now a.values.now c.loop-i.i (search rules) (listed (goal.at.loop-i-smaller-then-is_listed c).After-second_mark-b) c.first_mark-a.result c.second_mark-b.result (as_run c.gather-g.result)
+    let e = run_goes a.marks.now a.values.now c.loop-i.i (search rules) (listed (goal.at.loop-i-smaller-then-is_listed c).Then-is_listed) c.first_mark-a.result c.second_mark-b.result (as_run c.gather-g.result)
     c.first_mark-a.ensures c.second_mark-b.ensures c.gather-g.ensures in
     omega (arith, e.0, e.1)
 
 pub loop-i-preserved-then-is_listed : goal.loop-i-preserved-then-is_listed
 loop-i-preserved-then-is_listed c =
     let a = c.args in
-    let e = next_run a.marks.now a.values.now c.loop-i.i (search rules) (listed (goal.at.loop-i-preserved-then-is_listed c).After-second_mark-b) c.first_mark-a.result c.second_mark-b.result (as_run c.gather-g.result)
+    let e = next_run a.marks.now a.values.now c.loop-i.i (search rules) (listed (goal.at.loop-i-preserved-then-is_listed c).Then-is_listed) c.first_mark-a.result c.second_mark-b.result (as_run c.gather-g.result)
     c.first_mark-a.ensures c.second_mark-b.ensures c.gather-g.ensures in
     record {
       so_far = kept_on c.loop-i.invariant.so_far c.put_rising-k.auto.out c.put_rising-k.ensures;

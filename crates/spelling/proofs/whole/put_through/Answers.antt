@@ -1,0 +1,35 @@
+-- Refused by 9 the area stays; else it holds the sizes and then the rows (`Fitting`), which are copied from our own area (`Through`).
+use mathlib.Core.Path.{◌≡◌, refl}
+use Prim.Native.Nat.{◌+◌, ◌*◌, ◌≤◌}
+use native.Mathlib.Omega.{arith}
+use lib.ListN.{length}
+use Rattle.outcome.specs.declared.Outcome.TheVariants.{Written}
+use Rattle.task.specs.File.{paired}
+use Rattle.spelling.specs.Spelled.{spelled_rows}
+use Rattle.spelling.proofs.Fitting.{no_room, put}
+use Rattle.spelling.proofs.Through.{through}
+use borrow.Author.Rules.{rules}
+use Rattle.spelling.proofs.whole.put_through.Goals as goal
+use Rattle.spelling.proofs.whole.put_through.Goals.{After-put_task-k}
+
+few : (c : After-put_task-k) → let a = c.args in length (spelled_rows (paired a.marks.now a.values.now)) ≤ 12000
+few c = let s = c.requires.0 in omega (arith, s.fewer, s.rows.few)
+
+pub returns-then-out-length : goal.returns-then-out-length
+returns-then-out-length c =
+    let a = c.args in
+    no_room a.facts a.actions a.preferences (spelled_rows (paired a.marks.now a.values.now)) a.out.now c.put_task-k.result.next
+    c.put_task-k.ensures.next (few (goal.at.returns-then-out-length c).After-put_task-k) c.refuse.result c.refuse.ensures (search rules)
+
+pub returns : goal.returns
+returns c =
+    let a = c.args in
+    let xs = spelled_rows (paired a.marks.now a.values.now) in
+    let n = c.put_task-k.result.next in
+    let all : n ≡ length xs = omega (arith, c.put_task-k.ensures.next, few (goal.at.returns c).After-put_task-k) in
+    let rows =
+    through a.own.now c.put_task-k.new.out (length a.marks.now) xs n all c.requires.0.fewer c.requires.0.rows.few c.requires.1 c.put_task-k.ensures.file
+    c.put_sizes.new.out c.copy_rows.new.out (record { rows = n; next = 0 }) c.copy_rows.result refl refl
+    (λ i. omega (arith, c.slice_known-3-1.given i)) c.copy_rows.ensures in
+    put a.facts a.actions a.preferences xs a.out.now n c.put_task-k.ensures.next (few (goal.at.returns c).After-put_task-k) c.put_sizes.new.out c.copy_rows.new.out
+    c.copy_rows.result (search rules) c.put_sizes.ensures rows (Written (8 + 5 * n)) refl
