@@ -4,7 +4,6 @@ use mathlib.Core.Bool.{Bool, true, false}
 use mathlib.Core.List.{List}
 use Prim.Native.Nat.{ℕ, suc, ◌+◌, ◌-◌, ◌/◌, ◌<◌}
 use native.Mathlib.Omega.{arith}
-use lib.ListN.{length}
 use Rattle.meaning.specs.Task.{Task}
 use Rattle.meaning.specs.Meaning.{is_true}
 use Rattle.state.specs.Member.{member}
@@ -153,9 +152,11 @@ pub loop-m-preserved : goal.loop-m-preserved
 loop-m-preserved c = λ t L O.
     let f = (goal.at.loop-m-preserved c).After-set_leaf in
     let i = taken_place c.loop-m.tree in
-    let after = with_place i (turn_taken f t L O) in
-    (after, turning_on c.requires.node_limit.few (c.loop-m.invariant t L O).1 (left f) i (root f) L c.set_leaf.new.tree (closed f t L O) (no f t L O)
-    (c.expand-n.ensures t after L (starts_turn f t L O)) (search rules))
+    let after = with_place i (turn_taken f t L O) in (
+      after,
+      turning_on c.requires.node_limit.few (c.loop-m.invariant t L O).1 (left f) i (root f) L c.set_leaf.new.tree (closed f t L O) (no f t L O)
+          (c.expand-n.ensures t after L (starts_turn f t L O)) (search rules),
+    )
 
 pub returns : goal.returns
 returns c = λ t L O. ended_last c.requires.node_limit.few (c.loop-m.invariant t L O).1 (search rules)

@@ -29,7 +29,7 @@ parts c = answered c.args.file.now c.check-c.result c.check-c.ensures c.in-Accep
 pub returns-in_default : goal.returns-in_default
 returns-in_default c =
     let a = c.args in
-    let parts =    refused_answers (search_file a.file.now a.limit a.room) c.refusal_of.result (Refused c.refusal_of.result) refl
+    let parts = refused_answers (search_file a.file.now a.limit a.room) c.refusal_of.result (Refused c.refusal_of.result) refl
     (turned_down a.file.now a.limit a.room c.check-c.result c.check-c.ensures c.in_default.field-0 c.in_default.is
     c.refusal_of.result c.refusal_of.ensures) a.plan.now a.words.now in
     record { result_after = parts.0; value = parts.1.0; plan_after = parts.1.1.0; bounded = parts.1.1.1 }
@@ -37,7 +37,7 @@ returns-in_default c =
 pub returns-then-z-ne0 : goal.returns-then-z-ne0
 returns-then-z-ne0 c =
     let a = c.args in
-    let parts =    refused_answers (search_file a.file.now a.limit a.room) (record { number = 13; place = 0 }) c.refuse.result c.refuse.ensures
+    let parts = refused_answers (search_file a.file.now a.limit a.room) (record { number = 13; place = 0 }) c.refuse.result c.refuse.ensures
     (preferred a.file.now a.limit a.room c.check-c.result c.check-c.ensures c.in-Accepted.z c.in-Accepted.is c.if-z-ne0.true)
     a.plan.now a.words.now in
     record { result_after = parts.0; value = parts.1.0; plan_after = parts.1.1.0; bounded = parts.1.1.1 }
@@ -45,7 +45,7 @@ returns-then-z-ne0 c =
 pub returns-then-not-limit-room : goal.returns-then-not-limit-room
 returns-then-not-limit-room c =
     let a = c.args in
-    let parts =    refused_answers (search_file a.file.now a.limit a.room) (record { number = 16; place = 0 }) c.refuse-then-not-limit-room.result c.refuse-then-not-limit-room.ensures
+    let parts = refused_answers (search_file a.file.now a.limit a.room) (record { number = 16; place = 0 }) c.refuse-then-not-limit-room.result c.refuse-then-not-limit-room.ensures
     (limited a.file.now a.limit a.room c.check-c.result c.check-c.ensures c.in-Accepted.z c.in-Accepted.is
     c.if-z-ne0.false (not-true (limit_allowed a.limit a.room) c.if-not-limit-room.true-raw))
     a.plan.now a.words.now in

@@ -10,6 +10,6 @@ returns-in-Of c =
 pub returns-in-Unsolved : goal.returns-in-Unsolved
 unfolding unsolved_line
 returns-in-Unsolved c = record {
-      wrote = rw c.in-Unsolved.is c.put_number.ensures.wrote;
-      upper_bound = search rules;
-    }
+  wrote = rw c.in-Unsolved.is c.put_number.ensures.wrote;
+  upper_bound = search rules;
+}

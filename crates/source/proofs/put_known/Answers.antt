@@ -19,7 +19,7 @@ returns-then-known-steps c =
     let z = as_sizes a.z in
     let room = length a.out.now in
     let e = c.steps_known-known.ensures in
-    let parts =    turned_down (below a.z.actions p) a.out.now (of_known z room p) (answer c.refuse.result) 11 c.steps_known-known.result
+    let parts = turned_down (below a.z.actions p) a.out.now (of_known z room p) (answer c.refuse.result) 11 c.steps_known-known.result
     c.refuse.ensures (unknown z room p (omega (arith, c.if-known-steps.true, e)) ∙ ap (refused 11) (sym e)) in
     record { result_value = parts.0; out_after = parts.1 }
 
@@ -30,7 +30,7 @@ returns-then-out-n c =
     let z = as_sizes a.z in
     let room = length a.out.now in
     let e = c.steps_known-known.ensures in
-    let parts =    turned_down (below a.z.actions p) a.out.now (of_known z room p) (answer c.refuse-then-out-n.result) 9 0 c.refuse-then-out-n.ensures
+    let parts = turned_down (below a.z.actions p) a.out.now (of_known z room p) (answer c.refuse-then-out-n.result) 9 0 c.refuse-then-out-n.ensures
     (too_short z room p (omega (arith, c.if-known-steps.false, e)) (omega (arith, c.if-out-n.true, c.put_source-n.ensures.size))) in
     record { result_value = parts.0; out_after = parts.1 }
 
@@ -43,7 +43,7 @@ returns c =
     let e = c.steps_known-known.ensures in
     let n = c.put_source-n.result in
     let size = sym c.put_source-n.ensures.size in
-    let parts =    put_whole (below a.z.actions p) a.out.now c.put_source.new.out n (of_known z room p) size (search rules)
+    let parts = put_whole (below a.z.actions p) a.out.now c.put_source.new.out n (of_known z room p) size (search rules)
     c.put_source.ensures.area
     (roomy z room p (omega (arith, c.if-known-steps.false, e)) (omega (arith, c.if-out-n.false, size)) ∙ ap written size) in
     record { result_value = parts.0; out_after = parts.1 }

@@ -45,6 +45,6 @@ returns-in-Refused c =
     let e = sym c.read-l.ensures.result_value ∙ ap answer c.in-Refused.is in
     let z = as_sizes a.z in
     let room = length a.out.now in
-    let parts =    turned_down (below a.z.actions (steps_in a.text.now)) a.out.now (of_text z room (read_plan a.text.now)) (refused f.number f.place)
+    let parts = turned_down (below a.z.actions (steps_in a.text.now)) a.out.now (of_text z room (read_plan a.text.now)) (refused f.number f.place)
     f.number f.place refl (on_refusal z room a.text.now f.number f.place e) in
     record { result_value = parts.0; out_after = parts.1 }

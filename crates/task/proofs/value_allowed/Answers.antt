@@ -1,7 +1,6 @@
 -- Each arm tests the value as value_allowed does for its marks: of-action to of_other of Values, with its laws of ranges.
 use borrow.Author.Rules.{rules}
 use mathlib.Core.Path.{sym}
-use mathlib.Core.Logic.{⊎_elim}
 use native.Mathlib.Omega.{arith}
 use Rattle.task.proofs.Values.{of_action, of_start, of_fact, of_preference, of_steps, of_other, preference, timed, under, between, over}
 use Rattle.task.specs.Marks.{HOLDS, GOAL}

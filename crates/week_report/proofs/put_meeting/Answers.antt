@@ -7,6 +7,6 @@ use Rattle.week_report.proofs.put_meeting.Goals as goal
 pub returns : goal.returns
 unfolding meeting_line
 returns c = record {
-      wrote = then (then c.put_labelled-a.ensures.wrote c.put_labelled-b.ensures.wrote) c.put_byte.ensures;
-      upper_bound = search rules;
-    }
+  wrote = then (then c.put_labelled-a.ensures.wrote c.put_labelled-b.ensures.wrote) c.put_byte.ensures;
+  upper_bound = search rules;
+}

@@ -7,7 +7,7 @@ use Rattle.week_report.proofs.put_metrics.Goals as goal
 pub returns : goal.returns
 unfolding metric_line
 returns c = record {
-      wrote = then (then (then (then (then c.put_labelled-a.ensures.wrote c.put_labelled-b.ensures.wrote) c.put_labelled-c.ensures.wrote) c.put_labelled-d.ensures.wrote)
-          c.put_labelled-e.ensures.wrote) c.put_byte.ensures;
-      upper_bound = search rules;
-    }
+  wrote = then (then (then (then (then c.put_labelled-a.ensures.wrote c.put_labelled-b.ensures.wrote) c.put_labelled-c.ensures.wrote) c.put_labelled-d.ensures.wrote)
+      c.put_labelled-e.ensures.wrote) c.put_byte.ensures;
+  upper_bound = search rules;
+}
