@@ -1,4 +1,2 @@
-pub mod Array
-pub mod Constants
 pub mod Handed
 pub mod Copied

@@ -1,5 +1,6 @@
 // A cheapest plan for the task in a file, and the nodes that the search for it kept, in a lent list.
 #![tactic(auto)]
+
 pub mod plain;
 
 ghost use Rattle.std.specs.Prelude.{◌≡◌, length};

@@ -1,5 +1,6 @@
 // Collect and forgo: the actions that close a preference.
 #![tactic(auto)]
+
 ghost use Rattle.std.specs.Prelude.{[], ◌∷◌, ◌+◌, ◌≤◌, ◌<◌};
 ghost use Rattle.task.specs.Marks.{EFFECT, ADD};
 ghost use Rattle.task.specs.TaskRows.{row, clause_rows, condition_rows};

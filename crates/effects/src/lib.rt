@@ -1,5 +1,6 @@
 // One effect, and one effect for each false clause of a condition.
 #![tactic(auto)]
+
 ghost use Rattle.std.specs.Prelude.{◌≡◌, ◌∷◌, ◌≤◌, ◌<◌, length};
 ghost use Rattle.task.specs.Marks.{EFFECT};
 ghost use Rattle.task.specs.TaskRows.{row};

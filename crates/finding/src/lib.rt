@@ -1,5 +1,6 @@
 // The search for a cheapest plan of the task in a file, over plain words.
 #![tactic(auto)]
+
 mod run;
 
 ghost use Rattle.std.specs.Prelude.{◌≡◌, ℕ, length};

@@ -1,5 +1,6 @@
 // The 32-bit FNV-1a hash of a state's 16 bytes.
 #![tactic(auto)]
+
 ghost use Rattle.std.specs.Prelude.{◌≡◌, ◌*◌, ◌%◌};
 ghost use Rattle.fnv.specs.Fnv.{BASIS, mixed, hash_from, fnv1a, little_endian, state_bytes};
 

@@ -1,5 +1,6 @@
 // The trackers of each kind of preference, as rows.
 #![tactic(auto)]
+
 pub mod deadlines;
 pub mod kinds;
 

@@ -1,5 +1,6 @@
 // What is already lost after a beginning of a translated run. The translation itself is not needed: the run is followed on its source.
 #![tactic(auto)]
+
 ghost use Rattle.std.specs.Prelude.{◌≡◌};
 ghost use Rattle.task.specs.Answers.{as_sizes};
 ghost use Rattle.losses.specs.Losses.{Lost};

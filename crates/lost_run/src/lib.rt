@@ -1,5 +1,6 @@
 // A list of translated actions, followed on the rows of its source: its state, the monitors of its rules, and which rules are closed.
 #![tactic(auto)]
+
 mod rules;
 mod taking;
 

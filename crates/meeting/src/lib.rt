@@ -1,5 +1,6 @@
 // A node that the search meets: the entry of its state is lowered, or it is a new one.
 #![tactic(auto)]
+
 ghost use Rattle.std.specs.Prelude.{◌≡◌, Bool, true, false, ℕ, suc, ◌≤◌, ◌<◌, length, set};
 ghost use Rattle.searching.specs.Limits.{MAX_NODES};
 ghost use Rattle.node_words.specs.Words.{Written};

@@ -1,5 +1,6 @@
 // One monitor, which is kept as a byte, and what one more state does to it.
 #![tactic(auto)]
+
 ghost use Rattle.std.specs.Prelude.{◌≡◌, Bool, cond, ◌<◌, T, leb, eqb};
 ghost use Rattle.meaning.specs.Task.{always_within};
 ghost use Rattle.meaning.specs.Monitor.{older, next_age, step, accepting};

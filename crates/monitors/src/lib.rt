@@ -1,6 +1,7 @@
 // The monitors of a task's preferences: what the facts S, B and D1, D2, … of each know of the states seen so far, and which
 // preferences they say are met. Preference k has monitor k, which is kept as a byte.
 #![tactic(auto)]
+
 pub mod met;
 
 ghost use Rattle.std.specs.Prelude.{◌≡◌, ◌*◌, ◌≤◌, ◌<◌, length};

@@ -1,5 +1,6 @@
 // The nodes of a search as words, four for each.
 #![tactic(auto)]
+
 pub mod limits;
 
 ghost use Rattle.std.specs.Prelude.{◌≡◌};

@@ -1,3 +1,1 @@
-pub mod Elements
 pub mod Filling
-pub mod Tests

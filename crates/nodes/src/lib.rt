@@ -1,5 +1,6 @@
 // A list of nodes that a caller lends.
 #![tactic(auto)]
+
 ghost use Rattle.std.specs.Prelude.{◌≡◌, ◌++◌, ◌<◌, ◌≤◌, length, set, drop};
 ghost use Rattle.node_words.specs.Words.{RoomFor, Placed};
 ghost use Rattle.nodes.specs.Nodes.{node_at, node_read, up_to};

@@ -1,5 +1,6 @@
 // The plan that leads to a node, read from the origins.
 #![tactic(auto)]
+
 ghost use Rattle.std.specs.Prelude.{◌≡◌, ◌++◌, ◌/◌, ◌%◌, ◌≤◌, length, drop};
 ghost use Rattle.searching.specs.Search.{plan_to};
 ghost use Rattle.node_words.specs.Words.{Placed, packed_at, nodes_of};

@@ -1,5 +1,6 @@
 // What comes of writing into an area that a caller lends.
 #![tactic(auto)]
+
 ghost use Rattle.std.specs.Prelude.{◌≡◌};
 ghost use Rattle.outcome.specs.Outcome.{refused};
 ghost use Rattle.outcome.specs.Answers.{answer};

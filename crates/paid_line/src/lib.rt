@@ -1,5 +1,6 @@
 // The last line of program confirm: what a planner paid, held to the metric that walk and then settle give the plan.
 #![tactic(auto)]
+
 ghost use Rattle.std.specs.Prelude.{◌≡◌, ◌++◌, ◌≤◌, length, drop};
 ghost use Rattle.plan.specs.Answers.{as_verdict};
 ghost use Rattle.plan.specs.ThenSettled.{with_amounts};

@@ -1,5 +1,6 @@
 // A task without preferences as a domain and a problem in PDDL.
 #![tactic(auto)]
+
 mod texts;
 
 ghost use Rattle.std.specs.Prelude.{◌≡◌, ◌≤◌};

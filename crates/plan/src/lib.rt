@@ -1,5 +1,6 @@
 // A plan walked on a task.
 #![tactic(auto)]
+
 pub mod steps;
 
 ghost use Rattle.std.specs.Prelude.{◌≡◌};

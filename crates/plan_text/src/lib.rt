@@ -1,5 +1,6 @@
 // Plans as planners print them: a line for each step.
 #![tactic(auto)]
+
 ghost use Rattle.std.specs.Prelude.{◌≡◌, ◌≤◌, length};
 ghost use Rattle.plan_lines.specs.PlanText.{text_of};
 ghost use Rattle.plan_text.specs.Outcomes.{HasRoom, read_outcome, steps_in, write_outcome, refused_after, text_walked};

@@ -1,5 +1,6 @@
 // A cheapest plan for the task in a file, as text.
 #![tactic(auto)]
+
 ghost use Rattle.std.specs.Prelude.{◌≡◌, ◌≤◌, length};
 ghost use Rattle.text.specs.Area.{Filled};
 ghost use Rattle.searching.specs.Limits.{MAX_NODES, MAX_FOUND};

@@ -1,5 +1,6 @@
 // The text of a judged plan, which program judge writes: a plan walked, and settled where it solves.
 #![tactic(auto)]
+
 mod preferences;
 
 ghost use Rattle.std.specs.Prelude.{◌≡◌, ◌*◌, length};

@@ -21,7 +21,8 @@ pub struct Next {
 fn put_row(out: &mut [u8], next: Next, mark: u8, value: u32, met: u64) -> Next
     requires { (next.at + 70 < 2 ^ 64) × (next.number < 2 ^ 32) }
     ensures wrote { Wrote out.old next.at (row_line (bit met) next.number (row mark value)) result.at out.new }
-    ensures number_value { (result.number ≡ count (is_preference (row mark value)) next.number) × (result.at ≤ next.at + 70) × (result.number ≤ next.number + 1) }
+    ensures number_value { (result.number ≡ count (is_preference (row mark value)) next.number)
+        × (result.at ≤ next.at + 70) × (result.number ≤ next.number + 1) }
 {
     let at = next.at;
     let k = next.number;

@@ -1,5 +1,6 @@
 // The lines of the text, one by one. Each function writes from a place on and answers the place after.
 #![tactic(auto)]
+
 ghost use Rattle.std.specs.Prelude.{◌+◌, ◌^◌, ◌≤◌, ◌<◌};
 ghost use Rattle.task.specs.File.{opens_hard, soft_mark, kind_of};
 ghost use Rattle.task.specs.Answers.{as_kind};

@@ -1,5 +1,6 @@
 // The operations for callers in C and Rust. include/route_rules.h is their header.
 #![tactic(auto)]
+
 ghost use Rattle.std.specs.Prelude.{◌≡◌, ℕ, ◌/◌, length};
 ghost use Rattle.report.specs.Report.{report_on, report_outcome};
 ghost use Rattle.task.specs.Check.{check};

@@ -1,5 +1,6 @@
 // What a solution is worth on a task: metric and utility, from its cost and the preferences that it meets.
 #![tactic(auto)]
+
 mod amounts;
 
 ghost use Rattle.std.specs.Prelude.{◌≡◌};

@@ -1,5 +1,6 @@
 // Effects rewritten with single literals (request 12), and the file that they are written to.
 #![tactic(auto)]
+
 mod choosing;
 mod shapes;
 mod whole;

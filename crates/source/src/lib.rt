@@ -1,5 +1,6 @@
 // The source part of what a planner prints for a translation.
 #![tactic(auto)]
+
 mod parts;
 
 ghost use Rattle.std.specs.Prelude.{◌≡◌, ℕ, ◌+◌, ◌*◌, ◌≤◌, length};

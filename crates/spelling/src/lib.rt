@@ -1,5 +1,6 @@
 // The one spelling of a task, and the file that it is written to.
 #![tactic(auto)]
+
 mod rising;
 mod runs;
 mod whole;

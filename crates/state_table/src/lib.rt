@@ -1,5 +1,6 @@
 // A table that finds states by their hash: open addressing, the next slot being tried where one is taken.
 #![tactic(auto)]
+
 ghost use Rattle.std.specs.Prelude.{◌≡◌, ℕ, ◌<◌};
 ghost use Rattle.node_words.specs.Words.{RoomFor};
 ghost use Rattle.state_table.specs.Table.{SLOTS, home_of, stops_at, Tabled, Probed};

@@ -1,6 +1,7 @@
 // Words and numbers, written as text into a lent area. What does not fit is dropped: each function answers the place
 // after what it was to write, so that a place beyond the area's length says how much was missing.
 #![tactic(auto)]
+
 ghost use Rattle.std.specs.Prelude.{◌≡◌, [], ◌∷◌, ◌++◌, ◌+◌, ◌^◌, ◌≤◌, ◌<◌, length, take, nat_abs};
 ghost use Rattle.text.specs.Text.{decimal, integer, refused_line};
 ghost use Rattle.text.specs.Area.{Wrote, written};

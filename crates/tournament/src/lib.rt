@@ -1,5 +1,6 @@
 // The open places of a search in a tournament tree, whose root is the cheapest.
 #![tactic(auto)]
+
 ghost use Rattle.std.specs.Prelude.{◌≡◌, Bool, cond, ℕ, suc, ◌+◌, ◌/◌, ◌<◌};
 ghost use Rattle.searching.specs.Limits.{MAX_NODES};
 ghost use Rattle.node_words.specs.Words.{Placed};

@@ -1,5 +1,6 @@
 // The effects that follow the preferences from state to state, as rows.
 #![tactic(auto)]
+
 ghost use Rattle.std.specs.Prelude.{◌≡◌, ◌≤◌, ◌<◌, length};
 ghost use Rattle.task.specs.Rows.{steps_at};
 ghost use Rattle.task.specs.Answers.{as_kind};

@@ -1,5 +1,6 @@
 // The rows of the translated task, written into a file or only counted.
 #![tactic(auto)]
+
 pub mod further;
 mod parts;
 pub mod places;

@@ -1,5 +1,6 @@
 // The text of a week, which program week prints. Each function but the last writes from a place on and answers the place after.
 #![tactic(auto)]
+
 ghost use Rattle.std.specs.Prelude.{◌≡◌, ◌++◌, ◌+◌, ◌*◌, ◌^◌, ◌≤◌, ◌<◌, length, take};
 ghost use Rattle.task.specs.Limits.{MAX_PREFERENCES};
 ghost use Rattle.lists.specs.Lists.{concat_from};

@@ -1,5 +1,6 @@
 // A week of plans in figures.
 #![tactic(auto)]
+
 pub mod plans;
 mod tally;
 

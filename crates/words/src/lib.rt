@@ -1,5 +1,6 @@
 // What each operation answers to callers in C and Rust: the number that a function returns, and eight words, or 24 of a week.
 #![tactic(auto)]
+
 ghost use Rattle.std.specs.Prelude.{◌≡◌, ◌<◌, get_or, take};
 ghost use Rattle.task.specs.Answers.{answer as of_checked};
 ghost use Rattle.task.specs.Limits.{MAX_PREFERENCES};

@@ -17,7 +17,7 @@ invariant-loop-k l =
     (t : Task) (taken : ℕ → Bool) → Listed l.marks l.values l.starts t
     → Expanding (turn_of l.place l.limit l.initial.n) (nodes_in l.initial.words l.initial.table l.initial.tree l.initial.n taken) t
     → TriedTo (nodes_in l.initial.words l.initial.table l.initial.tree l.initial.n taken) (turn_of l.place l.limit l.initial.n) l.k
-        (nodes_in l.words l.table l.tree l.n taken) t
+    (nodes_in l.words l.table l.tree l.n taken) t
 
 abbrev pub decreases-loop-k : goal.decreases-loop-k
 decreases-loop-k l = length l.starts - l.k

@@ -21,9 +21,9 @@ returns c = λ t k taken A T.
 
 pub lead-led-requires : goal.lead-led-requires
 lead-led-requires c = record {
-      rows = (c.requires.rows.0, c.requires.rows.1, c.requires.by_index.1.ample);
-      some_action = c.requires.rows.2;
-    }
+  rows = (c.requires.rows.0, c.requires.rows.1, c.requires.by_index.1.ample);
+  some_action = c.requires.rows.2;
+}
 
 pub meet-requires : goal.meet-requires
 meet-requires c =

@@ -23,6 +23,6 @@ returns-then-x-cost_at c =
 
 pub returns-else-x-cost_at : goal.returns-else-x-cost_at
 returns-else-x-cost_at c = record {
-      lowered = inr (subst (λ (k : ℕ). k ≤ c.args.x.cost) c.cost_at.ensures (search rules), refl);
-      by_index = λ o P. P;
-    }
+  lowered = inr (subst (λ (k : ℕ). k ≤ c.args.x.cost) c.cost_at.ensures (search rules), refl);
+  by_index = λ o P. P;
+}

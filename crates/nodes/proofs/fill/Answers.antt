@@ -2,7 +2,6 @@
 use mathlib.Core.Path.{◌≡◌, ap, ◌∙◌}
 use native.Mathlib.Omega.{arith}
 use borrow.Author.Rules.{rules}
-use lib.ListN.{set}
 use Rattle.nodes.specs.Nodes.{node_read}
 use Rattle.nodes.proofs.Filling.{filled, filled_next}
 use Rattle.nodes.proofs.fill.Goals as goal

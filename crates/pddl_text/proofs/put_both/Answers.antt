@@ -14,6 +14,6 @@ put_domain-d-requires c =
 
 pub returns : goal.returns
 returns c = record {
-      of_task = λ t same spelled. c.put_domain-d.ensures t same (c.put_problem-p.ensures.problem_answer t spelled).1;
-      of_task_2 = λ t same spelled. (c.put_problem-p.ensures.problem_answer t spelled).0;
-    }
+  of_task = λ t same spelled. c.put_domain-d.ensures t same (c.put_problem-p.ensures.problem_answer t spelled).1;
+  of_task_2 = λ t same spelled. (c.put_problem-p.ensures.problem_answer t spelled).0;
+}

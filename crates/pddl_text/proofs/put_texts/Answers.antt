@@ -22,7 +22,7 @@ returns-then-domain-problem c =
     let (t₀, same₀, spelled₀, short) = c.requires.2 in
     let (d_enough, p_enough) = both_true (leb 262144 (length a.domain.now)) (leb 262144 (length a.problem.now)) c.if-domain-problem.true in
     let put = c.put_both-n.ensures in
-    let parts =    put_down a.facts a.marks.now a.values.now a.domain.now a.problem.now c.put_both-n.result put.of_task put.of_task_2
+    let parts = put_down a.facts a.marks.now a.values.now a.domain.now a.problem.now c.put_both-n.result put.of_task put.of_task_2
     (λ t same spelled. (
       omega (arith, (put.of_task t same spelled).size, (put.of_task t₀ same₀ spelled₀).size, short.0, leb-true 262144 (length a.domain.now) d_enough),
       omega (arith, (put.of_task_2 t same spelled).size, (put.of_task_2 t₀ same₀ spelled₀).size, short.1, leb-true 262144 (length a.problem.now) p_enough),
@@ -51,6 +51,6 @@ pub returns : goal.returns
 returns c =
     let a = c.args in
     let put = c.put_both-n-2.ensures in
-    let parts =    put_down a.facts a.marks.now a.values.now a.domain.now a.problem.now c.put_both-n-2.result put.of_task put.of_task_2
+    let parts = put_down a.facts a.marks.now a.values.now a.domain.now a.problem.now c.put_both-n-2.result put.of_task put.of_task_2
     (λ t same spelled. counted_fit t a.domain.now a.problem.now (c.both_fit.ensures t same spelled) c.if-not-both_fit.false-raw) in
     record { of_task = parts.0; of_task_2 = parts.1.0; of_task_3 = parts.1.1 }

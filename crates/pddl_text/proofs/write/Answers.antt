@@ -16,7 +16,7 @@ sized c =
 pub returns-in_default : goal.returns-in_default
 returns-in_default c =
     let a = c.args in
-    let parts =    turned_down a.file.now a.domain.now a.problem.now c.in_default.is c.check-c.ensures c.refusal_of.result c.refusal_of.ensures in
+    let parts = turned_down a.file.now a.domain.now a.problem.now c.in_default.is c.check-c.ensures c.refusal_of.result c.refusal_of.ensures in
     record { result_value = parts.0; domain_after = parts.1.0; problem_after = parts.1.1 }
 
 pub returns-then-z-ne0 : goal.returns-then-z-ne0
@@ -49,6 +49,6 @@ put_texts-requires c =
 pub returns : goal.returns
 returns c =
     let a = c.args in
-    let parts =    texts_put a.file.now c.in-Accepted.is c.check-c.ensures a.domain.now a.problem.now c.if-z-ne0.false c.put_texts.result
+    let parts = texts_put a.file.now c.in-Accepted.is c.check-c.ensures a.domain.now a.problem.now c.if-z-ne0.false c.put_texts.result
     c.put_texts.ensures.of_task c.put_texts.ensures.of_task_2 c.put_texts.ensures.of_task_3 in
     record { result_value = parts.0; domain_after = parts.1.0; problem_after = parts.1.1 }

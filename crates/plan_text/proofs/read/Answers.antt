@@ -10,6 +10,6 @@ use Rattle.plan_text.proofs.read.Goals as goal
 pub returns-then-text-gt-MAX_TEXT : goal.returns-then-text-gt-MAX_TEXT
 returns-then-text-gt-MAX_TEXT c =
     let a = c.args in
-    let parts =    turned_down (steps_in a.text.now) a.out.now (read_outcome a.text.now (length a.out.now)) (answer c.refuse.result) 12 0
+    let parts = turned_down (steps_in a.text.now) a.out.now (read_outcome a.text.now (length a.out.now)) (answer c.refuse.result) 12 0
     c.refuse.ensures (too_long a.text.now (length a.out.now) (search rules)) in
     record { result_value = parts.0; out_after = parts.1 }

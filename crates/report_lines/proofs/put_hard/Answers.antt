@@ -5,9 +5,9 @@ use Rattle.report_lines.proofs.put_hard.Goals as goal
 
 pub returns-then-hard : goal.returns-then-hard
 returns-then-hard c = rw c.if-hard.true (record {
-      wrote = c.put_bytes.ensures;
-      upper_bound = search rules;
-    })
+  wrote = c.put_bytes.ensures;
+  upper_bound = search rules;
+})
 
 pub returns : goal.returns
 returns c =

@@ -17,7 +17,7 @@ parts c =
 pub returns-in_default : goal.returns-in_default
 returns-in_default c =
     let a = c.args in
-    let parts =    turned_down a.file.now a.out.now c.check-c.result c.check-c.ensures c.in_default.field-0 c.in_default.is
+    let parts = turned_down a.file.now a.out.now c.check-c.result c.check-c.ensures c.in_default.field-0 c.in_default.is
     c.refusal_of.result c.refusal_of.ensures in
     record { result_value = parts.0; out_after = parts.1.0; by_index = parts.1.1 }
 
@@ -36,7 +36,7 @@ overflow_cast-found c = let h = parts (goal.at.overflow_cast-found c).In-Accepte
 pub returns-then-found-z : goal.returns-then-found-z
 returns-then-found-z c =
     let a = c.args in
-    let parts =    too_wide a.file.now a.out.now c.check-c.result c.check-c.ensures c.in-Accepted.z c.in-Accepted.is
+    let parts = too_wide a.file.now a.out.now c.check-c.result c.check-c.ensures c.in-Accepted.z c.in-Accepted.is
     c.find_wide-found.result.wide c.find_wide-found.ensures.by_index (search rules) c.refuse.result c.refuse.ensures in
     record { result_value = parts.0; out_after = parts.1.0; by_index = parts.1.1 }
 
@@ -80,6 +80,6 @@ put_file-requires c =
 pub returns : goal.returns
 returns c =
     let a = c.args in
-    let parts =    put a.file.now a.out.now c.check-c.result c.check-c.ensures c.in-Accepted.z c.in-Accepted.is
+    let parts = put a.file.now a.out.now c.check-c.result c.check-c.ensures c.in-Accepted.z c.in-Accepted.is
     c.find_wide-found.result.wide c.find_wide-found.ensures.by_index (search rules) c.put_file.result c.put_file.new.out c.put_file.ensures in
     record { result_value = parts.0; out_after = parts.1.0; by_index = parts.1.1 }

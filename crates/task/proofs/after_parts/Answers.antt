@@ -59,6 +59,6 @@ loop-i-preserved c =
 
 pub returns : goal.returns
 returns c = let k = c.loop-i.invariant in record {
-      w_value = k.same;
-      context_bound = (k.numbered_below, k.begun, k.rows_left);
-    }
+  w_value = k.same;
+  context_bound = (k.numbered_below, k.begun, k.rows_left);
+}

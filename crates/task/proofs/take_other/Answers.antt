@@ -24,11 +24,11 @@ returns c =
     let hard : opens_soft a.mark ≡ false = sym c.opens_soft.ensures ∙ c.if-opens_soft.false in record {
       allowed_value = c.value_allowed.ensures;
       progress_value = rw (
-          ne_eqb a.mark START c.requires.1,
-          ne_eqb a.mark ACTION c.requires.2,
-          hard,
-          c.counted.ensures,
-          c.opens_hard.ensures,
-        );
+        ne_eqb a.mark START c.requires.1,
+        ne_eqb a.mark ACTION c.requires.2,
+        hard,
+        c.counted.ensures,
+        c.opens_hard.ensures,
+      );
       context_value = (refl, search rules, omega (arith, c.counted.ensures, count-le c.opens_hard.result a.w.preferences));
     }

@@ -1,7 +1,6 @@
 -- Each arm tests the value as value_allowed does for its marks: of-action to of_other of Values, with its laws of ranges.
 use borrow.Author.Rules.{rules}
 use mathlib.Core.Path.{sym}
-use mathlib.Core.Logic.{⊎_elim}
 use native.Mathlib.Omega.{arith}
 use Rattle.task.proofs.Values.{of_action, of_start, of_fact, of_preference, of_steps, of_other, preference, timed, under, between, over}
 use Rattle.task.specs.Marks.{HOLDS, GOAL}
@@ -36,8 +35,8 @@ pub returns-in-10-to-15 : goal.returns-in-10-to-15
 returns-in-10-to-15 c =
     let a = c.args in
     let soft : opens_soft a.mark ≡ true = elim c.in-10-to-15-1.branch [
-      then-mark-lt16 w ↦ preference a.mark (search rules) (omega arith)
-    | else-mark-lt16+else-mark-lt17+then-mark-lt19 w ↦ timed a.mark (omega arith) (omega arith)
+      | then-mark-lt16 w ↦ preference a.mark (search rules) (omega arith)
+      | else-mark-lt16+else-mark-lt17+then-mark-lt19 w ↦ timed a.mark (omega arith) (omega arith)
     ] in
     sym (of_preference a.facts a.floor a.mark a.value soft)
 
@@ -45,15 +44,15 @@ pub returns-in_default : goal.returns-in_default
 returns-in_default c =
     let a = c.args in
     let no_fact : HOLDS ≤ a.mark → a.mark < GOAL → ⊥ = elim c.in_default.branch [
-      in_default-via-then-mark-lt4 w ↦ λ x y. omega arith
-    | in_default-via-else-mark-lt4+else-mark-lt8+then-mark-lt9 w ↦ λ x y. omega arith
-    | in_default-via-else-mark-lt4+else-mark-lt8+else-mark-lt9+else-mark-lt16+then-mark-lt17 w ↦ λ x y. omega arith
-    | in_default-via-else-mark-lt4+else-mark-lt8+else-mark-lt9+else-mark-lt16+else-mark-lt17+else-mark-lt19 w ↦ λ x y. omega arith
+      | in_default-via-then-mark-lt4 w ↦ λ x y. omega arith
+      | in_default-via-else-mark-lt4+else-mark-lt8+then-mark-lt9 w ↦ λ x y. omega arith
+      | in_default-via-else-mark-lt4+else-mark-lt8+else-mark-lt9+else-mark-lt16+then-mark-lt17 w ↦ λ x y. omega arith
+      | in_default-via-else-mark-lt4+else-mark-lt8+else-mark-lt9+else-mark-lt16+else-mark-lt17+else-mark-lt19 w ↦ λ x y. omega arith
     ] in
     let not_soft : opens_soft a.mark ≡ false = elim c.in_default.branch [
-      in_default-via-then-mark-lt4 w ↦ under a.mark (omega arith)
-    | in_default-via-else-mark-lt4+else-mark-lt8+then-mark-lt9 w ↦ under a.mark (omega arith)
-    | in_default-via-else-mark-lt4+else-mark-lt8+else-mark-lt9+else-mark-lt16+then-mark-lt17 w ↦ between a.mark (omega arith) (omega arith)
-    | in_default-via-else-mark-lt4+else-mark-lt8+else-mark-lt9+else-mark-lt16+else-mark-lt17+else-mark-lt19 w ↦ over a.mark (omega arith)
+      | in_default-via-then-mark-lt4 w ↦ under a.mark (omega arith)
+      | in_default-via-else-mark-lt4+else-mark-lt8+then-mark-lt9 w ↦ under a.mark (omega arith)
+      | in_default-via-else-mark-lt4+else-mark-lt8+else-mark-lt9+else-mark-lt16+then-mark-lt17 w ↦ between a.mark (omega arith) (omega arith)
+      | in_default-via-else-mark-lt4+else-mark-lt8+else-mark-lt9+else-mark-lt16+else-mark-lt17+else-mark-lt19 w ↦ over a.mark (omega arith)
     ] in
     sym (of_other a.facts a.floor a.mark a.value (λ e. omega arith) (λ e. omega arith) no_fact (λ e. omega arith) not_soft)

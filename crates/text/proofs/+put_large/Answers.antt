@@ -18,5 +18,5 @@ returns-else-n-lt1000 t c =
     let a = c.args in
     let k = c.put_large-k in
     let both = last-digit a.out.now a.at a.n (search rules) k.new.out c.put_byte.new.out
-        k.result c.put_byte.result (search rules) k.ensures.wrote c.put_byte.ensures in
+    k.result c.put_byte.result (search rules) k.ensures.wrote c.put_byte.ensures in
     record { wrote = both.0; upper_bound = both.1 }

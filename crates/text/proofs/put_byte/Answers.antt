@@ -7,6 +7,6 @@ pub returns : goal.returns
 returns c =
     let a = c.args in
     elim c.if-at-out.branch [
-      then-at-out w ↦ stored a.out.now a.at a.byte c.if-at-out.out w.out-is
-    | else-at-out w ↦ dropped a.out.now a.at a.byte c.if-at-out.out w.if-at-out.false w.out-is
+      | then-at-out w ↦ stored a.out.now a.at a.byte c.if-at-out.out w.out-is
+      | else-at-out w ↦ dropped a.out.now a.at a.byte c.if-at-out.out w.if-at-out.false w.out-is
     ]

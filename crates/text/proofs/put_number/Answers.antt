@@ -5,6 +5,6 @@ use Rattle.text.proofs.put_number.Goals as goal
 
 pub returns : goal.returns
 returns c = record {
-      wrote = then c.put_bytes-a.ensures (then c.put_decimal-b.ensures.wrote c.put_bytes.ensures);
-      upper_bound = search rules;
-    }
+  wrote = then c.put_bytes-a.ensures (then c.put_decimal-b.ensures.wrote c.put_bytes.ensures);
+  upper_bound = search rules;
+}

@@ -7,6 +7,6 @@ use Rattle.text.proofs.put_refused.Goals as goal
 pub returns : goal.returns
 unfolding refused_line
 returns c = record {
-      wrote = then (then c.put_number-a.ensures.wrote c.put_decimal-b.ensures.wrote) c.put_byte.ensures;
-      upper_bound = search rules;
-    }
+  wrote = then (then c.put_number-a.ensures.wrote c.put_decimal-b.ensures.wrote) c.put_byte.ensures;
+  upper_bound = search rules;
+}

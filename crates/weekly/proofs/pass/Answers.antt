@@ -68,7 +68,7 @@ take_plan-taken-requires c =
 pub returns-in_default : goal.returns-in_default
 returns-in_default c =
     let a = c.args in
-    let parts =    refused_at a.file.now a.plans.now a.z.preferences (as_tally c.loop-i.t c.loop-i.meeting) c.loop-i.i c.loop-i.invariant
+    let parts = refused_at a.file.now a.plans.now a.z.preferences (as_tally c.loop-i.t c.loop-i.meeting) c.loop-i.i c.loop-i.invariant
     (omega (arith, c.loop-i-test.true, few (goal.at.returns-in_default c).After-count-n)) _ (lent (goal.at.returns-in_default c).After-entry_at-e) c.take_plan-taken.result _ c.take_plan-taken.ensures c.in_default.field-0
     c.in_default.is in
     record { meeting_after = parts.0; counting_in = parts.1 }

@@ -10,22 +10,20 @@ pub loop-i-init : goal.loop-i-init
 loop-i-init c = (search rules, zero-add _)
 
 pub returns-then-is_preference : goal.returns-then-is_preference
-returns-then-is_preference c =
-    (
-      sym (take_until_here opens_preference c.args.marks.now c.loop-i.i (search rules)
-          (sym c.is_preference.ensures ∙ c.if-is_preference.true))
-          ∙ c.loop-i.invariant.1,
-      search rules,
-    )
+returns-then-is_preference c = (
+  sym (take_until_here opens_preference c.args.marks.now c.loop-i.i (search rules)
+      (sym c.is_preference.ensures ∙ c.if-is_preference.true))
+      ∙ c.loop-i.invariant.1,
+  search rules,
+)
 
 pub loop-i-preserved : goal.loop-i-preserved
-loop-i-preserved c =
-    (
-      search rules,
-      take_until_on opens_preference c.args.marks.now c.loop-i.i (search rules)
-          (sym c.is_preference.ensures ∙ c.if-is_preference.false)
-          ∙ c.loop-i.invariant.1,
-    )
+loop-i-preserved c = (
+  search rules,
+  take_until_on opens_preference c.args.marks.now c.loop-i.i (search rules)
+      (sym c.is_preference.ensures ∙ c.if-is_preference.false)
+      ∙ c.loop-i.invariant.1,
+)
 
 pub returns : goal.returns
 returns c =

@@ -1,6 +1,5 @@
 use borrow.Author.Rules.{rules}
 use mathlib.Core.Path.{refl}
-use mathlib.Core.Logic.{⊎_elim}
 use Prim.Native.Nat.{◌-◌}
 use Rattle.layout.proofs.Noting.{fits, noted_on, passed_on, all_noted}
 use Rattle.layout.proofs.actions.note_actions.Goals as goal
@@ -19,8 +18,8 @@ pub loop-i-preserved : goal.loop-i-preserved
 loop-i-preserved c =
     let a = c.args in
     elim c.if-marks-i-eq-ACTION.branch [
-      then-marks-i-eq-ACTION w ↦ rw (w.starts-is, w.c-is) (noted_on a.marks.now a.starts.now c.loop-i.starts c.loop-i.c c.loop-i.i c.loop-i.invariant (search rules) w.if-marks-i-eq-ACTION.true)
-    | else-marks-i-eq-ACTION w ↦ rw (w.starts-is, w.c-is) (passed_on a.marks.now a.starts.now c.loop-i.starts c.loop-i.c c.loop-i.i c.loop-i.invariant (search rules) w.if-marks-i-eq-ACTION.false)
+      | then-marks-i-eq-ACTION w ↦ rw (w.starts-is, w.c-is) (noted_on a.marks.now a.starts.now c.loop-i.starts c.loop-i.c c.loop-i.i c.loop-i.invariant (search rules) w.if-marks-i-eq-ACTION.true)
+      | else-marks-i-eq-ACTION w ↦ rw (w.starts-is, w.c-is) (passed_on a.marks.now a.starts.now c.loop-i.starts c.loop-i.c c.loop-i.i c.loop-i.invariant (search rules) w.if-marks-i-eq-ACTION.false)
     ]
 
 pub shape_of-starts : goal.shape_of-starts

@@ -23,10 +23,10 @@ action ms vs at starts rules t G j h =
 
 pub returns-then-not-p : goal.returns-then-not-p
 returns-then-not-p c = record {
-      little = c.close_next.ensures.little;
-      taken_as = λ t q G S. c.close_next.ensures.taken_as t q G.all_rules
-          (record { stands = S; over = sym S.running ∙ not-true _ c.if-not-p.true; actions = G.all_actions });
-    }
+  little = c.close_next.ensures.little;
+  taken_as = λ t q G S. c.close_next.ensures.taken_as t q G.all_rules
+      (record { stands = S; over = sym S.running ∙ not-true _ c.if-not-p.true; actions = G.all_actions });
+}
 
 pub returns-then-actions-j : goal.returns-then-actions-j
 returns-then-actions-j c =

@@ -17,12 +17,12 @@ met_is c =
 
 pub returns-then-accepting : goal.returns-then-accepting
 returns-then-accepting c = record {
-      by_index = λ v. rw (met_is (goal.at.returns-then-accepting c).After-is_accepting-accepting, c.kept_with-kept.ensures.0, ← c.opens_hard.ensures, c.if-accepting.true, c.with.ensures);
-      number_bound = search rules;
-    }
+  by_index = λ v. rw (met_is (goal.at.returns-then-accepting c).After-is_accepting-accepting, c.kept_with-kept.ensures.0, ← c.opens_hard.ensures, c.if-accepting.true, c.with.ensures);
+  number_bound = search rules;
+}
 
 pub returns-else-accepting : goal.returns-else-accepting
 returns-else-accepting c = record {
-      by_index = λ v. rw (met_is (goal.at.returns-else-accepting c).After-is_accepting-accepting, c.kept_with-kept.ensures.0, ← c.opens_hard.ensures, c.if-accepting.false);
-      number_bound = search rules;
-    }
+  by_index = λ v. rw (met_is (goal.at.returns-else-accepting c).After-is_accepting-accepting, c.kept_with-kept.ensures.0, ← c.opens_hard.ensures, c.if-accepting.false);
+  number_bound = search rules;
+}

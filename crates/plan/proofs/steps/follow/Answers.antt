@@ -53,9 +53,9 @@ loop-i-init c =
 
 pub watch-seen-requires : goal.watch-seen-requires
 watch-seen-requires c = record {
-      rows = (search rules, c.loop-i.invariant.all_there);
-      some_preferences = (c.requires.start.0.preferences, watched_ones c.requires.start.1);
-    }
+  rows = (search rules, c.loop-i.invariant.all_there);
+  some_preferences = (c.requires.start.0.preferences, watched_ones c.requires.start.1);
+}
 
 pub offset_bounds-starts-step_index : goal.offset_bounds-starts-step_index
 offset_bounds-starts-step_index c = let h = entry c in search rules

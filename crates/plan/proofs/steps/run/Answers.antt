@@ -58,10 +58,10 @@ follow-requires c =
     let marks = c.args.marks.now in record {
       rows = search rules;
       all_below = (
-          subst⁻¹ (AllBelow (length marks)) (lent (goal.at.follow-requires c).After-note_actions-many) (within_rows_lem marks),
-          subst⁻¹ (λ (l : List ℕ). AllBelow (length l) c.args.plan.now) (lent (goal.at.follow-requires c).After-note_actions-many) c.requires.marks_len_bound.1,
-          record { sixteen = refl; seen_none = fresh_at 16 },
-        );
+        subst⁻¹ (AllBelow (length marks)) (lent (goal.at.follow-requires c).After-note_actions-many) (within_rows_lem marks),
+        subst⁻¹ (λ (l : List ℕ). AllBelow (length l) c.args.plan.now) (lent (goal.at.follow-requires c).After-note_actions-many) c.requires.marks_len_bound.1,
+        record { sixteen = refl; seen_none = fresh_at 16 },
+      );
       start = (c.requires.rows.2.0, begun (goal.at.follow-requires c).After-note_actions-many c.requires.rows.2.0 c.requires.rows.2.1);
     }
 

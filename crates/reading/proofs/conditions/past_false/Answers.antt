@@ -14,12 +14,12 @@ loop-i-init c =
 
 pub returns-then-marks-i : goal.returns-then-marks-i
 returns-then-marks-i c = record {
-      lower_bound = (search rules, search rules);
-      past_false = record {
-        looks = c.loop-i.invariant.2;
-        stops = λ h e. c.if-marks-i.true (e ∙ sym (c.false_mark.ensures ∙ rw c.value_at.ensures));
-      };
-    }
+  lower_bound = (search rules, search rules);
+  past_false = record {
+    looks = c.loop-i.invariant.2;
+    stops = λ h e. c.if-marks-i.true (e ∙ sym (c.false_mark.ensures ∙ rw c.value_at.ensures));
+  };
+}
 
 pub loop-i-preserved : goal.loop-i-preserved
 loop-i-preserved c =
@@ -32,6 +32,6 @@ loop-i-preserved c =
 
 pub returns : goal.returns
 returns c = record {
-      lower_bound = (search rules, search rules);
-      past_false = record { looks = c.loop-i.invariant.2; stops = λ h e. absurd (omega (arith, c.loop-i-test)) };
-    }
+  lower_bound = (search rules, search rules);
+  past_false = record { looks = c.loop-i.invariant.2; stops = λ h e. absurd (omega (arith, c.loop-i-test)) };
+}

@@ -54,6 +54,6 @@ gathered c r added deleted looks next =
 
 pub returns : goal.returns
 returns c = record {
-      i_lt_next = (gathered (goal.at.returns c).After-mark_all-d _ refl refl refl refl).0;
-      gathers = (gathered (goal.at.returns c).After-mark_all-d _ refl refl refl refl).1;
-    }
+  i_lt_next = (gathered (goal.at.returns c).After-mark_all-d _ refl refl refl refl).0;
+  gathers = (gathered (goal.at.returns c).After-mark_all-d _ refl refl refl refl).1;
+}

@@ -9,9 +9,9 @@ loop-i-init c = record { rows_left = search rules; begun = search rules; others 
 
 pub returns-then-four_marks-ge-GOAL : goal.returns-then-four_marks-ge-GOAL
 returns-then-four_marks-ge-GOAL c = let p = c.loop-i.invariant in record {
-      lower_bound = (p.begun, p.rows_left);
-      by_index = p.others;
-    }
+  lower_bound = (p.begun, p.rows_left);
+  by_index = p.others;
+}
 
 pub loop-i-preserved : goal.loop-i-preserved
 loop-i-preserved c =
@@ -21,6 +21,6 @@ loop-i-preserved c =
 
 pub returns : goal.returns
 returns c = let p = c.loop-i.invariant in record {
-      lower_bound = (p.begun, p.rows_left);
-      by_index = p.others;
-    }
+  lower_bound = (p.begun, p.rows_left);
+  by_index = p.others;
+}

@@ -17,9 +17,9 @@ overflow_cast-p-2 c = let few = c.requires.effect_at.1.few in search rules
 
 pub put_literals-k-requires : goal.put_literals-k-requires
 put_literals-k-requires c = record {
-      room = (c.put_row-k.ensures.room, c.requires.room.1, c.requires.room.3);
-      choosable = (c.requires.effect_at.0.condition, choosable c.requires.effect_at.1 c.args.j c.requires.room.2);
-    }
+  room = (c.put_row-k.ensures.room, c.requires.room.1, c.requires.room.3);
+  choosable = (c.requires.effect_at.0.condition, choosable c.requires.effect_at.1 c.args.j c.requires.room.2);
+}
 
 pub copy_rows-requires : goal.copy_rows-requires
 copy_rows-requires c =

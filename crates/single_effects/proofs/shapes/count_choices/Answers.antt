@@ -16,7 +16,7 @@ finish-requires c =
 pub returns-then-not-in_condition : goal.returns-then-not-in_condition
 returns-then-not-in_condition c =
     let a = c.args in
-    let parts =    counted_stop a.marks.now a.from c.loop-i.t c.loop-i.i c.loop-i.invariant (search rules)
+    let parts = counted_stop a.marks.now a.from c.loop-i.t c.loop-i.i c.loop-i.invariant (search rules)
     (sym c.in_condition.ensures ∙ not-true _ c.if-not-in_condition.true-raw) c.finish.result c.finish.ensures in
     record { from_le_next = parts.0; by_index = parts.1 }
 
@@ -37,5 +37,5 @@ finish-requires-2 c =
 pub returns : goal.returns
 returns c =
     let a = c.args in
-    let parts =    counted_end a.marks.now a.from c.loop-i.t c.loop-i.i c.loop-i.invariant (search rules) c.finish-2.result c.finish-2.ensures in
+    let parts = counted_end a.marks.now a.from c.loop-i.t c.loop-i.i c.loop-i.invariant (search rules) c.finish-2.result c.finish-2.ensures in
     record { from_le_next = parts.0; by_index = parts.1 }

@@ -22,9 +22,9 @@ returns-then-out-length c = λ t N.
 
 pub put_task-requires : goal.put_task-requires
 put_task-requires c = record {
-      room = (record { few = search rules; long = search rules }, c.requires.rows.0, c.requires.rows.1, c.requires.rows.2);
-      narrow = c.requires.narrow;
-    }
+  room = (record { few = search rules; long = search rules }, c.requires.rows.0, c.requires.rows.1, c.requires.rows.2);
+  narrow = c.requires.narrow;
+}
 
 pub returns : goal.returns
 returns c = λ t N.

@@ -15,9 +15,9 @@ loop-i-init c = (search rules, search rules, λ m a b q. omega arith)
 
 pub returns-then-not-four_others : goal.returns-then-not-four_others
 returns-then-not-four_others c = let i = c.loop-i.invariant in record {
-      lower_bound = (i.0, i.1);
-      no_effects = i.2;
-    }
+  lower_bound = (i.0, i.1);
+  no_effects = i.2;
+}
 
 pub loop-i-preserved : goal.loop-i-preserved
 loop-i-preserved c =
@@ -35,6 +35,6 @@ loop-i-preserved c =
 
 pub returns : goal.returns
 returns c = let i = c.loop-i.invariant in record {
-      lower_bound = (i.0, i.1);
-      no_effects = i.2;
-    }
+  lower_bound = (i.0, i.1);
+  no_effects = i.2;
+}

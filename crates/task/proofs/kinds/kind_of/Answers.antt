@@ -13,45 +13,45 @@ few t h = le→leb t MAX_DEADLINE (omega arith)
 
 pub returns-in-10 : goal.returns-in-10
 returns-in-10 c = record {
-      result_value = rw c.in-10.is;
-      t = tt;
-    }
+  result_value = rw c.in-10.is;
+  t = tt;
+}
 
 pub returns-in-11 : goal.returns-in-11
 returns-in-11 c = record {
-      result_value = rw c.in-11.is;
-      t = tt;
-    }
+  result_value = rw c.in-11.is;
+  t = tt;
+}
 
 pub returns-in-12 : goal.returns-in-12
 returns-in-12 c = record {
-      result_value = rw c.in-12.is;
-      t = tt;
-    }
+  result_value = rw c.in-12.is;
+  t = tt;
+}
 
 pub returns-in-13 : goal.returns-in-13
 returns-in-13 c = record {
-      result_value = rw c.in-13.is;
-      t = tt;
-    }
+  result_value = rw c.in-13.is;
+  t = tt;
+}
 
 pub returns-in-14 : goal.returns-in-14
 returns-in-14 c = record {
-      result_value = rw c.in-14.is;
-      t = tt;
-    }
+  result_value = rw c.in-14.is;
+  t = tt;
+}
 
 pub returns-in-15 : goal.returns-in-15
 returns-in-15 c = record {
-      result_value = rw c.in-15.is;
-      t = tt;
-    }
+  result_value = rw c.in-15.is;
+  t = tt;
+}
 
 pub returns-in-17 : goal.returns-in-17
 returns-in-17 c = record {
-      result_value = rw c.in-17.is;
-      t = few c.args.steps (search rules);
-    }
+  result_value = rw c.in-17.is;
+  t = few c.args.steps (search rules);
+}
 
 pub returns-in_default : goal.returns-in_default
 returns-in_default c =

@@ -1,0 +1,13 @@
+-- Five numbers with their words, and a newline, in turn: then of Writing.
+use borrow.Author.Rules.{rules}
+use Rattle.text.proofs.Writing.{then}
+use Rattle.week_report.specs.Lines.{metric_line}
+use Rattle.week_report.proofs.put_metrics.Goals as goal
+
+pub returns : goal.returns
+unfolding metric_line
+returns c = record {
+  wrote = then (then (then (then (then c.put_labelled-a.ensures.wrote c.put_labelled-b.ensures.wrote) c.put_labelled-c.ensures.wrote) c.put_labelled-d.ensures.wrote)
+      c.put_labelled-e.ensures.wrote) c.put_byte.ensures;
+  upper_bound = search rules;
+}
