@@ -136,7 +136,7 @@ last_only = translated_by opens (λ (t : Task) (a : Action). []) in_end ends for
 abbrev pub all_but_last : Translator
 all_but_last = translated_by opens in_source (λ (t : Task). []) ends forgone
 
--- the trackers of a source action read the state that it reaches, where its effects have no conditions (said-before)
+-- the trackers of a source action read the state that it reaches, where its effects have no conditions (said_before)
 abbrev pub reads_reached : Translator
 reads_reached =
     translated_by opens

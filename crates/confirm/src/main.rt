@@ -26,7 +26,7 @@ fn say_paid(rt: &impl Print, task: &[u8], plan: &[u8], cost: u64) -> io::Result<
 }
 
 // Prints what is said of a list that solves the translation at a cost: the report on its source part, and that cost, which by
-// paid-in-full of paid_line is its metric.
+// paid_in_full of paid_line is its metric.
 fn confirm(rt: &impl Print, task: &[u8], planned: &[u8], cost: u64) -> io::Result<()> {
     let mut plan = [0u8; limits::MAX_STEPS];
     let part = source::source(task, planned, &mut plan);
@@ -66,8 +66,8 @@ fn main(rt: HostRuntime) -> io::Result<()> {
     // file.
     let mut task = [0u8; files::LARGE];
     let mut planned = [0u8; limits::MAX_TEXT + 1];
-    let of_task = files::read(&rt, "task", &mut task);
-    let of_planned = files::read(&rt, "planned", &mut planned);
+    let of_task = files::read(&rt, b"task", &mut task);
+    let of_planned = files::read(&rt, b"planned", &mut planned);
     let Content::Bytes(n) = of_task else {
         return files::say_missing(&rt);
     };

@@ -38,10 +38,14 @@ fn read_open(file: &mut impl Read, buf: &mut [u8]) -> Content
     Content::Bytes(done)
 }
 
-// Reads a file into the start of a buffer, as much of it as fits.
-pub fn read(rt: &impl Files, name: &str, buf: &mut [u8]) -> Content
+// Reads a file into the start of a buffer, as much of it as fits. The system is asked by names that are text; a file of another
+// name can't be opened.
+pub fn read(rt: &impl Files, name: &[u8], buf: &mut [u8]) -> Content
     ensures { WithinBuffer result buf.new }
 {
+    let Ok(name) = str::from_utf8(name) else {
+        return Content::Missing;
+    };
     let Ok(mut file) = File::open(rt, name) else {
         return Content::Missing;
     };
@@ -94,7 +98,13 @@ fn take_back(rt: &impl Files, name: &str, tried: Tried) {
 }
 
 // Whether two files can be opened for writing. Neither is emptied, and where one can't be opened neither is made.
-pub fn both_open(rt: &impl Files, a: &str, b: &str) -> bool {
+pub fn both_open(rt: &impl Files, a: &[u8], b: &[u8]) -> bool {
+    let Ok(a) = str::from_utf8(a) else {
+        return false;
+    };
+    let Ok(b) = str::from_utf8(b) else {
+        return false;
+    };
     let of_a = try_open(rt, a);
     let of_b = try_open(rt, b);
     let both = is_open(of_a) & is_open(of_b);
@@ -106,8 +116,10 @@ pub fn both_open(rt: &impl Files, a: &str, b: &str) -> bool {
 }
 
 // Empties a file.
-pub fn empty(rt: &impl Files, name: &str) {
-    let _ = File::create(rt, name);
+pub fn empty(rt: &impl Files, name: &[u8]) {
+    if let Ok(name) = str::from_utf8(name) {
+        let _ = File::create(rt, name);
+    }
 }
 
 // Closes a file, and answers whether that went well. A dropped file is closed, and of what the system answers only the number of its last
@@ -121,8 +133,11 @@ fn closed<R: Files>(rt: &R, file: R::File) -> bool {
 
 // Writes a file, and answers whether it now holds the bytes alone: it was opened, and every write and the close went well. Where
 // one of these failed the file is emptied, so that nothing takes a part for the whole.
-pub fn write(rt: &impl Files, name: &str, bytes: &[u8]) -> bool {
-    let Ok(mut file) = File::create(rt, name) else {
+pub fn write(rt: &impl Files, name: &[u8], bytes: &[u8]) -> bool {
+    let Ok(text) = str::from_utf8(name) else {
+        return false;
+    };
+    let Ok(mut file) = File::create(rt, text) else {
         return false;
     };
     let all = file.write_all(bytes).is_ok();

@@ -12,8 +12,8 @@ fn main(rt: HostRuntime) -> io::Result<()> {
     // Both buffers have room for more than any file that is judged, so a longer one gets the answer of the whole file.
     let mut task = [0u8; files::LARGE];
     let mut plan = [0u8; PLAN_READ];
-    let of_task = files::read(&rt, "task", &mut task);
-    let of_plan = files::read(&rt, "plan", &mut plan);
+    let of_task = files::read(&rt, b"task", &mut task);
+    let of_plan = files::read(&rt, b"plan", &mut plan);
     let Content::Bytes(n) = of_task else {
         return files::say_missing(&rt);
     };

@@ -5,7 +5,7 @@ use Rattle.meaning.specs.Task.{Task}
 use Rattle.meaning.specs.Meaning.{State, is_true, opening, after, action_at, applies, runs, final, cost, is_met, is_kept, keeps_rules, metric, utility}
 
 -- solved has cost, metric, utility and the set of the met preferences' numbers; stopped has the first step that doesn't apply, and
--- rule-missed the lowest hard preference that is missed
+-- rule_missed the lowest hard preference that is missed
 pub data Verdict : Type 0 where
   solved : ℕ → ℕ → ℤ → (ℕ → Bool) → Verdict
   stopped : ℕ → Verdict

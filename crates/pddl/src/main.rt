@@ -9,16 +9,16 @@ use std::rt::Files;
 // Writes the two files, where both can be opened. Where one could not be written both are empty: a text beside an old or a cut
 // one would mislead.
 fn write_texts(rt: &(impl Files + Print), domain: &[u8], problem: &[u8]) -> io::Result<()> {
-    if !files::both_open(rt, "domain.pddl", "problem.pddl") {
+    if !files::both_open(rt, b"domain.pddl", b"problem.pddl") {
         return files::say_missing(rt);
     }
-    let whole = files::write(rt, "domain.pddl", domain)
-        && files::write(rt, "problem.pddl", problem);
+    let whole = files::write(rt, b"domain.pddl", domain)
+        && files::write(rt, b"problem.pddl", problem);
     if whole {
         return Ok(());
     }
-    files::empty(rt, "domain.pddl");
-    files::empty(rt, "problem.pddl");
+    files::empty(rt, b"domain.pddl");
+    files::empty(rt, b"problem.pddl");
     files::say_missing(rt)
 }
 
@@ -26,7 +26,7 @@ fn main(rt: HostRuntime) -> io::Result<()> {
     // The first buffer has room for more than any accepted file, so a longer one gets the answer of the whole file; the
     // others for every domain and every problem.
     let mut task = [0u8; files::LARGE];
-    let of_task = files::read(&rt, "compiled", &mut task);
+    let of_task = files::read(&rt, b"compiled", &mut task);
     let Content::Bytes(n) = of_task else {
         return files::say_missing(&rt);
     };

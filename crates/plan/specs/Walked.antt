@@ -9,7 +9,7 @@ use Rattle.plan.specs.Judged
 use Rattle.plan.specs.Judged.{Judged, judged}
 
 -- a verdict: solved has cost and the set of the met preferences' numbers; stopped has the first step that doesn't apply,
--- and rule-missed the lowest hard preference that is missed
+-- and rule_missed the lowest hard preference that is missed
 pub data Walk : Type 0 where
   solved : ℕ → (ℕ → Bool) → Walk
   stopped : ℕ → Walk

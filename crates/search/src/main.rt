@@ -8,7 +8,7 @@ use std::rt::Files;
 
 // Writes `planned`, which then holds the plan alone, or nothing where it could not be written.
 fn write_planned(rt: &(impl Files + Print), plan: &[u8]) -> io::Result<()> {
-    if files::write(rt, "planned", plan) {
+    if files::write(rt, b"planned", plan) {
         Ok(())
     } else {
         files::say_missing(rt)
@@ -19,7 +19,7 @@ fn main(rt: HostRuntime) -> io::Result<()> {
     // The first buffer has room for more than any accepted file, so a longer one gets the answer of the whole file; the
     // second for every plan found.
     let mut task = [0u8; files::LARGE];
-    let of_task = files::read(&rt, "compiled", &mut task);
+    let of_task = files::read(&rt, b"compiled", &mut task);
     let Content::Bytes(n) = of_task else {
         return files::say_missing(&rt);
     };

@@ -8,7 +8,7 @@ use std::rt::Files;
 
 // Writes `spelled`, which then holds the spelling alone, or nothing where it could not be written.
 fn write_spelled(rt: &(impl Files + Print), spelling: &[u8]) -> io::Result<()> {
-    if files::write(rt, "spelled", spelling) {
+    if files::write(rt, b"spelled", spelling) {
         Ok(())
     } else {
         files::say_missing(rt)
@@ -19,7 +19,7 @@ fn main(rt: HostRuntime) -> io::Result<()> {
     // The first buffer has room for more than any accepted file, so a longer one gets the answer of the whole file; the
     // second for every spelling.
     let mut task = [0u8; files::LARGE];
-    let of_task = files::read(&rt, "task", &mut task);
+    let of_task = files::read(&rt, b"task", &mut task);
     let Content::Bytes(n) = of_task else {
         return files::say_missing(&rt);
     };

@@ -8,7 +8,7 @@ use std::rt::Files;
 
 // Writes `compiled`, which then holds the translation alone, or nothing where it could not be written.
 fn write_compiled(rt: &(impl Files + Print), translation: &[u8]) -> io::Result<()> {
-    if files::write(rt, "compiled", translation) {
+    if files::write(rt, b"compiled", translation) {
         Ok(())
     } else {
         files::say_missing(rt)
@@ -19,7 +19,7 @@ fn main(rt: HostRuntime) -> io::Result<()> {
     // The first buffer has room for more than any accepted file, so a longer one gets the answer of the whole file; the
     // second for every translation.
     let mut task = [0u8; files::LARGE];
-    let of_task = files::read(&rt, "task", &mut task);
+    let of_task = files::read(&rt, b"task", &mut task);
     let Content::Bytes(n) = of_task else {
         return files::say_missing(&rt);
     };

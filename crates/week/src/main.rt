@@ -9,8 +9,8 @@ fn main(rt: HostRuntime) -> io::Result<()> {
     // The buffers have room for all that can be read of a file, so a longer one gets the answer of the whole file.
     let mut task = [0u8; files::LARGE];
     let mut plans = [0u8; week_report::PLANS_READ];
-    let of_task = files::read(&rt, "task", &mut task);
-    let of_plans = files::read(&rt, "plans", &mut plans);
+    let of_task = files::read(&rt, b"task", &mut task);
+    let of_plans = files::read(&rt, b"plans", &mut plans);
     let Content::Bytes(n) = of_task else {
         return files::say_missing(&rt);
     };

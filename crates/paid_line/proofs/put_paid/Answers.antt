@@ -1,4 +1,4 @@
--- The line is put_held's, for the metric that metric_of answers; it has at most 57 bytes, so the area has it whole: whole-line of Whole.
+-- The line is put_held's, for the metric that metric_of answers; it has at most 57 bytes, so the area has it whole: whole_line of Whole.
 use mathlib.Core.Path.{subst}
 use native.Mathlib.Omega.{arith}
 use Rattle.text.specs.Area.{Wrote}

@@ -1,4 +1,4 @@
--- A file that check refuses gives its refusal, an accepted one that of the text: file-refused and file-accepted of Answering.
+-- A file that check refuses gives its refusal, an accepted one that of the text: file_refused and file_accepted of Answering.
 use Rattle.plan_text.proofs.Answering.{file_refused, file_accepted}
 use Rattle.plan_text.proofs.refused_text.Goals as goal
 

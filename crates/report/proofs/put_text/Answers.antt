@@ -1,4 +1,4 @@
--- A refused file has no text (on-refused of Answering); of an accepted one the two parts give the task's text (on-accepted).
+-- A refused file has no text (on_refused of Answering); of an accepted one the two parts give the task's text (on_accepted).
 use mathlib.Core.Path.{◌≡◌, sym, ap, ◌∙◌}
 use native.Mathlib.Omega.{arith}
 use lib.ListN.{length-take, length-drop}

@@ -1,4 +1,4 @@
--- Words, area and meaning are single's; what a planner pays for a translation stays: still-paid of paid.
+-- Words, area and meaning are single's; what a planner pays for a translation stays: still_paid of paid.
 use mathlib.Core.Path.{ap, ◌∙◌}
 use Rattle.words.specs.Numbers.{of_outcome}
 use Rattle.paid.proofs.CostIsMetric.{still_paid}

@@ -1,4 +1,4 @@
--- Words, area and faithfulness are translate's; what the planner pays is what walk and settle say: written-paid of paid.
+-- Words, area and faithfulness are translate's; what the planner pays is what walk and settle say: written_paid of paid.
 use mathlib.Core.Path.{ap, ◌∙◌}
 use lib.ListN.{length}
 use Rattle.words.specs.Numbers.{of_outcome}

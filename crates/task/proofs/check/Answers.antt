@@ -1,4 +1,4 @@
--- Each refusal is check's, and so is the walk over the two parts: short, wrong-sizes, wrong-length and walked of Checking.
+-- Each refusal is check's, and so is the walk over the two parts: short, wrong_sizes, wrong_length and walked of Checking.
 use mathlib.Core.Path.{◌≡◌, sym, ◌∙◌}
 use mathlib.Core.Bool.{true}
 use Prim.Native.Nat.{◌≤◌}

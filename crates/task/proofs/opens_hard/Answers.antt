@@ -1,4 +1,4 @@
--- Below 16 no mark opens a hard preference: below-hard of Values; from 16 on opens_soft answers for the mark less 16.
+-- Below 16 no mark opens a hard preference: below_hard of Values; from 16 on opens_soft answers for the mark less 16.
 use mathlib.Core.Path.{sym}
 use borrow.Author.Rules.{rules}
 use Rattle.task.proofs.Values.{below_hard}

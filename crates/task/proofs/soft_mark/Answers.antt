@@ -1,4 +1,4 @@
--- By opens_hard's answer: a hard mark is 16 or more, so 16 can be taken off (hard-above of Values); any other mark stays.
+-- By opens_hard's answer: a hard mark is 16 or more, so 16 can be taken off (hard_above of Values); any other mark stays.
 use mathlib.Core.Path.{◌≡◌, sym, ◌∙◌}
 use mathlib.Core.Bool.{true, false}
 use Rattle.task.specs.File.{opens_hard}

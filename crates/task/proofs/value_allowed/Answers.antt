@@ -1,4 +1,4 @@
--- Each arm tests the value as value_allowed does for its marks: of-action to of_other of Values, with its laws of ranges.
+-- Each arm tests the value as value_allowed does for its marks: of_action to of_other of Values, with its laws of ranges.
 use borrow.Author.Rules.{rules}
 use mathlib.Core.Path.{sym}
 use native.Mathlib.Omega.{arith}

@@ -1,5 +1,5 @@
--- The walk from row i on answers as the whole one: Reached of CheckSteps, kept by one-row and what after_parts promises; refusals by
--- no-mark and no_value.
+-- The walk from row i on answers as the whole one: Reached of CheckSteps, kept by one_row and what after_parts promises; refusals by
+-- no_mark and no_value.
 use Prim.Native.Nat.{◌-◌}
 use lib.ListN.{length}
 use Rattle.task.proofs.CheckSteps.{Reached}

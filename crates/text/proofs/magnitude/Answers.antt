@@ -1,4 +1,4 @@
--- Below 0 the flipped bits are one less than the distance from 0 (below of Signed); from 0 on the number is itself (not-below).
+-- Below 0 the flipped bits are one less than the distance from 0 (below of Signed); from 0 on the number is itself (not_below).
 use mathlib.Core.Path.{sym, ap, ◌∙◌}
 use Prim.Native.Nat.{◌+◌, ◌^◌, ◌<◌}
 use native.Mathlib.Numerals.{add-one}

@@ -1,4 +1,4 @@
--- A number below 1,000 that has room by put_three, which writes three digits at most (few-digits-written of Writing), others by
+-- A number below 1,000 that has room by put_three, which writes three digits at most (few_digits_written of Writing), others by
 -- put_large.
 use Prim.Native.Nat.{◌+◌, ◌<◌}
 use lib.Dec.{leb, ltb}

@@ -1,4 +1,4 @@
--- One byte more in each turn, or one that is dropped: one-byte-more of Writing.
+-- One byte more in each turn, or one that is dropped: one_byte_more of Writing.
 use Prim.Native.Nat.{◌+◌, ◌-◌, ◌≤◌}
 use mathlib.Core.Path.{◌≡◌}
 use lib.ListN.{length, take}

@@ -1,4 +1,4 @@
--- Below 10 one digit, else the digit of n / 10 and then the last: one-digit and last-digit of Writing.
+-- Below 10 one digit, else the digit of n / 10 and then the last: one_digit and last-digit of Writing.
 use Prim.Native.Nat.{◌/◌}
 use Rattle.text.proofs.Writing.{one_digit, last-digit}
 use borrow.Author.Rules.{rules}

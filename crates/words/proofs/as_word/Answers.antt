@@ -1,4 +1,4 @@
--- Below 0 the bits flipped twice are the number by two's complement (below of Signed); from 0 on it is itself (not-below).
+-- Below 0 the bits flipped twice are the number by two's complement (below of Signed); from 0 on it is itself (not_below).
 use mathlib.Core.Path.{sym, ap, ◌∙◌}
 use Prim.Native.Nat.{◌-◌, ◌^◌, ◌<◌}
 use native.Mathlib.Omega.{arith}

@@ -1,4 +1,4 @@
--- The word of the met preferences is the number of its bits, so the words are those of a plan that solves: solved-words of Bits.
+-- The word of the met preferences is the number of its bits, so the words are those of a plan that solves: solved_words of Bits.
 use Rattle.words.proofs.Bits.{solved_words}
 use borrow.Author.Rules.{rules}
 use Rattle.words.proofs.put_solution.Goals as goal

@@ -1,4 +1,4 @@
--- A word, the digits and a word are written in turn (then of Writing), and make the text: not-wrote of Listing.
+-- A word, the digits and a word are written in turn (then of Writing), and make the text: not_wrote of Listing.
 use Rattle.text.proofs.Writing.{then}
 use Rattle.pddl_parts.proofs.Listing.{not_wrote}
 use borrow.Author.Rules.{rules}

@@ -1,4 +1,4 @@
--- After i turns the lines of the first i steps are written: no_lines, one-line-more and all_lines of Printing.
+-- After i turns the lines of the first i steps are written: no_lines, one_line_more and all_lines of Printing.
 use Prim.Native.Nat.{◌*◌, ◌-◌, ◌≤◌}
 use lib.ListN.{length, take}
 use Rattle.text.specs.Area.{Wrote}

@@ -1,4 +1,4 @@
--- After a comment or a step the next line begins, by at_line's contract; a line of another form stays: another-form of Modes.
+-- After a comment or a step the next line begins, by at_line's contract; a line of another form stays: another_form of Modes.
 use mathlib.Core.Path.{◌∙◌}
 use native.Mathlib.Numerals.{add-one}
 use Rattle.plan_lines.proofs.Modes.{another_form}

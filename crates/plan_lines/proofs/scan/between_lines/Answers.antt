@@ -1,4 +1,4 @@
--- In the form Opening no line is begun; in each other form one is: a-line-begun of Modes.
+-- In the form Opening no line is begun; in each other form one is: a_line_begun of Modes.
 use Rattle.plan_lines.proofs.Modes.{a_line_begun}
 use Rattle.plan_lines.proofs.scan.between_lines.Goals as goal
 

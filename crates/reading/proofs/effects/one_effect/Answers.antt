@@ -1,4 +1,4 @@
--- The condition, the ADD rows and the DELETE rows make one effect more: gathered-with of EffectRows; all lie within the rows.
+-- The condition, the ADD rows and the DELETE rows make one effect more: gathered_with of EffectRows; all lie within the rows.
 use Prim.Native.Nat.{◌+◌, ◌<◌, ◌≤◌}
 use native.Mathlib.Omega.{arith}
 use mathlib.Core.Path.{◌≡◌, refl}

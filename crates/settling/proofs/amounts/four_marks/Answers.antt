@@ -1,4 +1,4 @@
--- Each mark is within the bits of all four: four-within of Weighing.
+-- Each mark is within the bits of all four: four_within of Weighing.
 use Rattle.settling.proofs.Weighing.{four_within}
 use Rattle.settling.proofs.amounts.four_marks.Goals as goal
 

@@ -1,4 +1,4 @@
--- Every turn passes eight rows by whose marks are below GOAL: Passing of Weighing, kept by eight-more.
+-- Every turn passes eight rows by whose marks are below GOAL: Passing of Weighing, kept by eight_more.
 use Prim.Native.Nat.{◌-◌}
 use lib.ListN.{length}
 use Rattle.settling.proofs.Weighing.{Passing}

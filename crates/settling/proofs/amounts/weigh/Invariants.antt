@@ -1,4 +1,4 @@
--- The loop counts all rows but those passed by, by the laws of a row automaton (`Reading`) and passed-by of Weighing.
+-- The loop counts all rows but those passed by, by the laws of a row automaton (`Reading`) and passed_by of Weighing.
 use Prim.Native.Nat.{◌-◌}
 use lib.ListN.{length}
 use Rattle.state.specs.Member.{bit}

@@ -1,4 +1,4 @@
--- Where all four tests pass, no row opens an effect: no-four of Seeking.
+-- Where all four tests pass, no row opens an effect: no_four of Seeking.
 use Rattle.lists.proofs.Tests.{as_t}
 use Rattle.single_effects.proofs.Seeking.{no_four}
 use Rattle.single_effects.proofs.wide.four_others.Goals as goal

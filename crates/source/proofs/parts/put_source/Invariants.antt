@@ -1,4 +1,4 @@
--- After i turns the source steps among the first i are written: no_steps, one-step-more and all-steps of SourceSteps.
+-- After i turns the source steps among the first i are written: no_steps, one_step_more and all_steps of SourceSteps.
 use Prim.Native.Nat.{◌-◌, ◌≤◌}
 use lib.ListN.{length, take}
 use Rattle.text.specs.Area.{Wrote}

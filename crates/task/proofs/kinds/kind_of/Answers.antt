@@ -1,4 +1,4 @@
--- By the mark each kind computes, and the last is left where the mark is no other's: last-kind of Steps.
+-- By the mark each kind computes, and the last is left where the mark is no other's: last_kind of Steps.
 use mathlib.Core.Path.{sym}
 use Prim.Native.Nat.{ℕ, ◌<◌}
 use native.Mathlib.Omega.{arith}

@@ -1,4 +1,4 @@
--- The bytes read from 4 × i on are the first four after 4 × i are dropped, as valueAt has them: get_or-drop of Seq.
+-- The bytes read from 4 × i on are the first four after 4 × i are dropped, as value_at has them: get_or-drop of Seq.
 use mathlib.Core.Path.{◌∙◌}
 use native.Mathlib.Nat.{add-zero}
 use lib.Seq.{get_or-drop}
