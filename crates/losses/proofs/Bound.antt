@@ -20,7 +20,8 @@ use Rattle.classical.proofs.Applies.{is_accepting, closer, goal_open}
 use Rattle.classical.proofs.Runs.{wins, solves_win}
 use Rattle.classical.proofs.Plans.{closer_cost}
 use Rattle.losses.specs.Losses.{is_lost, lost_of, lost_in}
-use Rattle.losses.proofs.Shown.{shows-losable, shown_not-accepting, shown_stays}
+use Rattle.losses.proofs.Shown.{shows-losable, shown_not-accepting}
+use Rattle.losses.proofs.Stays.{shown_stays}
 use Rattle.losses.proofs.Moves.{state_after, shown, Move, by_source, by_end, by_closing, move, Simulated, moved, broken_is}
 
 -- Sums of g and of h over the range below P

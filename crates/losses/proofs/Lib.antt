@@ -1,5 +1,6 @@
 -- What monitors show
 pub mod Shown
+pub mod Stays
 -- A translated run, step by step
 pub mod Moves
 pub mod Left

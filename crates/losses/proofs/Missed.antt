@@ -13,7 +13,8 @@ use Rattle.meaning.proofs.WellFormed.{preference_count}
 use Rattle.classical.specs.Translation.{fact_s, fact_b, fact_c, ended, translated}
 use Rattle.classical.specs.Claim.{source_part}
 use Rattle.losses.specs.Losses.{losable, broken, is_lost, source_state, left_from, left}
-use Rattle.losses.proofs.Shown.{shows-losable, missed_on}
+use Rattle.losses.proofs.Shown.{shows-losable}
+use Rattle.losses.proofs.Stays.{missed_on}
 use Rattle.losses.proofs.Moves.{state_after}
 use Rattle.losses.proofs.Left.{exactly}
 use Rattle.losses.proofs.Visited.{left_visited}

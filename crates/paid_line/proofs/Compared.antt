@@ -1,22 +1,17 @@
 -- The line is `paid N` exactly where walk and settle give the plan the metric N.
-use mathlib.Core.Path.{◌≡◌, refl, ap}
-use mathlib.Core.Bool.{Bool, true, false, cond, true≢false}
+use mathlib.Core.Path.{◌≡◌, refl, ap, ◌∙◌}
+use mathlib.Core.Bool.{Bool, true≢false}
 use mathlib.Core.Logic.{◌↔◌}
-use mathlib.Core.List.{List, ◌++◌}
-use Prim.Native.Nat.{ℕ, ◌+◌}
-use native.Mathlib.Omega.{arith}
-use lib.Dec.{eqb}
-use lib.ListN.{length, length-append}
-use borrow.Author.Tests.{eq-eqb, eqb-true}
-use Rattle.text.specs.Ascii.{ascii}
-use Rattle.text.specs.Text.{decimal}
+use mathlib.Core.List.{List}
+use Prim.Native.Nat.{ℕ}
 use Rattle.plan.specs.Walked
 use Rattle.plan.specs.Walked.{solved, stopped, goal_missed, rule_missed, Walked, given, walked}
 use Rattle.plan.specs.ThenSettled.{priced, then_settle}
 use Rattle.settling.specs.Settled
 use Rattle.settling.specs.Settled.{Settled, worth, settled}
 use Rattle.paid.specs.CostIsMetric.{SettledAt}
-use Rattle.paid_line.specs.Paid.{Metric, metric, unsolved, metric_in, metric_of, paid_line, otherwise_line, unsolved_line, held_to, line_on}
+use Rattle.paid_line.specs.Paid.{Metric, metric, metric_in, metric_of, paid_line, held_to, line_on}
+use Rattle.paid_line.proofs.Held.{held_same, paid_for}
 
 -- The metric is what walk and settle give
 
@@ -41,41 +36,10 @@ module _ (b p : List ℕ) (m : ℕ) where
   unfolding metric_of
   metric_settled e = by_walk (walked b p) refl e
 
--- The lines differ
-
-module _ (n : ℕ) where
-  paid_size : length (paid_line n) ≡ length (decimal n) + 6
-  unfolding paid_line
-  paid_size = omega (arith, length-append (ascii "paid " ++ decimal n) (ascii "\n"), length-append (ascii "paid ") (decimal n))
-
-  unsolved_size : length (unsolved_line n) ≡ length (decimal n) + 21
-  unfolding unsolved_line
-  unsolved_size =
-      omega (arith, length-append (ascii "paid " ++ decimal n) (ascii " but not solved\n"), length-append (ascii "paid ") (decimal n))
-
-  otherwise_size : (m : ℕ) → length (otherwise_line n m) ≡ length (decimal n) + 17 + length (decimal m)
-  unfolding otherwise_line
-  otherwise_size m =
-      omega (
-        arith,
-        length-append (ascii "paid " ++ decimal n ++ ascii " but worth " ++ decimal m) (ascii "\n"),
-        length-append (ascii "paid " ++ decimal n ++ ascii " but worth ") (decimal m),
-        length-append (ascii "paid " ++ decimal n) (ascii " but worth "),
-        length-append (ascii "paid ") (decimal n),
-      )
-
 -- The line
 
-paid_for : (x : Metric) (n : ℕ) → held_to x n ≡ paid_line n → x ≡ metric n
-paid_for unsolved n e = absurd (omega (arith, ap length e, unsolved_size n, paid_size n))
-paid_for (metric m) n e = go (eqb n m) refl e
-  where
-    go : (same : Bool) → eqb n m ≡ same → cond same (paid_line n) (otherwise_line n m) ≡ paid_line n → metric m ≡ metric n
-    go true h e = let same : m ≡ n = omega (arith, eqb-true n m h) in ap metric same
-    go false h e = absurd (omega (arith, ap length e, otherwise_size n m, paid_size n))
-
 pub equal : (b p : List ℕ) (n : ℕ) → SettledAt b p n → line_on b p n ≡ paid_line n
-equal b p n s = rw (settled_metric b p n s, eq-eqb n n refl)
+equal b p n s = ap (λ (x : Metric). held_to x n) (settled_metric b p n s) ∙ held_same n
 
 pub exactly : (b p : List ℕ) (n : ℕ) → (line_on b p n ≡ paid_line n) ↔ SettledAt b p n
 exactly b p n = (λ e. metric_settled b p n (paid_for (metric_of b p) n e), equal b p n)

@@ -32,18 +32,6 @@ within c =
       ap (λ (x : Entry). x.steps) e,
     )
 
--- what is lent is the plan
-lent : (c : After-entry_at-e) → let f = c.args.plans.now in let from = 2 + 4 * c.count-n.result + c.entry_at-e.result.start in
-    take (from + c.entry_at-e.result.steps - from) (drop from f) ≡ plan_at f c.loop-i.i
-lent c =
-    let few' : let f = c.args.plans.now in (c.count-n.result ≡ count f) × (count f ≤ 64) × (2 + 4 * count f ≤ length f) = let fits = head_fits c.args.plans.now (read_head c.args.plans.now c.requires.1) in
-    (c.count-n.ensures.0, fits.1, fits.2) in
-    let f = c.args.plans.now in
-    let e = c.entry_at-e.ensures.0 in
-    let from = 2 + 4 * c.count-n.result + c.entry_at-e.result.start in
-    plan_lent f c.requires.1 c.loop-i.i from (from + c.entry_at-e.result.steps)
-    (omega (arith, few', ap (λ (x : Entry). x.start) e)) (omega (arith, ap (λ (x : Entry). x.steps) e))
-
 pub loop-i-init : goal.loop-i-init
 loop-i-init c =
     let a = c.args in
@@ -68,16 +56,32 @@ take_plan-taken-requires c =
 pub returns-in_default : goal.returns-in_default
 returns-in_default c =
     let a = c.args in
+    let at = goal.at.returns-in_default c in
+    let few' = few at.After-count-n in
+    let f = a.plans.now in
+    let e = c.entry_at-e.ensures.0 in
+    let from = 2 + 4 * c.count-n.result + c.entry_at-e.result.start in
+    let lent : take (from + c.entry_at-e.result.steps - from) (drop from f) ≡ plan_at f c.loop-i.i =
+    plan_lent f c.requires.1 c.loop-i.i from (from + c.entry_at-e.result.steps)
+    (omega (arith, few', ap (λ (x : Entry). x.start) e)) (omega (arith, ap (λ (x : Entry). x.steps) e)) in
     let parts = refused_at a.file.now a.plans.now a.z.preferences (as_tally c.loop-i.t c.loop-i.meeting) c.loop-i.i c.loop-i.invariant
-    (omega (arith, c.loop-i-test.true, few (goal.at.returns-in_default c).After-count-n)) _ (lent (goal.at.returns-in_default c).After-entry_at-e) c.take_plan-taken.result _ c.take_plan-taken.ensures c.in_default.field-0
+    (omega (arith, c.loop-i-test.true, few')) _ lent c.take_plan-taken.result _ c.take_plan-taken.ensures c.in_default.field-0
     c.in_default.is in
     record { meeting_after = parts.0; counting_in = parts.1 }
 
 pub loop-i-preserved : goal.loop-i-preserved
 loop-i-preserved c =
     let a = c.args in
+    let at = goal.at.loop-i-preserved c in
+    let few' = few at.After-count-n in
+    let f = a.plans.now in
+    let e = c.entry_at-e.ensures.0 in
+    let from = 2 + 4 * c.count-n.result + c.entry_at-e.result.start in
+    let lent : take (from + c.entry_at-e.result.steps - from) (drop from f) ≡ plan_at f c.loop-i.i =
+    plan_lent f c.requires.1 c.loop-i.i from (from + c.entry_at-e.result.steps)
+    (omega (arith, few', ap (λ (x : Entry). x.start) e)) (omega (arith, ap (λ (x : Entry). x.steps) e)) in
     taken_on a.file.now a.plans.now a.z.preferences (as_tally c.loop-i.t c.loop-i.meeting) c.loop-i.i c.loop-i.invariant
-    (omega (arith, c.loop-i-test.true, few (goal.at.loop-i-preserved c).After-count-n)) _ (lent (goal.at.loop-i-preserved c).After-entry_at-e) (as_sizes a.z) c.requires.0 refl c.take_plan-taken.result _ c.take_plan-taken.ensures
+    (omega (arith, c.loop-i-test.true, few')) _ lent (as_sizes a.z) c.requires.0 refl c.take_plan-taken.result _ c.take_plan-taken.ensures
     c.in-On.next c.in-On.is
 
 pub returns : goal.returns
