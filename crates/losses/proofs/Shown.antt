@@ -1,12 +1,11 @@
 -- What a monitor shows broken is what the states seen miss.
-use mathlib.Core.Path.{◌≡◌, refl, sym, ◌∙◌, ap, subst}
+use mathlib.Core.Path.{◌≡◌, refl, sym, ◌∙◌, ap}
 use mathlib.Core.Bool.{Bool, true, false, not, ◌&&◌, ◌||◌}
-use mathlib.Core.List.{List, [], ◌∷◌, ◌++◌}
+use mathlib.Core.List.{List, [], ◌∷◌}
 use lib.Dec.{T}
 use Rattle.meaning.specs.Task.{Kind, always, sometime, at_end, at_most_once, sometime_before, sometime_after, within, always_within}
 use Rattle.meaning.specs.Meaning.{Observation, met}
 use Rattle.meaning.specs.Monitor.{Monitor, fresh, step, accepting, watch}
-use Rattle.lists.proofs.Tests.{as_false, as_t, or_right}
 use Rattle.meaning.proofs.Watched.{watched}
 use Rattle.losses.specs.Losses.{losable, shows}
 
