@@ -39,7 +39,7 @@ def faults(name, **after):
 
 def run(program, files, env=None, most=None):
     """What the program writes on standard output and on standard error, and the files after it. Files are {name: content};
-    where `most` is given no file may grow longer. A program ends with exit status 0, whatever it finds."""
+    where `most` is given no file may grow longer. A program ends with exit status 0, whatever it finds, where it can write."""
     def limited():
         if most is not None:
             signal.signal(signal.SIGXFSZ, signal.SIG_IGN)
