@@ -171,7 +171,7 @@ FAILURES = [
     (LIBRARY, lambda path: os.utime(path, (0, 0)), 'tools/staticlib makes it'),
     (SAID, os.remove, f'{SAID}: No such file'),
     (SAID, replaced('logic=proved', 'logic=refused'), f'{SAID}: not proved'),
-    (SAID, replaced(' sum=', ' sum=f'), 'proved by another kit'),
+    (SAID, replaced(' native=', 'f native='), 'proved by another kit'),
     ('crates/week/out/week.said', replaced('logic=proved', 'logic=refused'), 'crates/week/out/week.said: not proved'),
     ('include/route_rules.rs', replaced('VERSION: &str = "', 'VERSION: &str = "9'), 'include/route_rules.rs: version'),
     ('include/route_rules.h', replaced('VERSION "', 'VERSION "9'), 'and the header has'),
