@@ -1,25 +1,23 @@
 -- What a caller of check takes from an accepted file.
 use mathlib.Core.Path.{◌≡◌, sym, ap, ◌∙◌}
 use mathlib.Core.List.{List}
+use Rattle.std.specs.Prelude.{Result, Ok, Err}
 use Prim.Native.Nat.{ℕ, ◌+◌, ◌*◌, ◌≤◌}
 use lib.ListN.{length}
 use Rattle.task.specs.TaskRows.{task_rows}
 use Rattle.task.specs.File.{Sizes, task_of}
 use Rattle.task.specs.Check.{Answer, accepted, refused, check}
 use Rattle.task.specs.Limits.{MAX_FACTS, MAX_ACTIONS, MAX_PREFERENCES, MAX_ROWS}
-use Rattle.task.specs.Answers.{answer, as_sizes, refusal_in}
+use Rattle.task.specs.Answers.{number_of, answer, as_sizes}
 use Rattle.task.specs.declared.Refusal.{Refusal}
-use Rattle.task.specs.declared.Checked.{Checked}
-use Rattle.task.specs.declared.Checked.TheVariants.{Accepted, Refused}
 use Rattle.task.specs.declared.Sizes
 use Rattle.task.proofs.Checking.{within, parts_of, parts_rows}
 use Rattle.task.proofs.Spelled.{Spelling, accepted_spelling}
 
 -- the refusal in check's answer, passed on by a caller whose own answer is made by check's
-pub passed_on : {R : Type 0} (by : Answer → R) (b : List ℕ) (x : Checked) → answer x ≡ check b → (f : Refusal) → x ≡ Refused f
-    → (r : Refusal) → r ≡ refusal_in x → by (refused r.number r.place) ≡ by (check b)
-passed_on by b x e f q r says =
-    ap (λ (g : Refusal). by (refused g.number g.place)) (says ∙ ap refusal_in q) ∙ ap by (sym (ap answer q) ∙ e)
+pub passed_on : {R : Type 0} (by : Answer → R) (b : List ℕ) (x : Result Sizes.Sizes Refusal) → answer x ≡ check b → (r : Refusal) → x ≡ Err r
+    → by (refused (number_of r.cause) r.place) ≡ by (check b)
+passed_on by b x e r q = ap by (sym (ap answer q) ∙ e)
 
 -- the file's length by its rows, and its sizes within their limits
 pub record Limited (b : List ℕ) (z : Sizes) : Type 0 where
@@ -44,5 +42,5 @@ module _ (b : List ℕ) (z : Sizes) (h : check b ≡ accepted z) where
   parts_spell = parts_rows b z spells.same ∙ spells.spelled
 
 -- the same of the sizes in check's answer, where a caller takes it apart
-pub answered : (b : List ℕ) (x : Checked) → answer x ≡ check b → (z : Sizes.Sizes) → x ≡ Accepted z → Limited b (as_sizes z)
+pub answered : (b : List ℕ) (x : Result Sizes.Sizes Refusal) → answer x ≡ check b → (z : Sizes.Sizes) → x ≡ Ok z → Limited b (as_sizes z)
 answered b x e z q = limited b (as_sizes z) (sym e ∙ ap answer q)

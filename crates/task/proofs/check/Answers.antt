@@ -20,12 +20,12 @@ few : (c : Else-not-sizes_allowed) → c.sizes_of-z.result.rows ≤ 12000
 few c = (within (as_sizes c.sizes_of-z.result) (as_t (allowed c))).0
 
 pub returns-then-file-lt8 : goal.returns-then-file-lt8
-returns-then-file-lt8 c = c.refuse.ensures ∙ sym (short c.args.file.now (search rules))
+returns-then-file-lt8 c = rw c.at.ensures (sym (short c.args.file.now (search rules)))
 
 pub returns-then-not-sizes_allowed : goal.returns-then-not-sizes_allowed
-returns-then-not-sizes_allowed c = c.refuse-then-not-sizes_allowed.ensures
-    ∙ sym (wrong_sizes c.args.file.now (as_sizes c.sizes_of-z.result) c.sizes_of-z.ensures (search rules)
-    (sym c.sizes_allowed.ensures ∙ not-true _ c.if-not-sizes_allowed.true-raw))
+returns-then-not-sizes_allowed c = rw c.at-then-not-sizes_allowed.ensures
+    (sym (wrong_sizes c.args.file.now (as_sizes c.sizes_of-z.result) c.sizes_of-z.ensures (search rules)
+    (sym c.sizes_allowed.ensures ∙ not-true _ c.if-not-sizes_allowed.true-raw)))
 
 pub overflow_add-middle : goal.overflow_add-middle
 overflow_add-middle c = omega (arith, few c)
@@ -38,9 +38,9 @@ overflow_add-middle-2 c = omega (arith, few c)
 
 pub returns-then-file-middle : goal.returns-then-file-middle
 returns-then-file-middle c =
-    c.refuse-then-file-middle.ensures
-    ∙ sym (wrong_length c.args.file.now (as_sizes c.sizes_of-z.result) c.sizes_of-z.ensures (search rules)
-    (allowed (goal.at.returns-then-file-middle c).Else-not-sizes_allowed) c.if-file-middle.true)
+    rw c.at-then-file-middle.ensures
+    (sym (wrong_length c.args.file.now (as_sizes c.sizes_of-z.result) c.sizes_of-z.ensures (search rules)
+    (allowed (goal.at.returns-then-file-middle c).Else-not-sizes_allowed) c.if-file-middle.true))
 
 pub walk_rows-requires : goal.walk_rows-requires
 walk_rows-requires c =

@@ -10,7 +10,7 @@ pub returns-then-not-may_end : goal.returns-then-not-may_end
 returns-then-not-may_end c =
     let e : may_end (numbered c.args.w.context) ≡ false =
     sym c.may_end.ensures ∙ not-true _ c.if-not-may_end.true-raw in
-    c.refuse.ensures ∙ rw e
+    rw (c.at.ensures, e)
 
 pub returns-then-w-z : goal.returns-then-w-z
 returns-then-w-z c =
@@ -20,4 +20,4 @@ returns-then-w-z c =
 pub returns-else-w-z : goal.returns-else-w-z
 returns-else-w-z c =
     let e : may_end (numbered c.args.w.context) ≡ true = sym c.may_end.ensures ∙ not-false _ c.if-not-may_end.false-raw in
-    c.refuse-else-w-z.ensures ∙ rw (e, c.if-w-z.false)
+    rw (c.at-else-w-z.ensures, e, c.if-w-z.false)

@@ -27,19 +27,17 @@ allowed c = rw c.value_at-value.ensures at c.take_row-taken.ensures.allowed_valu
 pub returns-then-context-eq-REFUSED : goal.returns-then-context-eq-REFUSED
 returns-then-context-eq-REFUSED c =
     let a = c.args in
-    c.refuse.ensures
-    ∙ sym (no_mark a.z a.marks.now a.values.now c.loop-i.w c.loop-i.i (search rules)
+    rw c.at.ensures (sym (no_mark a.z a.marks.now a.values.now c.loop-i.w c.loop-i.i (search rules)
     c.next-context.result c.next-context.ensures c.if-context-eq-REFUSED.true)
-    ∙ c.loop-i.invariant.same
+    ∙ c.loop-i.invariant.same)
 
 pub returns-then-not-allowed : goal.returns-then-not-allowed
 returns-then-not-allowed c =
     let a = c.args in
-    c.refuse-then-not-allowed.ensures
-    ∙ sym (no_value a.z a.marks.now a.values.now c.loop-i.w c.loop-i.i (search rules)
+    rw c.at-then-not-allowed.ensures (sym (no_value a.z a.marks.now a.values.now c.loop-i.w c.loop-i.i (search rules)
     c.next-context.result c.next-context.ensures c.if-context-eq-REFUSED.false
     (sym (allowed (goal.at.returns-then-not-allowed c).After-take_row-taken) ∙ not-true _ c.if-not-allowed.true-raw))
-    ∙ c.loop-i.invariant.same
+    ∙ c.loop-i.invariant.same)
 
 -- the context after the row is one of the table's
 context_below : (c : Else-not-allowed) → c.take_row-taken.result.progress.context < 20
