@@ -1,21 +1,20 @@
-// What comes of writing into an area that a caller lends.
+// What comes of writing into an area that a caller lends: the length written to the area's start, or a refusal, which leaves the
+// area as it was.
 #![tactic(auto)]
 
 ghost use Rattle.std.specs.Prelude.{◌≡◌};
-ghost use Rattle.outcome.specs.Outcome.{refused};
+ghost use Rattle.outcome.specs.Outcome.{fitted};
 ghost use Rattle.outcome.specs.Answers.{answer};
 
 use task::Refusal;
+use task::refused::Cause;
 
-// The length written to the area's start, or a refusal, which leaves the area as it was.
-#[derive(Clone, Copy)]
-pub enum Outcome {
-    Written(usize),
-    Refused(Refusal),
-}
-
-pub fn refuse(number: u8, place: u16) -> Outcome
-    ensures { answer result ≡ refused number place }
+// The length of an output, where an area has room for it.
+pub fn fitted(bytes: usize, room: usize) -> Result<usize, Refusal>
+    ensures { answer result ≡ fitted bytes room }
 {
-    Outcome::Refused(Refusal { number, place })
+    if room < bytes {
+        return Err(Cause::ShortOutput.at(0));
+    }
+    Ok(bytes)
 }
