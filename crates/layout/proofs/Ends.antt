@@ -30,7 +30,7 @@ here w i = i
 -- The loop
 
 -- the values play no part
-any_values : (p : ℕ → Bool) (k i : ℕ) (ms vs us : List ℕ) → run still p here tt k (drop i (paired ms vs)) ≡ run still p here tt k (drop i (paired ms us))
+pub any_values : (p : ℕ → Bool) (k i : ℕ) (ms vs us : List ℕ) → run still p here tt k (drop i (paired ms vs)) ≡ run still p here tt k (drop i (paired ms us))
 unfolding run
 any_values p k zero [] vs us = refl
 any_values p k zero (m ∷ ms) vs us = ap (λ (r : ℕ). cond (p m) r k) (any_values p (k + 1) zero ms (drop 4 vs) (drop 4 us))

@@ -12,13 +12,11 @@ pub fn note_actions(marks: &[u8], starts: &mut [usize]) -> usize
     ensures { (result ≤ length starts.new) × (take result starts.new ≡ actions_from 0 marks.now) }
 {
     let mut c = 0;
-    let mut i = 0;
-    while i < marks.len() {
+    for i in 0..marks.len() {
         if marks[i] == marks::ACTION {
             starts[c] = i;
             c += 1;
         }
-        i += 1;
     }
     c
 }
@@ -27,12 +25,10 @@ pub fn note_actions(marks: &[u8], starts: &mut [usize]) -> usize
 pub fn first_preference(marks: &[u8]) -> usize
     ensures { (result ≡ length (take_until opens_preference marks.now)) × (result ≤ length marks.now) }
 {
-    let mut i = 0;
-    while i < marks.len() {
+    for i in 0..marks.len() {
         if task::is_preference(marks[i]) {
             return i;
         }
-        i += 1;
     }
-    i
+    marks.len()
 }

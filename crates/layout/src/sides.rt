@@ -25,8 +25,7 @@ pub fn skip_marks(marks: &[u8], from: usize, least: u8, most: u8) -> usize
     ensures lower_bound { (from ≤ result) × (result ≤ length marks.now) }
     ensures value { result ≡ end_at least most marks.now from }
 {
-    let mut i = from;
-    while i < marks.len() {
+    for i in from..marks.len() {
         let mark = marks[i];
         if mark < least {
             return i;
@@ -34,9 +33,8 @@ pub fn skip_marks(marks: &[u8], from: usize, least: u8, most: u8) -> usize
         if most < mark {
             return i;
         }
-        i += 1;
     }
-    i
+    marks.len()
 }
 
 // The sides of the preference that row `at` opens.
@@ -77,11 +75,9 @@ pub fn note_starts(marks: &[u8], at: usize, many: usize, starts: &mut [usize])
     requires { (many ≤ length starts.old) × (many ≤ MAX_PREFERENCES) }
     ensures { take many starts.new ≡ starts_from marks.now at many }
 {
-    let mut c = 0;
     let mut j = at;
-    while c < many {
+    for c in 0..many {
         starts[c] = j;
         j = after_preference(marks, j);
-        c += 1;
     }
 }

@@ -14,6 +14,8 @@ use Rattle.task.specs.File.{paired}
 use Rattle.task.specs.Rows.{value_at, between, run, run_at}
 use Rattle.lists.proofs.Tests.{both_true, not_both}
 use Rattle.task.proofs.Reading.{row_at, goes_on, stops_at, ends_at}
+use Rattle.layout.specs.Sides.{end_at as skipped}
+use Rattle.layout.proofs.Ends.{any_values}
 use Rattle.reading.specs.Conditions.{in_condition, Reading, reading, read_row, finish, evaluate_at, end_at, false_mark}
 
 -- Marks
@@ -195,14 +197,7 @@ module _ (s : Facts) where
       let k : suc (n + (i - at)) ≡ n + (i + 1 - at) = omega arith in
       e ∙ looks_on ms vs i (n + (i - at)) h q ∙ ap (λ (j : ℕ). evaluate_at s (reading true false j) ms vs (i + 1)) k
 
--- The row after a condition
-
-module _ (ms vs : List ℕ) (i : ℕ) where
-  pub end_on : i < length ms → in_condition (get_or ms i 0) ≡ true → end_at ms vs (i + 1) ≡ end_at ms vs i
-  end_on h e = sym (goes_on still in_condition here tt ms vs i h e)
-
-  pub end_here : i < length ms → in_condition (get_or ms i 0) ≡ false → end_at ms vs i ≡ i
-  end_here h e = stops_at still in_condition here tt ms vs i h e
-
-  pub end_past : length ms ≤ i → end_at ms vs i ≡ i
-  end_past h = ends_at still in_condition here tt ms vs i h
+-- The row after a condition: the values play no part
+pub ended : (ms vs : List ℕ) (i : ℕ) → skipped CLAUSE LACKS ms i ≡ end_at ms vs i
+unfolding run_at run
+ended ms vs i = any_values in_condition i i ms [] vs

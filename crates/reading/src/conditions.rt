@@ -1,11 +1,12 @@
 // Conditions, read from their rows.
-ghost use Rattle.std.specs.Prelude.{◌≡◌, List, ℕ, ◌+◌, ◌≤◌, length};
+ghost use Rattle.std.specs.Prelude.{◌≡◌, ◌+◌, ◌≤◌, length};
 ghost use Rattle.task.specs.Rows.{Rows};
 ghost use Rattle.state.specs.Member.{member};
 ghost use Rattle.task.specs.Marks.{HOLDS, LACKS};
 ghost use Rattle.task.specs.Rows.{between};
-ghost use Rattle.reading.specs.Conditions.{false_mark, PastFalse, end_at, begin, evaluate_at};
+ghost use Rattle.reading.specs.Conditions.{false_mark, PastFalse, begin, evaluate_at};
 
+use layout::sides;
 use state::State;
 use task::{marks, rows};
 
@@ -34,36 +35,18 @@ fn past_false(marks: &[u8], values: &[u8], at: usize, low: u64, high: u64) -> us
     ensures lower_bound { (at ≤ result) × (result ≤ length marks.now) }
     ensures past_false { PastFalse (member (record { low = low; high = high })) marks.now values.now at result }
 {
-    let mut i = at;
-    while i < marks.len() {
+    for i in at..marks.len() {
         if marks[i] != false_mark(low, high, rows::value_at(values, i)) {
             return i;
         }
-        i += 1;
     }
-    i
+    marks.len()
 }
 
 fn is_literal(mark: u8) -> bool
     ensures { result ≡ between HOLDS LACKS mark }
 {
     (marks::HOLDS <= mark) & (mark <= marks::LACKS)
-}
-
-// The first row from `at` on that is not of a condition.
-fn skip_condition(marks: &[u8], at: usize) -> usize
-    requires { at ≤ length marks.now }
-    ensures { (at ≤ result) × ((vs : List ℕ) → result ≡ end_at marks.now vs at) }
-{
-    let mut i = at;
-    while i < marks.len() {
-        let mark = marks[i];
-        if !((marks::CLAUSE <= mark) & (mark <= marks::LACKS)) {
-            return i;
-        }
-        i += 1;
-    }
-    i
 }
 
 fn outcome(holds: bool, looked: usize, next: usize) -> Evaluated
@@ -96,7 +79,11 @@ pub fn condition(marks: &[u8], values: &[u8], at: usize, s: State) -> Evaluated
                 return outcome(false, n, k);
             }
             if !is_literal(marks[k]) {
-                return outcome(false, n, skip_condition(marks, k));
+                return outcome(
+                    false,
+                    n,
+                    sides::skip_marks(marks, k, marks::CLAUSE, marks::LACKS),
+                );
             }
             looked = n + 1;
             i = k + 1;

@@ -47,15 +47,16 @@ fn mark_all(marks: &[u8], values: &[u8], at: usize, mark: u8, fires: bool, t: St
     ensures at_le_next { (at ≤ result.next) × (result.next ≤ length marks.now) }
 {
     let mut f = t;
-    let mut i = at;
-    while i < marks.len() {
+    for i in at..marks.len() {
         if marks[i] != mark {
             return Applied { state: f, next: i };
         }
         f = with_if(fires, f, rows::value_at(values, i));
-        i += 1;
     }
-    Applied { state: f, next: i }
+    Applied {
+        state: f,
+        next: marks.len(),
+    }
 }
 
 // One effect more: the one that row i opens.

@@ -14,13 +14,14 @@ pub fn opening(marks: &[u8], values: &[u8]) -> Applied
     ensures { result_of result ≡ open_at empty marks.now values.now 0 }
 {
     let mut s = state::none();
-    let mut i = 0;
-    while i < marks.len() {
+    for i in 0..marks.len() {
         if marks[i] != marks::START {
             return Applied { state: s, next: i };
         }
         s = state::with(s, rows::value_at(values, i));
-        i += 1;
     }
-    Applied { state: s, next: i }
+    Applied {
+        state: s,
+        next: marks.len(),
+    }
 }

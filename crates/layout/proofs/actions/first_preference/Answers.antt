@@ -1,6 +1,7 @@
 use borrow.Author.Rules.{rules}
-use mathlib.Core.Path.{sym, ◌∙◌}
-use Prim.Native.Nat.{◌-◌}
+use mathlib.Core.Path.{◌≡◌, sym, ◌∙◌}
+use native.Mathlib.Omega.{arith}
+use lib.ListN.{length}
 use native.Mathlib.Nat.{zero-add}
 use Rattle.task.specs.File.{opens_preference}
 use Rattle.layout.proofs.Seeking.{take_until_here, take_until_on, take_until_end}
@@ -27,4 +28,6 @@ loop-i-preserved c = (
 
 pub returns : goal.returns
 returns c =
-    (sym (take_until_end opens_preference c.args.marks.now c.loop-i.i (search rules)) ∙ c.loop-i.invariant.1, search rules)
+    let ms = c.args.marks.now in
+    let at_end : length ms ≡ c.loop-i.i = omega arith in
+    (at_end ∙ sym (take_until_end opens_preference ms c.loop-i.i (search rules)) ∙ c.loop-i.invariant.1, search rules)

@@ -1,6 +1,5 @@
 use borrow.Author.Rules.{rules}
 use mathlib.Core.Path.{refl}
-use Prim.Native.Nat.{◌-◌}
 use Rattle.layout.proofs.Noting.{fits, noted_on, passed_on, all_noted}
 use Rattle.layout.proofs.actions.note_actions.Goals as goal
 use Rattle.layout.proofs.actions.note_actions.Goals.{then-marks-i-eq-ACTION, else-marks-i-eq-ACTION}

@@ -1,11 +1,6 @@
 -- Entry k is the row of action k: one row more is the law of `Noting`.
-use Prim.Native.Nat.{◌-◌}
-use lib.ListN.{length}
 use Rattle.layout.proofs.Noting.{Noting}
 use Rattle.layout.proofs.actions.note_actions.Given as goal
 
 abbrev pub invariant-loop-i : goal.invariant-loop-i
 invariant-loop-i l = Noting l.marks l.initial.starts l.starts l.c l.i
-
-abbrev pub decreases-loop-i : goal.decreases-loop-i
-decreases-loop-i l = length l.marks - l.i

@@ -1,6 +1,5 @@
 use borrow.Author.Rules.{rules}
 use mathlib.Core.Path.{refl, ◌∙◌}
-use Prim.Native.Nat.{◌-◌}
 use lib.ListN.{length-set}
 use Rattle.layout.proofs.Starting.{none_noted, noted_on, noted_all}
 use Rattle.layout.proofs.sides.note_starts.Goals as goal

@@ -1,6 +1,7 @@
 use borrow.Author.Rules.{rules}
-use mathlib.Core.Path.{refl, sym, ◌∙◌}
-use Prim.Native.Nat.{◌-◌}
+use mathlib.Core.Path.{◌≡◌, refl, sym, ◌∙◌}
+use native.Mathlib.Omega.{arith}
+use lib.ListN.{length}
 use Rattle.layout.proofs.Ends.{end_below, end_above, end_on, end_past}
 use Rattle.layout.proofs.sides.skip_marks.Goals as goal
 
@@ -31,7 +32,8 @@ loop-i-preserved c =
 
 pub returns : goal.returns
 returns c =
-    let a = c.args in record {
+    let a = c.args in
+    let at_end : length a.marks.now ≡ c.loop-i.i = omega arith in record {
       lower_bound = (search rules, search rules);
-      value = sym (end_past a.least a.most a.marks.now c.loop-i.i (search rules)) ∙ c.loop-i.invariant.2;
+      value = at_end ∙ sym (end_past a.least a.most a.marks.now c.loop-i.i (search rules)) ∙ c.loop-i.invariant.2;
     }

@@ -6,7 +6,7 @@ use native.Mathlib.Omega.{arith}
 use borrow.Author.Tests.{not-true, not-false}
 use Rattle.state.specs.Member.{member}
 use Rattle.reading.specs.Conditions.{reading, begin, evaluate_at}
-use Rattle.reading.proofs.Reader.{finds, gives_up, gives_up_last, opens, passes_by, is_read, is_read_last}
+use Rattle.reading.proofs.Reader.{finds, gives_up, gives_up_last, opens, passes_by, is_read, is_read_last, ended}
 use Rattle.reading.proofs.conditions.condition.Goals as goal
 use Rattle.reading.proofs.conditions.condition.Goals.{After-past_false-k}
 
@@ -37,7 +37,7 @@ returns-then-not-is_literal c =
     let a = c.args in
     let n : ℕ = c.loop-i.looked + (c.past_false-k.result - (c.loop-i.i + 1)) in record {
       value = c.outcome-then-not-is_literal.ensures.0
-          ∙ ap (λ (j : ℕ). record { holds = false; looked = n; next = j }) (c.skip_condition.ensures.1 a.values.now)
+          ∙ ap (λ (j : ℕ). record { holds = false; looked = n; next = j }) (c.skip_marks.ensures.value ∙ ended a.marks.now a.values.now c.past_false-k.result)
           ∙ sym (gives_up (member a.s) a.marks.now a.values.now c.past_false-k.result n (search rules)
           (sym c.is_literal.ensures ∙ not-true _ c.if-not-is_literal.true-raw))
           ∙ opened (goal.at.returns-then-not-is_literal c).After-past_false-k;

@@ -1,7 +1,6 @@
 use borrow.Author.Rules.{rules}
-use mathlib.Core.Path.{sym, ◌∙◌}
-use mathlib.Core.Bool.{true, false}
-use Prim.Native.Nat.{◌-◌}
+use mathlib.Core.Path.{◌≡◌, sym, ◌∙◌}
+use lib.ListN.{length}
 use native.Mathlib.Omega.{arith}
 use Rattle.state.specs.Member.{member}
 use Rattle.reading.proofs.Reader.{none_past, one_past}
@@ -31,7 +30,8 @@ loop-i-preserved c =
     )
 
 pub returns : goal.returns
-returns c = record {
-  lower_bound = (search rules, search rules);
-  past_false = record { looks = c.loop-i.invariant.2; stops = λ h e. absurd (omega (arith, c.loop-i-test)) };
-}
+returns c =
+    let at_end : length c.args.marks.now ≡ c.loop-i.i = omega arith in record {
+      lower_bound = (search rules, search rules);
+      past_false = record { looks = rw at_end c.loop-i.invariant.2; stops = λ h e. absurd (omega (arith, h)) };
+    }

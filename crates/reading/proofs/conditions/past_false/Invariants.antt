@@ -13,6 +13,3 @@ invariant-loop-i l =
     × ((n : ℕ)
     → evaluate_at (member (record { low = l.low; high = l.high })) (reading true false n) l.marks l.values l.at
     ≡ evaluate_at (member (record { low = l.low; high = l.high })) (reading true false (n + (l.i - l.at))) l.marks l.values l.i)
-
-abbrev pub decreases-loop-i : goal.decreases-loop-i
-decreases-loop-i l = length l.marks - l.i

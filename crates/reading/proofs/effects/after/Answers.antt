@@ -1,6 +1,5 @@
 use borrow.Author.Rules.{rules}
 use mathlib.Core.Path.{refl}
-use Prim.Native.Nat.{◌-◌}
 use Rattle.state.specs.Member.{member}
 use Rattle.reading.proofs.EffectRows.{begins, its_effect, goes_on, stops, ends}
 use Rattle.reading.proofs.effects.after.Goals as goal

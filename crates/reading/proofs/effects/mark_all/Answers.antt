@@ -1,6 +1,8 @@
 use borrow.Author.Rules.{rules}
-use mathlib.Core.Path.{refl, sym, ap, ◌∙◌}
-use Prim.Native.Nat.{ℕ, ◌+◌, ◌-◌}
+use mathlib.Core.Path.{◌≡◌, refl, sym, ap, ◌∙◌}
+use Prim.Native.Nat.{ℕ, ◌+◌}
+use native.Mathlib.Omega.{arith}
+use lib.ListN.{length}
 use borrow.Author.Tests.{eq-eqb, ne_eqb}
 use lib.Dec.{eqb}
 use Rattle.meaning.specs.Meaning.{State as Facts}
@@ -35,8 +37,10 @@ loop-i-preserved c =
 
 pub returns : goal.returns
 returns c =
-    let a = c.args in record {
-      result_value = sym (ends_at (mark_row a.fires) (λ (n : ℕ). eqb n a.mark) ending (member c.loop-i.f) a.marks.now a.values.now c.loop-i.i (search rules))
+    let a = c.args in
+    let at_end : length a.marks.now ≡ c.loop-i.i = omega arith in record {
+      result_value = ap (ending (member c.loop-i.f)) at_end
+          ∙ sym (ends_at (mark_row a.fires) (λ (n : ℕ). eqb n a.mark) ending (member c.loop-i.f) a.marks.now a.values.now c.loop-i.i (search rules))
           ∙ c.loop-i.invariant.2;
       at_le_next = search rules;
     }

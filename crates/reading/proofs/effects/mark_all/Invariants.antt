@@ -1,6 +1,6 @@
 -- The loop marks row by row, by the laws of a row automaton (`Reading`).
 use mathlib.Core.Path.{◌≡◌}
-use Prim.Native.Nat.{◌-◌, ◌≤◌}
+use Prim.Native.Nat.{◌≤◌}
 use lib.ListN.{length}
 use Rattle.state.specs.Member.{member}
 use Rattle.reading.specs.Effects.{mark_at}
@@ -9,6 +9,3 @@ use Rattle.reading.proofs.effects.mark_all.Given as goal
 abbrev pub invariant-loop-i : goal.invariant-loop-i
 invariant-loop-i l =
     (l.at ≤ l.i) × (l.i ≤ length l.marks) × (mark_at l.mark l.fires (member l.f) l.marks l.values l.i ≡ mark_at l.mark l.fires (member l.initial.f) l.marks l.values l.at)
-
-abbrev pub decreases-loop-i : goal.decreases-loop-i
-decreases-loop-i l = length l.marks - l.i

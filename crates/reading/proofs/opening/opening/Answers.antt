@@ -1,8 +1,9 @@
 use borrow.Author.Rules.{rules}
 use borrow.Author.Tests.{eq-eqb, ne_eqb}
-use mathlib.Core.Path.{sym, ap, ◌∙◌}
-use Prim.Native.Nat.{◌+◌, ◌-◌}
-use lib.ListN.{get_or}
+use mathlib.Core.Path.{◌≡◌, sym, ap, ◌∙◌}
+use Prim.Native.Nat.{◌+◌}
+use native.Mathlib.Omega.{arith}
+use lib.ListN.{length, get_or}
 use Rattle.task.specs.Marks.{START}
 use Rattle.meaning.specs.Meaning.{State as Facts}
 use Rattle.task.proofs.Reading.{goes_on, stops_at, ends_at}
@@ -32,5 +33,7 @@ loop-i-preserved c =
 pub returns : goal.returns
 returns c =
     let a = c.args in
-    sym (ends_at open_row is_start opened (member c.loop-i.s) a.marks.now a.values.now c.loop-i.i (search rules))
+    let at_end : length a.marks.now ≡ c.loop-i.i = omega arith in
+    ap (opened (member c.loop-i.s)) at_end
+    ∙ sym (ends_at open_row is_start opened (member c.loop-i.s) a.marks.now a.values.now c.loop-i.i (search rules))
     ∙ c.loop-i.invariant

@@ -1,13 +1,8 @@
 -- The START rows are read one by one, by the laws of a row automaton (`Reading`).
 use mathlib.Core.Path.{◌≡◌}
-use Prim.Native.Nat.{◌-◌}
-use lib.ListN.{length}
 use Rattle.state.specs.Member.{member, empty}
 use Rattle.reading.specs.Opening.{open_at}
 use Rattle.reading.proofs.opening.opening.Given as goal
 
 abbrev pub invariant-loop-i : goal.invariant-loop-i
 invariant-loop-i l = open_at (member l.s) l.marks l.values l.i ≡ open_at empty l.marks l.values 0
-
-abbrev pub decreases-loop-i : goal.decreases-loop-i
-decreases-loop-i l = length l.marks - l.i
