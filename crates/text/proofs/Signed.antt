@@ -2,23 +2,22 @@
 use mathlib.Core.Path.{◌≡◌, refl, sym, ap, ◌∙◌, subst}
 use mathlib.Core.Bool.{Bool, true, false}
 use mathlib.Core.List.{◌++◌}
-use Prim.Native.Nat.{ℕ, suc, ◌-◌, ◌^◌, ◌<◌}
+use Prim.Native.Nat.{ℕ, ◌^◌, ◌<◌}
 use native.Mathlib.Omega.{arith}
 use lib.IntN.{ℤ, pos, negsuc, nat_abs}
 use lib.Signed.{lt_z}
 use borrow.Author.Tests.{le-ltb}
 use mir.Syntax.{w64}
 use mir.Val.{SFits, of_z, to_z}
-use mir.ValLaws.{to_z_pos, to_z-of_z}
+use mir.ValLaws.{to_z-of_z}
 use Rattle.text.specs.Ascii.{ascii}
 use Rattle.text.specs.Text.{decimal, integer}
 
--- z is -(n + 1), and its bits flipped are n
+-- z is -(n + 1)
 pub record Below (z : ℤ) : Type 0 where
   pub n : ℕ
   pub small : n < 2 ^ 63
   pub is : z ≡ negsuc n
-  pub flipped : to_z w64 ((2 ^ 64 - 1) - of_z w64 z) ≡ pos n
 
 pub record NotBelow (z : ℤ) : Type 0 where
   pub n : ℕ
@@ -32,10 +31,7 @@ Sign false z = NotBelow z
 
 sign : (z : ℤ) → SFits w64 z → Sign (lt_z z (pos 0)) z
 sign (pos n) f = rw (le-ltb n 0 (omega arith)) (record { n = n; small = f.sfits; is = refl })
-sign (negsuc n) f =
-    let h : n < 2 ^ 63 = f.sfits in
-    let e : (2 ^ 64 - 1) - (2 ^ 64 - suc n) ≡ n = omega arith in
-    record { n = n; small = h; is = refl; flipped = rw e (to_z_pos w64 n h) }
+sign (negsuc n) f = record { n = n; small = f.sfits; is = refl }
 
 module _ (z : ℤ) (f : SFits w64 z) where
   pub below : lt_z (to_z w64 (of_z w64 z)) (pos 0) ≡ true → Below z

@@ -6,8 +6,8 @@ ghost use Rattle.std.specs.Prelude.{◌≡◌, [], ◌∷◌, ◌++◌, ◌+◌,
 ghost use Rattle.text.specs.Text.{decimal, integer, refused_line};
 ghost use Rattle.text.specs.Area.{Wrote, written};
 
-// The first n bytes of an area, or all where it has no more. Unlike `&area[..n]` it asks the caller for no proof.
-pub fn front(area: &[u8], n: usize) -> &[u8]
+// The first n elements of an area, or all where it has no more. Unlike `&area[..n]` it asks the caller for no proof.
+pub fn front<T>(area: &[T], n: usize) -> &[T]
     ensures { result.now ≡ take n area.now }
 {
     if n <= area.len() { &area[..n] } else { area }
@@ -24,18 +24,6 @@ pub fn put_byte(out: &mut [u8], at: usize, byte: u8) -> usize
     at + 1
 }
 
-// Copies a word, for which there is room.
-fn copy_bytes(out: &mut [u8], at: usize, word: &[u8])
-    requires { at + length word.now ≤ length out.old }
-    ensures { out.new ≡ written word.now at out.old }
-{
-    let mut i = 0;
-    while i < word.len() {
-        out[at + i] = word[i];
-        i += 1;
-    }
-}
-
 // Writes the bytes of a word one by one, those that fit. It goes through the whole word: in a caller whose word is written out
 // the turns are then known, and the compiler needs no copy of the word in memory.
 fn put_each(out: &mut [u8], at: usize, word: &[u8]) -> usize
@@ -43,10 +31,8 @@ fn put_each(out: &mut [u8], at: usize, word: &[u8]) -> usize
     ensures { Wrote out.old at word.now result out.new }
 {
     let mut k = at;
-    let mut i = 0;
-    while i < word.len() {
-        k = put_byte(&mut *out, k, word[i]);
-        i += 1;
+    for byte in word {
+        k = put_byte(&mut *out, k, *byte);
     }
     k
 }
@@ -58,7 +44,7 @@ pub fn put_bytes(out: &mut [u8], at: usize, word: &[u8]) -> usize
 {
     let end = at + word.len();
     if end <= out.len() {
-        copy_bytes(&mut *out, at, word);
+        out[at..end].copy_from_slice(word);
         return end;
     }
     put_each(out, at, word)
@@ -118,13 +104,6 @@ pub fn put_decimal(out: &mut [u8], at: usize, n: u64) -> usize
     }
 }
 
-// How far a number is from 0. Below 0 that is one more than the number with its bits flipped.
-fn magnitude(n: i64) -> u64
-    ensures { result ≡ nat_abs n }
-{
-    if n < 0 { (!n) as u64 + 1 } else { n as u64 }
-}
-
 // Writes a number, with a minus sign where it is below 0.
 pub fn put_integer(out: &mut [u8], at: usize, n: i64) -> usize
     requires { at + 21 < 2 ^ 64 }
@@ -133,9 +112,9 @@ pub fn put_integer(out: &mut [u8], at: usize, n: i64) -> usize
 {
     if n < 0 {
         let a = put_byte(&mut *out, at, b'-');
-        put_decimal(out, a, magnitude(n))
+        put_decimal(out, a, n.unsigned_abs())
     } else {
-        put_decimal(out, at, magnitude(n))
+        put_decimal(out, at, n.unsigned_abs())
     }
 }
 

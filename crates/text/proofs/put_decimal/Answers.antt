@@ -15,12 +15,6 @@ small c =
     let a = c.args in
     ltb-true a.n 1000 (both_true (ltb a.n 1000) (leb (a.at + 3) (length a.out.now)) c.if-n-at.true).0
 
-pub overflow_cast-n : goal.overflow_cast-n
-overflow_cast-n c = let h = small (goal.at.overflow_cast-n c).Then-n-at in search rules
-
-pub put_three-requires : goal.put_three-requires
-put_three-requires c = let h = small (goal.at.put_three-requires c).Then-n-at in search rules
-
 pub returns-then-n-at : goal.returns-then-n-at
 returns-then-n-at c =
     let a = c.args in
