@@ -5,7 +5,7 @@ ghost use Rattle.std.specs.Prelude.{◌≡◌, List, [], ◌∷◌, ◌+◌, ◌
 ghost use Rattle.std.proofs.lemmas.List.Edits.{sets};
 ghost use Rattle.task.specs.Marks.{CLAUSE};
 ghost use Rattle.task.specs.TaskRows.{Row, row};
-ghost use Rattle.task.specs.File.{bytes16, bytes32};
+ghost use Rattle.task.specs.File.{bytes16};
 ghost use Rattle.task.specs.Rows.{Rows};
 ghost use Rattle.layout.specs.Sides.{part};
 ghost use Rattle.writer.specs.Writer.{row_after, put_row, put_rows, Room, Wrote, Standing, header, Earlier};
@@ -23,61 +23,24 @@ pub struct Cursor {
     pub next: usize,
 }
 
-// Writes a number's four bytes, the lowest first.
-fn put_u32(out: &mut [u8], k: usize, v: u32)
-    requires { k + 4 ≤ length out.old }
-    ensures { out.new ≡ sets out.old k (bytes32 v) }
-{
-    out[k] = (v % 256) as u8;
-    out[k + 1] = (v / 256 % 256) as u8;
-    out[k + 2] = (v / 65536 % 256) as u8;
-    out[k + 3] = (v / 16777216 % 256) as u8;
-}
-
 // Writes the next row, for which there is room.
 fn store_row(out: &mut [u8], c: Cursor, mark: u8, value: u32)
     requires { (c.next < c.rows) × Room c out.old }
     ensures { out.new ≡ put_row out.old c.rows c.next mark value }
 {
-    let i = c.next;
-    let at = 8 + i;
-    out[at] = mark;
-    let k = 8 + c.rows + 4 * i;
-    put_u32(&mut *out, k, value);
-}
-
-// The cursor after one row.
-fn advance(c: Cursor) -> Cursor
-    ensures { (result.rows ≡ c.rows) × (result.next ≡ row_after c.next 1) }
-{
-    let rows = c.rows;
-    if c.next < OVERFULL {
-        return Cursor {
-            rows,
-            next: c.next + 1,
-        };
-    }
-    c
+    out[8 + c.next] = mark;
+    let k = 8 + c.rows + 4 * c.next;
+    out[k..k + 4].copy_from_slice(&value.to_le_bytes());
 }
 
 // The cursor after so many rows, without going through them.
 pub fn advance_by(c: Cursor, many: usize) -> Cursor
     ensures { (result.rows ≡ c.rows) × (result.next ≡ row_after c.next many) }
 {
-    let rows = c.rows;
-    let next = c.next;
-    if OVERFULL <= next {
-        return c;
-    }
-    if OVERFULL - next <= many {
-        return Cursor {
-            rows,
-            next: OVERFULL,
-        };
-    }
+    let left = OVERFULL.saturating_sub(c.next);
     Cursor {
-        rows,
-        next: next + many,
+        rows: c.rows,
+        next: c.next + many.min(left),
     }
 }
 
@@ -87,31 +50,10 @@ pub fn put_row(out: &mut [u8], c: Cursor, mark: u8, value: u32) -> Cursor
     ensures { Wrote out.old c (row mark value ∷ []) result out.new }
 {
     if c.rows <= c.next {
-        return advance(c);
+        return advance_by(c, 1);
     }
     store_row(&mut *out, c, mark, value);
-    advance(c)
-}
-
-// How many of so many rows the file has room for.
-fn fitting(c: Cursor, many: usize) -> usize
-    requires { c.next < c.rows }
-    ensures { result ≡ min many (c.rows - c.next) }
-{
-    let left = c.rows - c.next;
-    if many <= left { many } else { left }
-}
-
-// Copies so many bytes, from byte `from` of the source to byte `at`.
-fn copy_bytes(out: &mut [u8], at: usize, source: &[u8], from: usize, many: usize)
-    requires { (at + many ≤ length out.old) × (from + many ≤ length source.now) }
-    ensures { out.new ≡ sets out.old at (take many (drop from source.now)) }
-{
-    let mut j = 0;
-    while j < many {
-        out[at + j] = source[from + j];
-        j += 1;
-    }
+    advance_by(c, 1)
 }
 
 // Writes rows of the source, for the first of which there is room.
@@ -121,11 +63,11 @@ fn store_rows(out: &mut [u8], c: Cursor, marks: &[u8], values: &[u8], s: Span)
 {
     let i = c.next;
     let from = s.from;
-    let many = fitting(c, s.to - from);
+    let many = usize::min(s.to - from, c.rows - i);
     let at = 8 + i;
-    copy_bytes(&mut *out, at, marks, from, many);
+    out[at..at + many].copy_from_slice(&marks[from..from + many]);
     let beside = 8 + c.rows + 4 * i;
-    copy_bytes(&mut *out, beside, values, 4 * from, 4 * many);
+    out[beside..beside + 4 * many].copy_from_slice(&values[4 * from..4 * (from + many)]);
 }
 
 // Copies rows of the source.
@@ -144,18 +86,6 @@ pub fn copy_rows(out: &mut [u8], c: Cursor, marks: &[u8], values: &[u8], s: Span
     advance_by(c, many)
 }
 
-// Copies so many bytes of the area itself, from byte `from` to byte `at`, which lies after them.
-fn repeat_bytes(out: &mut [u8], at: usize, from: usize, many: usize)
-    requires { (from + many ≤ at) × (at + many ≤ length out.old) }
-    ensures { out.new ≡ sets out.old at (take many (drop from out.old)) }
-{
-    let mut j = 0;
-    while j < many {
-        out[at + j] = out[from + j];
-        j += 1;
-    }
-}
-
 // Writes rows of the file once more, for the first of which there is room.
 fn store_again(out: &mut [u8], c: Cursor, s: Span)
     requires { (c.next < c.rows) × Room c out.old × Earlier c s }
@@ -163,10 +93,11 @@ fn store_again(out: &mut [u8], c: Cursor, s: Span)
 {
     let i = c.next;
     let from = s.from;
-    let many = fitting(c, s.to - from);
-    repeat_bytes(&mut *out, 8 + i, 8 + from, many);
+    let many = usize::min(s.to - from, c.rows - i);
+    let to = from + many;
     let values = 8 + c.rows;
-    repeat_bytes(&mut *out, values + 4 * i, values + 4 * from, 4 * many);
+    out.copy_within(8 + from..8 + to, 8 + i);
+    out.copy_within(values + 4 * from..values + 4 * to, values + 4 * i);
 }
 
 // Writes rows again that were written before.
@@ -196,8 +127,7 @@ fn put_size(out: &mut [u8], k: usize, v: u32)
     requires { k + 2 ≤ length out.old }
     ensures { out.new ≡ sets out.old k (bytes16 v) }
 {
-    out[k] = (v % 256) as u8;
-    out[k + 1] = (v / 256 % 256) as u8;
+    out[k..k + 2].copy_from_slice(&v.to_le_bytes()[..2]);
 }
 
 // Writes the sizes of a file.
