@@ -1,14 +1,16 @@
 -- A task file spelled, from what check answers.
 use mathlib.Core.Path.{◌≡◌, refl, sym, ap, ◌∙◌, subst}
+use mathlib.Core.Bool.{true}
 use mathlib.Core.List.{List}
 use Prim.Native.Nat.{ℕ, ◌+◌, ◌-◌, ◌≤◌}
 use native.Mathlib.Omega.{arith}
 use lib.ListN.{length, take, drop}
+use Rattle.lists.proofs.Tests.{as_true}
 use Rattle.task.specs.TaskRows.{Row, task_rows}
 use Rattle.task.specs.File
 use Rattle.task.specs.File.{paired, sizes_of, task_of, file_of_rows, with_rows}
 use Rattle.task.specs.Check
-use Rattle.task.specs.Check.{check}
+use Rattle.task.specs.Check.{check, sizes_allowed}
 use Rattle.task.specs.Answers.{answer as checked, as_sizes, refusal_in}
 use Rattle.task.specs.declared.Sizes.{Sizes}
 use Rattle.task.specs.declared.Refusal.{Refusal}
@@ -45,6 +47,9 @@ module _ (b area : List ℕ) (x : Checked) (e : checked x ≡ check b) where
 
     spelling : Spelling b (as_sizes z)
     spelling = accepted_spelling b (as_sizes z) accepted
+
+    pub allowed : sizes_allowed (as_sizes z) ≡ true
+    allowed = as_true (sizes_allowed (as_sizes z)) spelling.allowed
 
     sizes_limited : Limited b (as_sizes z)
     sizes_limited = limited b (as_sizes z) accepted

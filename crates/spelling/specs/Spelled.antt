@@ -25,13 +25,6 @@ spelled_from (inside a b s) (x ∷ xs) =
 unfoldable pub spelled_rows : List Row → List Row
 spelled_rows = spelled_from outside
 
--- rows up to which a small area of our own is enough for the spelling, and a medium one
-abbrev pub SMALL : ℕ
-SMALL = 64
-
-abbrev pub MEDIUM : ℕ
-MEDIUM = 1024
-
 -- rows of a file whose spelling is no longer than they are
 pub record Shorter (ms vs : List ℕ) : Type 0 where
   pub rows : Rows ms vs

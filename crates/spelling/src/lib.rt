@@ -25,15 +25,5 @@ pub fn spell(file: &[u8], out: &mut [u8]) -> Outcome
         return Outcome::Refused(task::refusal_of(c));
     };
     let middle = 8 + z.rows;
-    let facts = z.facts as u32;
-    let actions = z.actions as u32;
-    let preferences = z.preferences as u32;
-    whole::put_file(
-        &mut *out,
-        &file[8..middle],
-        &file[middle..],
-        facts,
-        actions,
-        preferences,
-    )
+    whole::put_file(out, &file[8..middle], &file[middle..], z)
 }

@@ -15,11 +15,18 @@ pub struct Gathered {
     pub next: usize,
 }
 
+// Whether a mark is one from a to b.
+fn in_run(mark: u8, a: u8, b: u8) -> bool
+    ensures { result ≡ between a b mark }
+{
+    (a <= mark) & (mark <= b)
+}
+
 // Whether rows of this mark stand in runs: literals, ADD rows and DELETE rows.
 pub fn is_listed(mark: u8) -> bool
     ensures { result ≡ is_listed mark }
 {
-    (marks::HOLDS <= mark) & (mark <= marks::DELETE)
+    in_run(mark, marks::HOLDS, marks::DELETE)
 }
 
 // The first mark of the run that a row of this mark is in.
@@ -42,12 +49,6 @@ pub fn second_mark(mark: u8) -> u8
     } else {
         mark
     }
-}
-
-fn in_run(mark: u8, a: u8, b: u8) -> bool
-    ensures { result ≡ between a b mark }
-{
-    (a <= mark) & (mark <= b)
 }
 
 // The word of a fact below 128: the first set has two words, then the second has two.
@@ -93,14 +94,12 @@ pub fn gather(marks: &[u8], values: &[u8], from: usize, a: u8, b: u8) -> Gathere
     ensures { as_run result ≡ gather_at a b none marks.now values.now from }
 {
     let mut words: [u64; 4] = [0; 4];
-    let mut i = from;
-    while i < marks.len() {
+    for i in from..marks.len() {
         let mark = marks[i];
         if !in_run(mark, a, b) {
             return run_of(&words, i);
         }
         take_in(&mut words, rows::value_at(values, i), mark == a);
-        i += 1;
     }
-    run_of(&words, i)
+    run_of(&words, usize::max(from, marks.len()))
 }

@@ -1,21 +1,24 @@
 // The whole spelling.
-ghost use Rattle.std.specs.Prelude.{◌+◌, ◌*◌, ◌≤◌, length};
+ghost use Rattle.std.specs.Prelude.{true, ◌≡◌, ◌+◌, ◌*◌, ◌≤◌, length};
 ghost use Rattle.task.specs.File.{paired, file_of_rows};
+ghost use Rattle.task.specs.Limits.{MAX_FILE};
+ghost use Rattle.task.specs.Check.{sizes_allowed};
+ghost use Rattle.task.specs.Answers.{as_sizes};
 ghost use Rattle.task.specs.Rows.{Rows};
 ghost use Rattle.writer.specs.Writer.{Room, Wrote};
-ghost use Rattle.spelling.specs.Spelled.{spelled_rows, Shorter, SMALL, MEDIUM};
+ghost use Rattle.spelling.specs.Spelled.{spelled_rows, Shorter};
 ghost use Rattle.spelling.specs.Outcome.{Fitted};
 
 use super::{rising, runs};
 use layout::sides::Span;
 use outcome::Outcome;
-use task::{limits, refused, rows};
+use task::{Sizes, limits, refused, rows};
 use writer::Cursor;
 
-// Rows up to which a small area of our own is enough, and a medium one: an area costs what it is long.
-const SMALL: usize = 64;
+// Areas of our own for up to 64 rows and for up to 1024: an area costs what it is long.
+const SMALL: usize = 8 + 5 * 64;
 
-const MEDIUM: usize = 1024;
+const MEDIUM: usize = 8 + 5 * 1024;
 
 // Writes the rows of the spelling: each run by rising fact, and every other row as it stands.
 fn put_task(out: &mut [u8], c: Cursor, marks: &[u8], values: &[u8]) -> Cursor
@@ -42,18 +45,10 @@ fn put_task(out: &mut [u8], c: Cursor, marks: &[u8], values: &[u8]) -> Cursor
 
 // Writes the file of the spelling, where it fits. Its rows are written into an area of our own first, since the values stand after all
 // marks, and how many there are is known at the end.
-fn put_through(
-    own: &mut [u8],
-    out: &mut [u8],
-    marks: &[u8],
-    values: &[u8],
-    facts: u32,
-    actions: u32,
-    preferences: u32,
-) -> Outcome
-    requires { Shorter marks.now values.now × (8 + 5 * length marks.now ≤ length own.old) }
+fn put_through(own: &mut [u8], out: &mut [u8], marks: &[u8], values: &[u8], z: Sizes) -> Outcome
+    requires { Shorter marks.now values.now × (sizes_allowed (as_sizes z) ≡ true) × (8 + 5 * length marks.now ≤ length own.old) }
     ensures { let rows = spelled_rows (paired marks.now values.now) in
-        Fitted (file_of_rows facts actions preferences rows) out.old result out.new }
+        Fitted (file_of_rows z.facts z.actions z.preferences rows) out.old result out.new }
 {
     let room = marks.len();
     let c = Cursor {
@@ -66,7 +61,13 @@ fn put_through(
     if out.len() < length {
         return outcome::refuse(refused::SHORT_OUTPUT, 0);
     }
-    writer::put_sizes(&mut *out, facts, actions, preferences, n as u32);
+    writer::put_sizes(
+        &mut *out,
+        z.facts as u32,
+        z.actions as u32,
+        z.preferences as u32,
+        n as u32,
+    );
     let first = Cursor { rows: n, next: 0 };
     let middle = 8 + room;
     let all = Span { from: 0, to: n };
@@ -74,99 +75,28 @@ fn put_through(
     Outcome::Written(length)
 }
 
-// Writes the file of a spelling of few rows.
-fn put_small(
-    out: &mut [u8],
-    marks: &[u8],
-    values: &[u8],
-    facts: u32,
-    actions: u32,
-    preferences: u32,
-) -> Outcome
-    requires { Shorter marks.now values.now × (length marks.now ≤ SMALL) }
+// Writes the file of the spelling with an area of our own of N bytes.
+fn put_by_area<const N: usize>(out: &mut [u8], marks: &[u8], values: &[u8], z: Sizes) -> Outcome
+    requires { Shorter marks.now values.now × (sizes_allowed (as_sizes z) ≡ true) × (8 + 5 * length marks.now ≤ N) × (N ≤ MAX_FILE) }
     ensures { let rows = spelled_rows (paired marks.now values.now) in
-        Fitted (file_of_rows facts actions preferences rows) out.old result out.new }
+        Fitted (file_of_rows z.facts z.actions z.preferences rows) out.old result out.new }
 {
-    let mut own: [u8; 8 + 5 * SMALL] = [0; 8 + 5 * SMALL];
-    put_through(
-        &mut own,
-        &mut *out,
-        marks,
-        values,
-        facts,
-        actions,
-        preferences,
-    )
-}
-
-// Writes the file of a spelling of some more.
-fn put_medium(
-    out: &mut [u8],
-    marks: &[u8],
-    values: &[u8],
-    facts: u32,
-    actions: u32,
-    preferences: u32,
-) -> Outcome
-    requires { Shorter marks.now values.now × (length marks.now ≤ MEDIUM) }
-    ensures { let rows = spelled_rows (paired marks.now values.now) in
-        Fitted (file_of_rows facts actions preferences rows) out.old result out.new }
-{
-    let mut own: [u8; 8 + 5 * MEDIUM] = [0; 8 + 5 * MEDIUM];
-    put_through(
-        &mut own,
-        &mut *out,
-        marks,
-        values,
-        facts,
-        actions,
-        preferences,
-    )
-}
-
-// Writes the file of any spelling.
-fn put_large(
-    out: &mut [u8],
-    marks: &[u8],
-    values: &[u8],
-    facts: u32,
-    actions: u32,
-    preferences: u32,
-) -> Outcome
-    requires { Shorter marks.now values.now }
-    ensures { let rows = spelled_rows (paired marks.now values.now) in
-        Fitted (file_of_rows facts actions preferences rows) out.old result out.new }
-{
-    let mut own: [u8; limits::MAX_FILE] = [0; limits::MAX_FILE];
-    put_through(
-        &mut own,
-        &mut *out,
-        marks,
-        values,
-        facts,
-        actions,
-        preferences,
-    )
+    let mut own = [0u8; N];
+    put_through(&mut own, out, marks, values, z)
 }
 
 // Writes the file of the spelling, where it fits.
-pub fn put_file(
-    out: &mut [u8],
-    marks: &[u8],
-    values: &[u8],
-    facts: u32,
-    actions: u32,
-    preferences: u32,
-) -> Outcome
-    requires { Shorter marks.now values.now }
+pub fn put_file(out: &mut [u8], marks: &[u8], values: &[u8], z: Sizes) -> Outcome
+    requires { Shorter marks.now values.now × (sizes_allowed (as_sizes z) ≡ true) }
     ensures { let rows = spelled_rows (paired marks.now values.now) in
-        Fitted (file_of_rows facts actions preferences rows) out.old result out.new }
+        Fitted (file_of_rows z.facts z.actions z.preferences rows) out.old result out.new }
 {
-    if marks.len() <= SMALL {
-        return put_small(&mut *out, marks, values, facts, actions, preferences);
+    let room = 8 + 5 * marks.len();
+    if room <= SMALL {
+        return put_by_area::<SMALL>(out, marks, values, z);
     }
-    if marks.len() <= MEDIUM {
-        return put_medium(&mut *out, marks, values, facts, actions, preferences);
+    if room <= MEDIUM {
+        return put_by_area::<MEDIUM>(out, marks, values, z);
     }
-    put_large(&mut *out, marks, values, facts, actions, preferences)
+    put_by_area::<{ limits::MAX_FILE }>(out, marks, values, z)
 }

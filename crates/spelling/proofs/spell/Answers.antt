@@ -3,7 +3,7 @@ use native.Mathlib.Omega.{arith}
 use lib.ListN.{length-take, length-drop}
 use Rattle.task.specs.Answers.{as_sizes}
 use Rattle.task.proofs.Answered.{Limited, answered}
-use Rattle.spelling.proofs.Answering.{turned_down, fewer, put}
+use Rattle.spelling.proofs.Answering.{turned_down, allowed, fewer, put}
 use borrow.Author.Rules.{rules}
 use Rattle.spelling.proofs.spell.Goals as goal
 use Rattle.spelling.proofs.spell.Goals.{In-Accepted}
@@ -23,15 +23,6 @@ returns-in_default c =
 pub overflow_add-middle : goal.overflow_add-middle
 overflow_add-middle c = let h = parts (goal.at.overflow_add-middle c).In-Accepted in search rules
 
-pub overflow_cast-facts : goal.overflow_cast-facts
-overflow_cast-facts c = let h = parts (goal.at.overflow_cast-facts c).In-Accepted in search rules
-
-pub overflow_cast-actions : goal.overflow_cast-actions
-overflow_cast-actions c = let h = parts (goal.at.overflow_cast-actions c).In-Accepted in search rules
-
-pub overflow_cast-preferences : goal.overflow_cast-preferences
-overflow_cast-preferences c = let h = parts (goal.at.overflow_cast-preferences c).In-Accepted in search rules
-
 pub slice_bounds-put_file-end : goal.slice_bounds-put_file-end
 slice_bounds-put_file-end c = let h = parts (goal.at.slice_bounds-put_file-end c).In-Accepted in search rules
 
@@ -45,11 +36,13 @@ slice_bounds-put_file-start-2 c = let h = parts (goal.at.slice_bounds-put_file-s
 pub put_file-requires : goal.put_file-requires
 put_file-requires c =
     let a = c.args in
-    let h = parts (goal.at.put_file-requires c).In-Accepted in
-    record {
-      rows = record { few = simp (length-take, length-drop) (omega arith); values = simp (length-take, length-drop) (omega arith) };
-      fewer = simp (length-take, length-drop) (omega (arith, fewer a.file.now a.out.now c.check-c.result c.check-c.ensures c.in-Accepted.z c.in-Accepted.is));
-    }
+    let h = parts (goal.at.put_file-requires c).In-Accepted in (
+      record {
+        rows = record { few = simp (length-take, length-drop) (omega arith); values = simp (length-take, length-drop) (omega arith) };
+        fewer = simp (length-take, length-drop) (omega (arith, fewer a.file.now a.out.now c.check-c.result c.check-c.ensures c.in-Accepted.z c.in-Accepted.is));
+      },
+      allowed a.file.now a.out.now c.check-c.result c.check-c.ensures c.in-Accepted.z c.in-Accepted.is,
+    )
 
 pub returns : goal.returns
 returns c =

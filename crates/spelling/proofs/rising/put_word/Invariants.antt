@@ -1,5 +1,4 @@
 -- The rows at the bits that are left make up all of them, the lowest bit's first (`RisingRows`).
-use Prim.Native.Nat.{◌-◌}
 use Rattle.spelling.proofs.RisingRows.{left, WritingWord}
 use Rattle.spelling.proofs.rising.put_word.Given as goal
 

@@ -1,7 +1,7 @@
 use borrow.Author.Rules.{rules}
 use borrow.Author.Tests.{not-true, not-false}
-use mathlib.Core.Path.{sym, ap, ◌∙◌}
-use Prim.Native.Nat.{◌+◌, ◌-◌}
+use mathlib.Core.Path.{◌≡◌, sym, ap, ◌∙◌}
+use Prim.Native.Nat.{◌+◌}
 use lib.Dec.{eqb}
 use lib.ListN.{get_or}
 use Rattle.task.specs.Rows.{between}
@@ -13,7 +13,7 @@ use Rattle.spelling.proofs.runs.gather.Goals as goal
 pub loop-i-init : goal.loop-i-init
 loop-i-init c =
     let a = c.args in
-    (λ i. gather_at a.a a.b (record { first = no_facts i; second = no_facts i }) a.marks.now a.values.now a.from, search rules)
+    (λ i. gather_at a.a a.b (record { first = no_facts i; second = no_facts i }) a.marks.now a.values.now a.from, search rules, search rules)
 
 pub returns-then-not-in_run : goal.returns-then-not-in_run
 returns-then-not-in_run c =
@@ -36,11 +36,14 @@ loop-i-preserved c =
           (search rules) (sym c.in_run.ensures ∙ not-false c.in_run.result c.if-not-in_run.false-raw))
           ∙ c.loop-i.invariant.0,
       c.take_in.auto.words ∙ c.loop-i.invariant.1,
+      search rules,
     )
 
 pub returns : goal.returns
 returns c =
     let a = c.args in
+    let e : c.max.result ≡ c.loop-i.i = search rules in
     c.run_of-2.ensures
+    ∙ ap (ended (sets_in c.loop-i.words)) e
     ∙ sym (ends_at (take_in a.a) (between a.a a.b) ended (sets_in c.loop-i.words) a.marks.now a.values.now c.loop-i.i (search rules))
     ∙ c.loop-i.invariant.0

@@ -5,6 +5,9 @@ use native.Mathlib.Omega.{arith}
 use lib.ListN.{length}
 use Rattle.outcome.specs.declared.Outcome.TheVariants.{Written}
 use Rattle.task.specs.File.{paired}
+use Rattle.task.specs.Answers.{as_sizes}
+use Rattle.task.proofs.Checking.{within}
+use Rattle.lists.proofs.Tests.{as_t}
 use Rattle.spelling.specs.Spelled.{spelled_rows}
 use Rattle.spelling.proofs.Fitting.{no_room, put}
 use Rattle.spelling.proofs.Through.{through}
@@ -15,10 +18,18 @@ use Rattle.spelling.proofs.whole.put_through.Goals.{After-put_task-k}
 few : (c : After-put_task-k) → let a = c.args in length (spelled_rows (paired a.marks.now a.values.now)) ≤ 12000
 few c = let s = c.requires.0 in omega (arith, s.fewer, s.rows.few)
 
+sizes : (c : After-put_task-k) → let z = c.args.z in (z.facts ≤ 128) × (z.actions ≤ 128) × (z.preferences ≤ 16)
+sizes c =
+    let w = within (as_sizes c.args.z) (as_t c.requires.1) in
+    (w.2, w.3, w.4)
+
+pub overflow_cast-z : goal.overflow_cast-z
+overflow_cast-z c = let h = sizes (goal.at.overflow_cast-z c).After-put_task-k in search rules
+
 pub returns-then-out-length : goal.returns-then-out-length
 returns-then-out-length c =
     let a = c.args in
-    no_room a.facts a.actions a.preferences (spelled_rows (paired a.marks.now a.values.now)) a.out.now c.put_task-k.result.next
+    no_room a.z.facts a.z.actions a.z.preferences (spelled_rows (paired a.marks.now a.values.now)) a.out.now c.put_task-k.result.next
     c.put_task-k.ensures.next (few (goal.at.returns-then-out-length c).After-put_task-k) c.refuse.result c.refuse.ensures (search rules)
 
 pub returns : goal.returns
@@ -28,8 +39,8 @@ returns c =
     let n = c.put_task-k.result.next in
     let all : n ≡ length xs = omega (arith, c.put_task-k.ensures.next, few (goal.at.returns c).After-put_task-k) in
     let rows =
-    through a.own.now c.put_task-k.new.out (length a.marks.now) xs n all c.requires.0.fewer c.requires.0.rows.few c.requires.1 c.put_task-k.ensures.file
+    through a.own.now c.put_task-k.new.out (length a.marks.now) xs n all c.requires.0.fewer c.requires.0.rows.few c.requires.2 c.put_task-k.ensures.file
     c.put_sizes.new.out c.copy_rows.new.out (record { rows = n; next = 0 }) c.copy_rows.result refl refl
     (λ i. omega (arith, c.slice_known-3-1.given i)) c.copy_rows.ensures in
-    put a.facts a.actions a.preferences xs a.out.now n c.put_task-k.ensures.next (few (goal.at.returns c).After-put_task-k) c.put_sizes.new.out c.copy_rows.new.out
+    put a.z.facts a.z.actions a.z.preferences xs a.out.now n c.put_task-k.ensures.next (few (goal.at.returns c).After-put_task-k) c.put_sizes.new.out c.copy_rows.new.out
     c.copy_rows.result (search rules) c.put_sizes.ensures rows (Written (8 + 5 * n)) refl
