@@ -1,9 +1,10 @@
 use borrow.Author.Rules.{rules}
-use mathlib.Core.Path.{refl, sym, ◌∙◌}
+use mathlib.Core.Path.{◌≡◌, refl, sym, ◌∙◌}
 use mathlib.Core.Bool.{◌&&◌}
 use Prim.Native.Nat.{◌-◌}
 use lib.Dec.{T}
-use lib.ListN.{get_or}
+use lib.ListN.{get_or, length}
+use native.Mathlib.Omega.{arith}
 use borrow.Author.Tests.{not-false}
 use Rattle.lists.proofs.Tests.{as_t}
 use Rattle.task.specs.Marks.{EFFECT, DELETE}
@@ -58,7 +59,10 @@ loop-i-preserved c =
     }
 
 pub returns : goal.returns
-returns c = let k = c.loop-i.invariant in record {
-  w_value = k.same;
-  context_bound = (k.numbered_below, k.begun, k.rows_left);
-}
+returns c =
+    let k = c.loop-i.invariant in
+    let e : c.loop-i.i ≡ length c.args.marks.now = omega arith in
+    record {
+      w_value = rw (← e) k.same;
+      context_bound = (k.numbered_below, search rules, omega arith);
+    }

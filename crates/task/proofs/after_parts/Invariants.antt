@@ -6,6 +6,3 @@ use Rattle.task.proofs.after_parts.Given as goal
 
 abbrev pub invariant-loop-i : goal.invariant-loop-i
 invariant-loop-i l = Kept l.z l.marks l.values l.w l.from l.i l.context
-
-abbrev pub decreases-loop-i : goal.decreases-loop-i
-decreases-loop-i l = length l.marks - l.i
