@@ -11,7 +11,6 @@ use borrow.Author.Tests.{eq-eqb, ne_eqb}
 use Rattle.lists.proofs.Tests.{tests, as_true, as_false, not_both}
 use Rattle.task.specs.Marks.{ACTION, EFFECT, DELETE, START}
 use Rattle.task.specs.TaskRows.{row}
-use Rattle.task.specs.File
 use Rattle.task.specs.File.{paired}
 use Rattle.task.specs.Check
 use Rattle.task.specs.Check.{Context, refused, follow, value_allowed, next_progress, first_progress, finish, check_rows}

@@ -1,6 +1,4 @@
 -- The walk from row i on answers as that from row `from` on: Kept of CheckSteps, which each plain row keeps by one_part.
-use Prim.Native.Nat.{◌-◌}
-use lib.ListN.{length}
 use Rattle.task.proofs.CheckSteps.{Kept}
 use Rattle.task.proofs.after_parts.Given as goal
 
