@@ -76,10 +76,8 @@ pub fn find(marks: &[u8], at: usize, ms: &[u8]) -> Found
         kept: 0,
         met: state::none(),
     };
-    let mut i = at;
-    while i < marks.len() {
+    for i in at..marks.len() {
         f = find_row(f, marks[i], ms);
-        i += 1;
     }
     f
 }

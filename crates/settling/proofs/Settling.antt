@@ -2,6 +2,7 @@
 use mathlib.Core.Path.{◌≡◌, refl, sym, ap, ◌∙◌}
 use mathlib.Core.Bool.{Bool, true, false, not, ◌&&◌, ◌||◌}
 use mathlib.Core.List.{List}
+use Rattle.std.specs.Prelude.{Result, Err}
 use Prim.Native.Nat.{ℕ, zero, suc, ◌+◌, ◌-◌, ◌/◌, ◌%◌, ◌^◌, ◌≤◌, ◌<◌}
 use native.Mathlib.Nat.{add-zero, div-eq_of_lt, div-div-eq-div-mul, pow-suc}
 use native.Mathlib.Numerals.{add-one}
@@ -15,11 +16,9 @@ use Rattle.task.specs.File.{task_of}
 use Rattle.task.specs.Check
 use Rattle.task.specs.Check.{check}
 use Rattle.task.specs.Limits.{MAX_COST}
-use Rattle.task.specs.Answers.{answer as checked, as_sizes, refusal_in}
+use Rattle.task.specs.Answers.{number_of, answer as checked, as_sizes}
 use Rattle.task.specs.declared.Sizes.{Sizes}
 use Rattle.task.specs.declared.Refusal.{Refusal}
-use Rattle.task.specs.declared.Checked.{Checked}
-use Rattle.task.specs.declared.Checked.TheVariants.{Refused}
 use Rattle.lists.proofs.Tests.{tests, as_t}
 use Rattle.task.proofs.Checking.{within, parts_of}
 use Rattle.task.proofs.Answered.{passed_on, parts_spell}
@@ -65,9 +64,9 @@ arguments P cost w few h =
 
 -- Settle's answer, from what check answered
 
-module _ (b : List ℕ) (c : ℕ) (met : ℕ → Bool) (x : Checked) (e : checked x ≡ check b) where
+module _ (b : List ℕ) (c : ℕ) (met : ℕ → Bool) (x : Result Sizes Refusal) (e : checked x ≡ check b) where
   -- a file that is not accepted: its refusal
-  pub turned_down : (f : Refusal) → x ≡ Refused f → (r : Refusal) → r ≡ refusal_in x → refused r.number r.place ≡ settled b c met
+  pub turned_down : (r : Refusal) → x ≡ Err r → refused (number_of r.cause) r.place ≡ settled b c met
   unfolding settled
   turned_down = passed_on (settled_by b c met) b x e
 

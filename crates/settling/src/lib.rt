@@ -11,20 +11,14 @@ ghost use Rattle.settling.specs.Settled.{settled};
 ghost use Rattle.settling.specs.Answers.{settled_as};
 
 use state::State;
-use task::{Checked, Refusal, Sizes, refused};
+use task::refused::Cause;
+use task::{Refusal, Sizes};
 
 // What a solution is worth.
 #[derive(Clone, Copy)]
 pub struct Worth {
     pub metric: u64,
     pub utility: i64,
-}
-
-// A settled solution: what it is worth, or a refusal of the task, of the cost or of the met preferences.
-#[derive(Clone, Copy)]
-pub enum Settled {
-    Given(Worth),
-    Refused(Refusal),
 }
 
 // Whether preference k is among the met ones.
@@ -34,28 +28,22 @@ pub fn is_met(met: u64, k: u32) -> bool
     state::holds(State { low: met, high: 0 }, k)
 }
 
-// What a cost and met preferences are worth on the task in a file that check has accepted, of sizes z.
-pub fn settle_on(file: &[u8], z: Sizes, cost: u64, met: u64) -> Settled
+// What a cost and met preferences are worth on the task in a file that check has accepted, of sizes z, or a refusal of either.
+pub fn settle_on(file: &[u8], z: Sizes, cost: u64, met: u64) -> Result<Worth, Refusal>
     requires { check file.now ≡ accepted (as_sizes z) }
     ensures { settled_as result ≡ settled file.now cost (bit met) }
 {
     if !amounts::arguments_allowed(z.preferences, cost, met) {
-        return Settled::Refused(Refusal {
-            number: refused::ARGUMENT,
-            place: 0,
-        });
+        return Err(Cause::Argument.at(0));
     }
     let middle = 8 + z.rows;
-    Settled::Given(amounts::worth(cost, amounts::weigh(&file[8..middle], &file[middle..], met)))
+    Ok(amounts::worth(cost, amounts::weigh(&file[8..middle], &file[middle..], met)))
 }
 
 // What a cost and met preferences are worth on the task in a file; preference k is met where bit k of `met` is set.
-pub fn settle(file: &[u8], cost: u64, met: u64) -> Settled
+pub fn settle(file: &[u8], cost: u64, met: u64) -> Result<Worth, Refusal>
     ensures { settled_as result ≡ settled file.now cost (bit met) }
 {
-    let c = task::check(file);
-    let Checked::Accepted(z) = c else {
-        return Settled::Refused(task::refusal_of(c));
-    };
+    let z = task::check(file)?;
     settle_on(file, z, cost, met)
 }

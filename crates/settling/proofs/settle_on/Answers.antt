@@ -36,7 +36,8 @@ arguments_allowed-requires c =
 pub returns-then-not-arguments_allowed : goal.returns-then-not-arguments_allowed
 returns-then-not-arguments_allowed c =
     let a = c.args in
-    not_allowed a.file.now a.cost (bit a.met) a.z c.requires (sym c.arguments_allowed.ensures ∙ not-true _ c.if-not-arguments_allowed.true-raw)
+    rw c.at.ensures (not_allowed a.file.now a.cost (bit a.met) a.z c.requires
+    (sym c.arguments_allowed.ensures ∙ not-true _ c.if-not-arguments_allowed.true-raw))
 
 pub overflow_add-middle : goal.overflow_add-middle
 overflow_add-middle c = let h = parts (goal.at.overflow_add-middle c).Start in search rules

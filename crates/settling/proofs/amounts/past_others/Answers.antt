@@ -1,6 +1,5 @@
 use borrow.Author.Rules.{rules}
 use native.Mathlib.Omega.{arith}
-use Prim.Native.Nat.{◌-◌}
 use Rattle.settling.proofs.Weighing.{eight_more}
 use Rattle.settling.proofs.amounts.past_others.Goals as goal
 
