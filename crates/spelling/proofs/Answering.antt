@@ -1,9 +1,10 @@
 -- A task file spelled, from what check answers.
-use mathlib.Core.Path.{◌≡◌, refl, sym, ap, ◌∙◌, subst}
+use mathlib.Core.Path.{◌≡◌, sym, ap, ◌∙◌, subst}
 use mathlib.Core.Bool.{true}
 use mathlib.Core.List.{List}
 use Prim.Native.Nat.{ℕ, ◌+◌, ◌-◌, ◌≤◌}
 use native.Mathlib.Omega.{arith}
+use Rattle.std.specs.Prelude.{Result, Ok, Err}
 use lib.ListN.{length, take, drop}
 use Rattle.lists.proofs.Tests.{as_true}
 use Rattle.task.specs.TaskRows.{Row, task_rows}
@@ -11,18 +12,14 @@ use Rattle.task.specs.File
 use Rattle.task.specs.File.{paired, sizes_of, task_of, file_of_rows, with_rows}
 use Rattle.task.specs.Check
 use Rattle.task.specs.Check.{check, sizes_allowed}
-use Rattle.task.specs.Answers.{answer as checked, as_sizes, refusal_in}
+use Rattle.task.specs.Answers.{answer as checked, as_sizes, number_of}
 use Rattle.task.specs.declared.Sizes.{Sizes}
 use Rattle.task.specs.declared.Refusal.{Refusal}
-use Rattle.task.specs.declared.Checked.{Checked}
-use Rattle.task.specs.declared.Checked.TheVariants.{Accepted, Refused}
 use Rattle.task.proofs.Bytes.{file_length}
 use Rattle.task.proofs.Spelled.{Spelling, accepted_spelling}
 use Rattle.task.proofs.Answered.{passed_on, parts_spell, Limited, limited}
 use Rattle.outcome.specs.Outcome.{fitted, area_after}
 use Rattle.outcome.specs.Answers.{answer}
-use Rattle.outcome.specs.declared.Outcome
-use Rattle.outcome.specs.declared.Outcome.TheVariants
 use Rattle.outcome.proofs.Outcomes.{turned_down as left_alone}
 use Rattle.canonical.specs.Canonical.{canonical, respelled, respelled_rows}
 use Rattle.canonical.proofs.Respelled.{canonical_sizes, respelled_file}
@@ -30,18 +27,18 @@ use Rattle.spelling.specs.Spelled.{spelled_rows}
 use Rattle.spelling.specs.Outcome.{outcome_by, outcome, Fitted}
 use Rattle.spelling.proofs.TaskSpelled.{task_spelled}
 
-module _ (b area : List ℕ) (x : Checked) (e : checked x ≡ check b) where
+module _ (b area : List ℕ) (x : Result Sizes Refusal) (e : checked x ≡ check b) where
   -- what spell promises of its answer r and the area out
-  abbrev Promised : Outcome.Outcome → List ℕ → Type 0
+  abbrev Promised : Result ℕ Refusal → List ℕ → Type 0
   Promised r out = (answer r ≡ outcome b (length area)) × (out ≡ area_after (respelled b) area (outcome b (length area)))
 
-  pub turned_down : (f : Refusal) → x ≡ Refused f → (r : Refusal) → r ≡ refusal_in x → Promised (TheVariants.Refused r) area
+  pub turned_down : (y : Result ℕ Refusal) (r : Refusal) → y ≡ Err r → x ≡ Err r → Promised y area
   unfolding outcome
-  turned_down f q r says =
-      left_alone (respelled b) area (outcome b (length area)) (answer (TheVariants.Refused r)) r.number r.place refl
-      (sym (passed_on (outcome_by b (length area)) b x e f q r says))
+  turned_down y r p q =
+      left_alone (respelled b) area (outcome b (length area)) (answer y) (number_of r.cause) r.place (ap answer p)
+      (sym (passed_on (outcome_by b (length area)) b x e r q))
 
-  module _ (z : Sizes) (q : x ≡ Accepted z) where
+  module _ (z : Sizes) (q : x ≡ Ok z) where
     accepted : check b ≡ Check.accepted (as_sizes z)
     accepted = sym e ∙ ap checked q
 
@@ -83,7 +80,7 @@ module _ (b area : List ℕ) (x : Checked) (e : checked x ≡ check b) where
         ap (λ (n : ℕ). fitted n (length area)) (file_length t.facts (length t.actions) (length t.preferences) (task_rows t))
         ∙ sym (ap (outcome_by b (length area)) accepted)
 
-    pub put : (r : Outcome.Outcome) (out : List ℕ) → Fitted (file_of_rows z.facts z.actions z.preferences (spelled_rows rows)) area r out → Promised r out
+    pub put : (r : Result ℕ Refusal) (out : List ℕ) → Fitted (file_of_rows z.facts z.actions z.preferences (spelled_rows rows)) area r out → Promised r out
     put r out f =
         let g : Fitted (respelled b) area r out = subst (λ (l : List ℕ). Fitted l area r out) file_is f in
         let right : answer r ≡ outcome b (length area) = g.answering ∙ due in

@@ -1,20 +1,21 @@
 -- The file of the spelling's rows xs, counted as n, in an area that was b: refused by 9, or the sizes and then the rows.
 use mathlib.Core.Path.{◌≡◌, refl, sym, ap, ◌∙◌}
 use mathlib.Core.List.{List, ◌++◌}
-use Prim.Native.Nat.{ℕ, ◌+◌, ◌*◌, ◌≤◌, ◌<◌}
+use Prim.Native.Nat.{ℕ, ◌+◌, ◌*◌, ◌≤◌}
 use native.Mathlib.Omega.{arith}
+use Rattle.std.specs.Prelude.{Result, Ok, Err}
 use lib.ListN.{length, take, drop}
 use lib.Seq.{sets, sets-eq, length-sets, take_at, drop-append-add, drop-drop}
-use borrow.Author.Tests.{le-leb, lt-leb}
+use borrow.Author.Tests.{le-leb}
 use Rattle.task.specs.TaskRows.{Row}
 use Rattle.task.specs.File.{file_of_rows}
 use Rattle.task.proofs.Bytes.{file_length}
 use Rattle.writer.specs.Writer.{row_after, put_rows, Wrote, header}
 use Rattle.writer.specs.declared.Cursor.{Cursor}
 use Rattle.writer.proofs.Putting.{whole_file}
-use Rattle.outcome.specs.Outcome.{written, refused, area_after}
+use Rattle.outcome.specs.Outcome.{written, fitted, area_after}
 use Rattle.outcome.specs.Answers.{answer}
-use Rattle.outcome.specs.declared.Outcome.{Outcome}
+use Rattle.task.specs.declared.Refusal.{Refusal}
 use Rattle.spelling.specs.Outcome.{Fitted}
 
 module _ (F A P : ℕ) (xs : List Row) (b : List ℕ) (n : ℕ) (counted : n ≡ row_after 0 (length xs)) (few : length xs ≤ 12000) where
@@ -24,10 +25,11 @@ module _ (F A P : ℕ) (xs : List Row) (b : List ℕ) (n : ℕ) (counted : n ≡
   n_is : n ≡ length xs
   n_is = omega (arith, counted)
 
-  pub no_room : (r : Outcome) → answer r ≡ refused 9 0 → length b < 8 + 5 * n → Fitted file b r b
-  no_room r e h =
-      let g : length b < length file = omega (arith, n_is, file_length F A P xs) in
-      record { answering = e ∙ rw (lt-leb (length file) (length b) g); area = sym (ap (area_after file b) e) }
+  due : fitted (8 + 5 * n) (length b) ≡ fitted (length file) (length b)
+  due = ap (λ (m : ℕ). fitted m (length b)) (ap (λ (m : ℕ). 8 + 5 * m) n_is ∙ sym (file_length F A P xs))
+
+  pub no_room : (x : Result ℕ Refusal) (r : Refusal) → x ≡ Err r → answer (Err r) ≡ fitted (8 + 5 * n) (length b) → Fitted file b x b
+  no_room x r q e = record { answering = ap answer q ∙ e ∙ due; area = sym (ap (λ (y : Result ℕ Refusal). area_after file b (answer y)) q) }
 
   -- the area with the sizes written, and then with the rows
   module _ (mid out : List ℕ) (k : Cursor) (room : 8 + 5 * n ≤ length b) (sized : mid ≡ sets b 0 (header F A P n))
@@ -51,8 +53,9 @@ module _ (F A P : ℕ) (xs : List Row) (b : List ℕ) (n : ℕ) (counted : n ≡
         ∙ whole_file mid F A P xs long (ap (take 8) mid_is ∙ take_at (header F A P (length xs)) (drop 8 b) 8 refl)
         ∙ ap (λ (l : List ℕ). file ++ l) after
 
-    pub put : (r : Outcome) → answer r ≡ written (8 + 5 * n) → Fitted file b r out
-    put r e =
+    pub put : (v : ℕ) → answer (Ok v) ≡ fitted (8 + 5 * n) (length b) → Fitted file b (Ok v) out
+    put v e =
         let long : 8 + 5 * n ≡ length file = omega (arith, n_is, file_length F A P xs) in
         let g : length file ≤ length b = omega arith in
-        record { answering = e ∙ rw (le-leb (length file) (length b) g) (ap written long); area = file_put ∙ sym (ap (area_after file b) e) }
+        let is : answer (Ok v) ≡ written (8 + 5 * n) = e ∙ due ∙ rw (le-leb (length file) (length b) g) (ap written (sym long)) in
+        record { answering = e ∙ due; area = file_put ∙ sym (ap (area_after file b) is) }

@@ -11,19 +11,15 @@ ghost use Rattle.outcome.specs.Answers.{answer};
 ghost use Rattle.canonical.specs.Canonical.{respelled};
 ghost use Rattle.spelling.specs.Outcome.{outcome};
 
-use outcome::Outcome;
-use task::Checked;
+use task::Refusal;
 
 // Writes the one spelling of the task in a file into the area.
-pub fn spell(file: &[u8], out: &mut [u8]) -> Outcome
+pub fn spell(file: &[u8], out: &mut [u8]) -> Result<usize, Refusal>
     ensures result_value { answer result ≡ outcome file.now (length out.old) }
     ensures out_after { let answered = outcome file.now (length out.old) in
         out.new ≡ area_after (respelled file.now) out.old answered }
 {
-    let c = task::check(file);
-    let Checked::Accepted(z) = c else {
-        return Outcome::Refused(task::refusal_of(c));
-    };
+    let z = task::check(file)?;
     let middle = 8 + z.rows;
     whole::put_file(out, &file[8..middle], &file[middle..], z)
 }

@@ -11,8 +11,7 @@ ghost use Rattle.spelling.specs.Outcome.{Fitted};
 
 use super::{rising, runs};
 use layout::sides::Span;
-use outcome::Outcome;
-use task::{Sizes, limits, refused, rows};
+use task::{Refusal, Sizes, limits, rows};
 use writer::Cursor;
 
 // Areas of our own for up to 64 rows and for up to 1024: an area costs what it is long.
@@ -45,7 +44,13 @@ fn put_task(out: &mut [u8], c: Cursor, marks: &[u8], values: &[u8]) -> Cursor
 
 // Writes the file of the spelling, where it fits. Its rows are written into an area of our own first, since the values stand after all
 // marks, and how many there are is known at the end.
-fn put_through(own: &mut [u8], out: &mut [u8], marks: &[u8], values: &[u8], z: Sizes) -> Outcome
+fn put_through(
+    own: &mut [u8],
+    out: &mut [u8],
+    marks: &[u8],
+    values: &[u8],
+    z: Sizes,
+) -> Result<usize, Refusal>
     requires { Shorter marks.now values.now × (sizes_allowed (as_sizes z) ≡ true) × (8 + 5 * length marks.now ≤ length own.old) }
     ensures { let rows = spelled_rows (paired marks.now values.now) in
         Fitted (file_of_rows z.facts z.actions z.preferences rows) out.old result out.new }
@@ -57,10 +62,7 @@ fn put_through(own: &mut [u8], out: &mut [u8], marks: &[u8], values: &[u8], z: S
     };
     let k = put_task(&mut *own, c, marks, values);
     let n = k.next;
-    let length = 8 + 5 * n;
-    if out.len() < length {
-        return outcome::refuse(refused::SHORT_OUTPUT, 0);
-    }
+    let length = outcome::fitted(8 + 5 * n, out.len())?;
     writer::put_sizes(
         &mut *out,
         z.facts as u32,
@@ -72,11 +74,16 @@ fn put_through(own: &mut [u8], out: &mut [u8], marks: &[u8], values: &[u8], z: S
     let middle = 8 + room;
     let all = Span { from: 0, to: n };
     let _ = writer::copy_rows(&mut *out, first, &own[8..middle], &own[middle..], all);
-    Outcome::Written(length)
+    Ok(length)
 }
 
 // Writes the file of the spelling with an area of our own of N bytes.
-fn put_by_area<const N: usize>(out: &mut [u8], marks: &[u8], values: &[u8], z: Sizes) -> Outcome
+fn put_by_area<const N: usize>(
+    out: &mut [u8],
+    marks: &[u8],
+    values: &[u8],
+    z: Sizes,
+) -> Result<usize, Refusal>
     requires { Shorter marks.now values.now × (sizes_allowed (as_sizes z) ≡ true) × (8 + 5 * length marks.now ≤ N) × (N ≤ MAX_FILE) }
     ensures { let rows = spelled_rows (paired marks.now values.now) in
         Fitted (file_of_rows z.facts z.actions z.preferences rows) out.old result out.new }
@@ -86,7 +93,7 @@ fn put_by_area<const N: usize>(out: &mut [u8], marks: &[u8], values: &[u8], z: S
 }
 
 // Writes the file of the spelling, where it fits.
-pub fn put_file(out: &mut [u8], marks: &[u8], values: &[u8], z: Sizes) -> Outcome
+pub fn put_file(out: &mut [u8], marks: &[u8], values: &[u8], z: Sizes) -> Result<usize, Refusal>
     requires { Shorter marks.now values.now × (sizes_allowed (as_sizes z) ≡ true) }
     ensures { let rows = spelled_rows (paired marks.now values.now) in
         Fitted (file_of_rows z.facts z.actions z.preferences rows) out.old result out.new }

@@ -1,4 +1,7 @@
 -- What spell promises, by what check answers: refused, or written as put_file does (`put`).
+use mathlib.Core.Path.{ap, ◌∙◌}
+use Rattle.std.specs.Prelude.{Err}
+use Rattle.std.proofs.lemmas.Result.{err_from_is_err_and}
 use native.Mathlib.Omega.{arith}
 use lib.ListN.{length-take, length-drop}
 use Rattle.task.specs.Answers.{as_sizes}
@@ -6,48 +9,47 @@ use Rattle.task.proofs.Answered.{Limited, answered}
 use Rattle.spelling.proofs.Answering.{turned_down, allowed, fewer, put}
 use borrow.Author.Rules.{rules}
 use Rattle.spelling.proofs.spell.Goals as goal
-use Rattle.spelling.proofs.spell.Goals.{In-Accepted}
+use Rattle.spelling.proofs.spell.Goals.{In_ok-z}
 
-parts : (c : In-Accepted) → Limited c.args.file.now (as_sizes c.in-Accepted.z)
+parts : (c : In_ok-z) → Limited c.args.file.now (as_sizes c.in_ok-z.z)
 parts c =
-    answered c.args.file.now c.check-c.result c.check-c.ensures c.in-Accepted.z c.in-Accepted.is
+    answered c.args.file.now c.check.result c.check.ensures c.in_ok-z.z c.in_ok-z.was
 
-pub returns-in_default : goal.returns-in_default
-returns-in_default c =
+pub returns-in_err-z : goal.returns-in_err-z
+returns-in_err-z c =
     let a = c.args in
-    record {
-      result_value = (turned_down a.file.now a.out.now c.check-c.result c.check-c.ensures c.in_default.field-0 c.in_default.is c.refusal_of.result c.refusal_of.ensures).0;
-      out_after = (turned_down a.file.now a.out.now c.check-c.result c.check-c.ensures c.in_default.field-0 c.in_default.is c.refusal_of.result c.refusal_of.ensures).1;
-    }
+    let r = err_from_is_err_and c.from_residual.result c.from_residual.ensures.1 in
+    let p = turned_down a.file.now a.out.now c.check.result c.check.ensures c.from_residual.result c.in_err-z.field-0.0 (r.1 ∙ ap Err r.2) c.in_err-z.was in
+    record { result_value = p.0; out_after = p.1 }
 
 pub overflow_add-middle : goal.overflow_add-middle
-overflow_add-middle c = let h = parts (goal.at.overflow_add-middle c).In-Accepted in search rules
+overflow_add-middle c = let h = parts (goal.at.overflow_add-middle c).In_ok-z in search rules
 
 pub slice_bounds-put_file-end : goal.slice_bounds-put_file-end
-slice_bounds-put_file-end c = let h = parts (goal.at.slice_bounds-put_file-end c).In-Accepted in search rules
+slice_bounds-put_file-end c = let h = parts (goal.at.slice_bounds-put_file-end c).In_ok-z in search rules
 
 -- where check's answer was taken apart, from where the file is put
 pub slice_bounds-put_file-count-2 : goal.slice_bounds-put_file-count-2
-slice_bounds-put_file-count-2 c = let h = parts (goal.at.slice_bounds-put_file-count-2 c).In-Accepted in search rules
+slice_bounds-put_file-count-2 c = let h = parts (goal.at.slice_bounds-put_file-count-2 c).In_ok-z in search rules
 
 pub slice_bounds-put_file-start-2 : goal.slice_bounds-put_file-start-2
-slice_bounds-put_file-start-2 c = let h = parts (goal.at.slice_bounds-put_file-start-2 c).In-Accepted in search rules
+slice_bounds-put_file-start-2 c = let h = parts (goal.at.slice_bounds-put_file-start-2 c).In_ok-z in search rules
 
 pub put_file-requires : goal.put_file-requires
 put_file-requires c =
     let a = c.args in
-    let h = parts (goal.at.put_file-requires c).In-Accepted in (
+    let h = parts (goal.at.put_file-requires c).In_ok-z in (
       record {
         rows = record { few = simp (length-take, length-drop) (omega arith); values = simp (length-take, length-drop) (omega arith) };
-        fewer = simp (length-take, length-drop) (omega (arith, fewer a.file.now a.out.now c.check-c.result c.check-c.ensures c.in-Accepted.z c.in-Accepted.is));
+        fewer = simp (length-take, length-drop) (omega (arith, fewer a.file.now a.out.now c.check.result c.check.ensures c.in_ok-z.z c.in_ok-z.was));
       },
-      allowed a.file.now a.out.now c.check-c.result c.check-c.ensures c.in-Accepted.z c.in-Accepted.is,
+      allowed a.file.now a.out.now c.check.result c.check.ensures c.in_ok-z.z c.in_ok-z.was,
     )
 
 pub returns : goal.returns
 returns c =
     let a = c.args in
     record {
-      result_value = (put a.file.now a.out.now c.check-c.result c.check-c.ensures c.in-Accepted.z c.in-Accepted.is c.put_file.result c.put_file.new.out c.put_file.ensures).0;
-      out_after = (put a.file.now a.out.now c.check-c.result c.check-c.ensures c.in-Accepted.z c.in-Accepted.is c.put_file.result c.put_file.new.out c.put_file.ensures).1;
+      result_value = (put a.file.now a.out.now c.check.result c.check.ensures c.in_ok-z.z c.in_ok-z.was c.put_file.result c.put_file.new.out c.put_file.ensures).0;
+      out_after = (put a.file.now a.out.now c.check.result c.check.ensures c.in_ok-z.z c.in_ok-z.was c.put_file.result c.put_file.new.out c.put_file.ensures).1;
     }

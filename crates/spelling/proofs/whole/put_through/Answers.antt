@@ -1,9 +1,10 @@
 -- Refused by 9 the area stays; else it holds the sizes and then the rows (`Fitting`), which are copied from our own area (`Through`).
-use mathlib.Core.Path.{◌≡◌, refl}
-use Prim.Native.Nat.{◌+◌, ◌*◌, ◌≤◌}
+use mathlib.Core.Path.{◌≡◌, refl, ap, ◌∙◌}
+use Rattle.std.specs.Prelude.{Err}
+use Rattle.std.proofs.lemmas.Result.{err_from_is_err_and}
+use Prim.Native.Nat.{◌≤◌}
 use native.Mathlib.Omega.{arith}
 use lib.ListN.{length}
-use Rattle.outcome.specs.declared.Outcome.TheVariants.{Written}
 use Rattle.task.specs.File.{paired}
 use Rattle.task.specs.Answers.{as_sizes}
 use Rattle.task.proofs.Checking.{within}
@@ -26,11 +27,13 @@ sizes c =
 pub overflow_cast-z : goal.overflow_cast-z
 overflow_cast-z c = let h = sizes (goal.at.overflow_cast-z c).After-put_task-k in search rules
 
-pub returns-then-out-length : goal.returns-then-out-length
-returns-then-out-length c =
+pub returns-in_err-length : goal.returns-in_err-length
+returns-in_err-length c =
     let a = c.args in
+    let r = err_from_is_err_and c.from_residual.result c.from_residual.ensures.1 in
     no_room a.z.facts a.z.actions a.z.preferences (spelled_rows (paired a.marks.now a.values.now)) a.out.now c.put_task-k.result.next
-    c.put_task-k.ensures.next (few (goal.at.returns-then-out-length c).After-put_task-k) c.refuse.result c.refuse.ensures (search rules)
+    c.put_task-k.ensures.next (few (goal.at.returns-in_err-length c).After-put_task-k) c.from_residual.result c.in_err-length.field-0.0 (r.1 ∙ ap Err r.2)
+    c.in_err-length.ensures
 
 pub returns : goal.returns
 returns c =
@@ -43,4 +46,4 @@ returns c =
     c.put_sizes.new.out c.copy_rows.new.out (record { rows = n; next = 0 }) c.copy_rows.result refl refl
     (λ i. omega (arith, c.slice_known-3-1.given i)) c.copy_rows.ensures in
     put a.z.facts a.z.actions a.z.preferences xs a.out.now n c.put_task-k.ensures.next (few (goal.at.returns c).After-put_task-k) c.put_sizes.new.out c.copy_rows.new.out
-    c.copy_rows.result (search rules) c.put_sizes.ensures rows (Written (8 + 5 * n)) refl
+    c.copy_rows.result (search rules) c.put_sizes.ensures rows c.in_ok-length.length c.in_ok-length.ensures
