@@ -111,12 +111,9 @@ pub fn put_effect(out: &mut [u8], c: Cursor, marks: &[u8], values: &[u8], e: Eff
     requires { Room c out.old × Rows marks.now values.now × Inside marks.now e }
     ensures { Wrote out.old c (one_effect marks.now values.now e) result out.new }
 {
-    let guard = e.guard;
-    let condition = e.condition;
-    let change = e.change;
-    let k = open_effect(&mut *out, c, marks, values, guard);
-    let k = writer::copy_rows(&mut *out, k, marks, values, condition);
-    put_change(&mut *out, k, change)
+    let k = open_effect(&mut *out, c, marks, values, e.guard);
+    let k = writer::copy_rows(&mut *out, k, marks, values, e.condition);
+    put_change(&mut *out, k, e.change)
 }
 
 // Row j of an effect's condition: a clause opens the next effect, a literal is denied. `begun` says that an effect is open.
@@ -136,10 +133,8 @@ fn false_row(
     if mark != marks::CLAUSE {
         return writer::put_single(&mut *out, c, denied(mark), rows::value_at(values, j));
     }
-    let guard = e.guard;
-    let change = e.change;
-    let k = close_effect(&mut *out, c, change, begun);
-    open_effect(&mut *out, k, marks, values, guard)
+    let k = close_effect(&mut *out, c, e.change, begun);
+    open_effect(&mut *out, k, marks, values, e.guard)
 }
 
 // One effect for each clause of the condition, whose literals are denied.
@@ -147,19 +142,14 @@ pub fn each_false(out: &mut [u8], c: Cursor, marks: &[u8], values: &[u8], e: Eff
     requires { Room c out.old × Rows marks.now values.now × Inside marks.now e }
     ensures { Wrote out.old c (false_effects marks.now values.now e) result out.new }
 {
-    let condition = e.condition;
-    let to = condition.to;
     let mut begun = false;
     let mut k = c;
-    let mut j = condition.from;
-    while j < to {
+    for j in e.condition.from..e.condition.to {
         if writer::OVERFULL <= k.next {
             return k;
         }
         k = false_row(&mut *out, k, marks, values, e, j, begun);
-        begun = begun | (marks[j] == marks::CLAUSE);
-        j += 1;
+        begun |= marks[j] == marks::CLAUSE;
     }
-    let change = e.change;
-    close_effect(&mut *out, k, change, begun)
+    close_effect(&mut *out, k, e.change, begun)
 }

@@ -1,5 +1,4 @@
 use mathlib.Core.Path.{◌∙◌}
-use Prim.Native.Nat.{◌-◌}
 use Rattle.layout.specs.Sides.{stretch}
 use Rattle.effects.specs.Effects.{guard_rows, changed_rows, false_rows}
 use Rattle.effects.proofs.FalseRows.{next_false, last-false}

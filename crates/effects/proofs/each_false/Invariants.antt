@@ -1,11 +1,7 @@
 -- The rows that are left make up all of them: a loop over the condition, by `next_false` and `then`.
-use Prim.Native.Nat.{◌-◌}
 use Rattle.effects.specs.Effects.{guard_rows, changed_rows}
 use Rattle.effects.proofs.FalseRows.{Falsified}
 use Rattle.effects.proofs.each_false.Given as goal
 
 abbrev pub invariant-loop-j : goal.invariant-loop-j
-invariant-loop-j l = Falsified l.initial.out l.initial.k (guard_rows l.marks l.values l.e.guard) (changed_rows l.e.change) l.marks l.values l.initial.j l.to l.out l.begun l.k l.j
-
-abbrev pub decreases-loop-j : goal.decreases-loop-j
-decreases-loop-j l = l.to - l.j
+invariant-loop-j l = Falsified l.initial.out l.initial.k (guard_rows l.marks l.values l.e.guard) (changed_rows l.e.change) l.marks l.values l.e.condition.from l.e.condition.to l.out l.begun l.k l.j
