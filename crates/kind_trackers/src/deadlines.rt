@@ -31,10 +31,8 @@ fn onwards(out: &mut [u8], c: Cursor, d: u32, steps: u32) -> Cursor
     ensures { Wrote out.old c (concat_map (onward_rows d) (range 1 steps)) result out.new }
 {
     let mut k = c;
-    let mut j = 1;
-    while j <= steps {
+    for j in 1..=steps {
         k = put_onward(&mut *out, k, d, j);
-        j += 1;
     }
     k
 }
@@ -116,10 +114,8 @@ fn put_waits(
     ensures { Wrote out.old c (all_wait_rows f steps (part marks.now values.now psi)) result out.new }
 {
     let mut k = c;
-    let mut j = 1;
-    while j <= steps {
+    for j in 1..=steps {
         k = put_wait(&mut *out, k, marks, values, psi, f, steps, j);
-        j += 1;
     }
     k
 }
@@ -130,10 +126,8 @@ fn put_deletes(out: &mut [u8], c: Cursor, d: u32, steps: u32) -> Cursor
     ensures { Wrote out.old c (map (row DELETE) (range (d + 1) steps)) result out.new }
 {
     let mut k = c;
-    let mut j = 1;
-    while j <= steps {
+    for j in 1..=steps {
         k = writer::put_row(&mut *out, k, marks::DELETE, d + j);
-        j += 1;
     }
     k
 }

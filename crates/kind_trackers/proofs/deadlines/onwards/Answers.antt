@@ -1,4 +1,3 @@
-use Prim.Native.Nat.{◌-◌}
 use Rattle.kind_trackers.specs.Rows.{onward_rows}
 use Rattle.kind_trackers.proofs.Numbering.{begins, goes_on, ends}
 use borrow.Author.Rules.{rules}
@@ -21,3 +20,8 @@ pub returns : goal.returns
 returns c =
     let a = c.args in
     ends (onward_rows a.d) a.steps c.loop-j.invariant (search rules)
+
+pub returns-2 : goal.returns-2
+returns-2 c =
+    let a = c.args in
+    ends (onward_rows a.d) a.steps (goes_on (onward_rows a.d) a.steps c.loop-j.invariant (search rules) c.put_onward-k.auto.out c.put_onward-k.ensures) (search rules)

@@ -1,4 +1,3 @@
-use Prim.Native.Nat.{◌-◌}
 use Rattle.writer.proofs.Putting.{as_rows}
 use Rattle.kind_trackers.proofs.Numbering.{begins, goes_on, ends, deletes, deletes_are}
 use borrow.Author.Rules.{rules}
@@ -22,3 +21,8 @@ returns c =
     let a = c.args in
     as_rows (deletes_are a.d 1 a.steps)
     (ends (deletes a.d) a.steps c.loop-j.invariant (search rules))
+
+pub returns-2 : goal.returns-2
+returns-2 c =
+    let a = c.args in
+    as_rows (deletes_are a.d 1 a.steps) (ends (deletes a.d) a.steps (goes_on (deletes a.d) a.steps c.loop-j.invariant (search rules) c.put_row-k.auto.out c.put_row-k.ensures) (search rules))

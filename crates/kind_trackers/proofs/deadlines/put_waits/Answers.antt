@@ -1,4 +1,3 @@
-use Prim.Native.Nat.{◌-◌}
 use Rattle.layout.specs.Sides.{part}
 use Rattle.kind_trackers.specs.Rows.{wait_rows}
 use Rattle.kind_trackers.proofs.Numbering.{begins, goes_on, ends}
@@ -22,3 +21,8 @@ pub returns : goal.returns
 returns c =
     let a = c.args in
     ends (wait_rows a.f a.steps (part a.marks.now a.values.now a.psi)) a.steps c.loop-j.invariant (search rules)
+
+pub returns-2 : goal.returns-2
+returns-2 c =
+    let a = c.args in
+    ends (wait_rows a.f a.steps (part a.marks.now a.values.now a.psi)) a.steps (goes_on (wait_rows a.f a.steps (part a.marks.now a.values.now a.psi)) a.steps c.loop-j.invariant (search rules) c.put_wait-k.auto.out c.put_wait-k.ensures) (search rules)

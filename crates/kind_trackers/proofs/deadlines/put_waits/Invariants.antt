@@ -1,5 +1,4 @@
 -- A loop over the steps, by the laws of `Numbered`.
-use Prim.Native.Nat.{◌+◌, ◌-◌}
 use Rattle.layout.specs.Sides.{part}
 use Rattle.kind_trackers.specs.Rows.{wait_rows}
 use Rattle.kind_trackers.proofs.Numbering.{Numbered}
@@ -7,6 +6,3 @@ use Rattle.kind_trackers.proofs.deadlines.put_waits.Given as goal
 
 abbrev pub invariant-loop-j : goal.invariant-loop-j
 invariant-loop-j l = Numbered (wait_rows l.f l.steps (part l.marks l.values l.psi)) l.steps l.initial.out l.initial.k l.out l.k l.j
-
-abbrev pub decreases-loop-j : goal.decreases-loop-j
-decreases-loop-j l = l.steps + 1 - l.j
