@@ -23,8 +23,7 @@ fn steps_of(marks: &[u8], values: &[u8], at: usize) -> u32
     requires { Rows marks.now values.now × (at < length marks.now) }
     ensures { (result ≡ steps_at marks.now values.now at) × (result ≤ MAX_DEADLINE) }
 {
-    let steps = rows::steps_at(marks, values, at);
-    steps as u32
+    u32::from(rows::steps_at(marks, values, at))
 }
 
 // The trackers of the preference at row `at`, by its mark; `last` says that they stand in end.
@@ -92,14 +91,9 @@ fn further(kind: Kind) -> u32
     ensures { (result ≡ further_facts (as_kind kind)) × (result ≤ 256) }
 {
     match kind {
-        Kind::Always => 0,
-        Kind::Sometime => 0,
-        Kind::AtEnd => 0,
-        Kind::AtMostOnce => 0,
-        Kind::SometimeBefore => 0,
-        Kind::SometimeAfter => 0,
-        Kind::Within(steps) => (steps as u32) + 1,
-        Kind::AlwaysWithin(steps) => steps as u32,
+        Kind::Within(steps) => u32::from(steps) + 1,
+        Kind::AlwaysWithin(steps) => u32::from(steps),
+        _ => 0,
     }
 }
 
@@ -130,17 +124,14 @@ pub fn all_trackers(
     let mut k = c;
     let mut s = facts;
     let mut d = facts + 3 * (starts.len() as u32) + 1;
-    let mut i = 0;
-    while i < starts.len() {
+    for &at in starts {
         if writer::OVERFULL <= k.next {
             return k;
         }
-        let at = starts[i];
         let f = Facts { s, b: s + 1, d };
         k = trackers_at(&mut *out, k, marks, values, at, f, last);
         s += 3;
         d += further_at(marks, values, at);
-        i += 1;
     }
     k
 }
