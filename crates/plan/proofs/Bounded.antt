@@ -17,7 +17,6 @@ use Rattle.meaning.specs.Literals.{literals}
 use Rattle.task.proofs.Bytes.{rows-length}
 use Rattle.task.proofs.Spelled.{Spelling, accepted_spelling}
 use Rattle.task.proofs.FewLiterals.{few_literals}
-use Rattle.plan.specs.Judged
 use Rattle.plan.specs.Judged.{Judged, steps_known, judged_by, judged}
 use Rattle.plan.specs.Walked.{Walk, Walked, given, refused, without_worth, walked}
 

@@ -2,6 +2,7 @@
 use mathlib.Core.Path.{◌≡◌, refl, sym, ap, ap₂, ◌∙◌, fun_ext, subst⁻¹}
 use mathlib.Core.Bool.{Bool, true, false, not, cond, ◌||◌}
 use mathlib.Core.List.{List, [], ◌∷◌, map}
+use Rattle.std.specs.Prelude.{Err}
 use Prim.Native.Nat.{ℕ, suc, ◌+◌, ◌*◌, ◌≤◌, ◌<◌}
 use native.Mathlib.Nat.{add-zero, zero-add}
 use native.Mathlib.Numerals.{add-one}
@@ -26,7 +27,6 @@ use Rattle.layout.specs.Actions.{AllBelow}
 use Rattle.plan.specs.Steps.{state_of, StepTaken, StepAnswer, solved_by, last_verdict, MonitorsAre, walked_on, Start}
 use Rattle.plan.specs.declared.steps.Places.{Places}
 use Rattle.plan.specs.declared.steps.Position.{Position}
-use Rattle.plan.specs.declared.steps.Moved.TheVariants.{Stopped}
 use Rattle.monitors.proofs.TaskRead.{preferences_there}
 
 -- the verdict on the steps from step i on, in state σ, with monitors μ and cost c so far
@@ -149,7 +149,7 @@ module _ (t : Task) (plan : List ℕ) where
         same_facts : member (state_of p') ≡ σ
         same_facts = ap member same_state
 
-        pub stops : (n : ℕ) → StepAnswer t k p' (Stopped n) → given (stopped i) n ≡ walked_on t plan
+        pub stops : (n : ℕ) → StepAnswer t k p' (Err n) → given (stopped i) n ≡ walked_on t plan
         stops n (e, looked) =
             let e' : applies t σ k ≡ false = ap (λ (f : Facts). applies t f k) (sym same_facts) ∙ e in
             let precondition : n ≡ p'.looked + looked_at σ a.precondition = looked ∙ ap (λ (f : Facts). p'.looked + looked_at f a.precondition) same_facts in

@@ -2,6 +2,7 @@
 use mathlib.Core.Path.{◌≡◌, sym, ap, ◌∙◌}
 use mathlib.Core.Bool.{true, false}
 use mathlib.Core.List.{List}
+use Rattle.std.specs.Prelude.{Err}
 use Prim.Native.Nat.{ℕ, ◌+◌, ◌<◌}
 use lib.ListN.{length}
 use Rattle.meaning.specs.Task.{Task}
@@ -16,7 +17,6 @@ use Rattle.reading.specs.declared.effects.Changed.{Changed}
 use Rattle.layout.specs.Actions.{ActionAt}
 use Rattle.plan.specs.Steps.{state_of, StepTaken, StepAnswer}
 use Rattle.plan.specs.declared.steps.Position.{Position}
-use Rattle.plan.specs.declared.steps.Moved.TheVariants.{Stopped}
 use Rattle.monitors.proofs.TaskRead.{cost_there, applying, looked_at_lem, its_effects}
 
 module _ (ms vs : List ℕ) (i : ℕ) (t : Task) (k : ℕ) (A : ActionAt ms vs i t k) (p : Position)
@@ -30,7 +30,7 @@ module _ (ms vs : List ℕ) (i : ℕ) (t : Task) (k : ℕ) (A : ActionAt ms vs i
   read_so : e.looked ≡ looked_at σ (action_at t k).precondition
   read_so = looked_at_lem ms vs i t k A σ e read
 
-  pub stopped : e.holds ≡ false → StepAnswer t k p (Stopped (p.looked + e.looked))
+  pub stopped : e.holds ≡ false → StepAnswer t k p (Err (p.looked + e.looked))
   stopped false_one = (sym applies_so ∙ false_one, ap (λ (n : ℕ). p.looked + n) read_so)
 
   module _ (true_one : e.holds ≡ true) (a : Changed) (moved : Changes σ ms vs e.next a) where

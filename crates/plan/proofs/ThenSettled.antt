@@ -23,9 +23,8 @@ use Rattle.meaning.specs.Verdict.{met_set, verdict_by, verdict}
 use Rattle.lists.proofs.Entries.{get_d_map}
 use Rattle.task.proofs.Amounts.{cost_bound}
 use Rattle.task.proofs.Spelled.{Spelling, accepted_spelling}
-use Rattle.plan.specs.Judged
 use Rattle.plan.specs.Judged.{Judged, steps_known, judged_by, judged}
-use Rattle.plan.specs.Walked.{given, without_amounts, without_worth, walked}
+use Rattle.plan.specs.Walked.{without_amounts, without_worth, walked}
 use Rattle.settling.specs.Settled.{worth, weight_of, worth_of, arguments_allowed, settled}
 use Rattle.plan.specs.ThenSettled.{priced, with_amounts, then_settle}
 

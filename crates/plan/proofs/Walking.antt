@@ -2,6 +2,7 @@
 use mathlib.Core.Path.{◌≡◌, refl, sym, ap, ◌∙◌, subst⁻¹}
 use mathlib.Core.Bool.{Bool, true, false, cond, ◌&&◌}
 use mathlib.Core.List.{List, [], ◌∷◌}
+use Rattle.std.specs.Prelude.{Result, Err}
 use Prim.Native.Nat.{ℕ, suc, ◌≤◌, ◌<◌}
 use native.Mathlib.Omega.{arith}
 use lib.Dec.{T, leb, ltb}
@@ -14,11 +15,9 @@ use Rattle.task.specs.File.{task_of}
 use Rattle.task.specs.Check
 use Rattle.task.specs.Check.{Answer, check}
 use Rattle.meaning.specs.Literals.{literals}
-use Rattle.task.specs.Answers.{answer as checked, as_sizes, refusal_in}
+use Rattle.task.specs.Answers.{number_of, answer as checked, as_sizes}
 use Rattle.task.specs.declared.Sizes.{Sizes}
 use Rattle.task.specs.declared.Refusal.{Refusal}
-use Rattle.task.specs.declared.Checked.{Checked}
-use Rattle.task.specs.declared.Checked.TheVariants.{Refused}
 use Rattle.lists.proofs.Tests.{as_true}
 use Rattle.task.proofs.Spelled.{Spelling, accepted_spelling}
 use Rattle.task.proofs.Checking.{within}
@@ -52,9 +51,9 @@ not-all_known A (k ∷ ks) h = go (leb A k) refl h (not-all_known A ks)
 
 -- What check answered
 
-module _ (b p : List ℕ) (x : Checked) (e : checked x ≡ check b) where
+module _ (b p : List ℕ) (x : Result Sizes Refusal) (e : checked x ≡ check b) where
   -- a file that is not accepted: its refusal
-  pub turned_down : (f : Refusal) → x ≡ Refused f → (r : Refusal) → r ≡ refusal_in x → refused r.number r.place ≡ walked b p
+  pub turned_down : (r : Refusal) → x ≡ Err r → refused (number_of r.cause) r.place ≡ walked b p
   unfolding judged walked
   turned_down = passed_on (λ (a : Answer). without_worth (literals (task_of b) p) (judged_by b p a)) b x e
 

@@ -1,5 +1,5 @@
 -- What one step, the end of a plan and a whole run give, on marks and values that spell a task.
-use Rattle.std.specs.Prelude.{◌≡◌, Bool, true, false, not, cond, ◌||◌, List, [], map, ℕ, ◌+◌, ◌≤◌, ◌<◌, length, get_or}
+use Rattle.std.specs.Prelude.{◌≡◌, Bool, true, false, not, cond, ◌||◌, List, [], map, ℕ, ◌+◌, ◌≤◌, ◌<◌, length, get_or, Result, Ok, Err}
 use Rattle.lists.specs.Lists.{all, first_failing}
 use Rattle.meaning.specs.Task.{Task, Preference}
 use Rattle.meaning.specs.Meaning.{State as Facts, is_true, opening, after, action_at, applies, seen, preference_at}
@@ -10,17 +10,15 @@ use Rattle.state.specs.Member.{member}
 use Rattle.state.specs.declared.State.{State}
 use Rattle.plan.specs.Walked
 use Rattle.plan.specs.Walked.{Walk, solved, goal_missed, rule_missed, given, without_amounts}
-use Rattle.plan.specs.Answers.{walked_as}
+use Rattle.plan.specs.Answers.{given_as}
 use Rattle.monitor.specs.Packed.{monitor_at}
 use Rattle.monitors.specs.Monitors.{MOST_LOOKED}
 use Rattle.layout.specs.Counting.{AMPLE}
 use Rattle.layout.specs.Rows.{Spells, PreferencesAt}
 use Rattle.layout.specs.Actions.{Noted}
-use Rattle.plan.specs.declared.Walked.{Walked}
+use Rattle.plan.specs.declared.Walked as Declared
 use Rattle.plan.specs.declared.steps.Places.{Places}
 use Rattle.plan.specs.declared.steps.Position.{Position}
-use Rattle.plan.specs.declared.steps.Moved.{Moved}
-use Rattle.plan.specs.declared.steps.Moved.TheVariants.{To, Stopped}
 use Rattle.task.specs.Limits.{MAX_PREFERENCES}
 
 abbrev pub state_of : Position → State
@@ -40,15 +38,15 @@ pub record StepTaken (t : Task) (k : ℕ) (p q : Position) : Type 0 where
   pub cost : q.cost ≡ p.cost + (action_at t k).cost
   pub looked : q.looked ≡ p.looked + looked_at (member (state_of p)) (action_at t k).precondition + looked_effects (member (state_of p)) (action_at t k).effects
 
-abbrev pub StepAnswer : Task → ℕ → Position → Moved → Type 0
-StepAnswer t k p (To q) = StepTaken t k p q
-StepAnswer t k p (Stopped n) =
+abbrev pub StepAnswer : Task → ℕ → Position → Result Position ℕ → Type 0
+StepAnswer t k p (Ok q) = StepTaken t k p q
+StepAnswer t k p (Err n) =
     (applies t (member (state_of p)) k ≡ false) × (n ≡ p.looked + looked_at (member (state_of p)) (action_at t k).precondition)
 
 -- a step costs less than 2 ^ 32, and looks at no more literals than two conditions have
-abbrev pub Little : Position → Moved → Type 0
-Little p (To q) = (q.cost < p.cost + 4294967296) × (q.looked ≤ p.looked + MOST_LOOKED)
-Little p (Stopped n) = Unit {0}
+abbrev pub Little : Position → Result Position ℕ → Type 0
+Little p (Ok q) = (q.cost < p.cost + 4294967296) × (q.looked ≤ p.looked + MOST_LOOKED)
+Little p (Err n) = Unit {0}
 
 -- The end of a plan
 
@@ -91,8 +89,8 @@ pub record End (ms vs : List ℕ) (x : Places) (l : List ℕ) (t : Task) (μ : M
   pub placed : Placed ms vs x t
   pub monitors : MonitorsAre t l μ
 
-abbrev pub EndAnswer : Task → Monitors → Position → Walked → Type 0
-EndAnswer t μ p r = walked_as r ≡ given (last_verdict t (member (state_of p)) μ p.cost) (p.looked + looked_from t (member (state_of p)) [])
+abbrev pub EndAnswer : Task → Monitors → Position → Declared.Walked → Type 0
+EndAnswer t μ p r = given_as r ≡ given (last_verdict t (member (state_of p)) μ p.cost) (p.looked + looked_from t (member (state_of p)) [])
 
 -- A whole plan
 
@@ -112,5 +110,5 @@ pub record Start (ms vs : List ℕ) (x : Places) (starts : List ℕ) (s : State)
   pub actions : Noted t starts
   pub opens : member s ≡ opening t
 
-abbrev pub PlanAnswer : Task → List ℕ → Walked → Type 0
-PlanAnswer t plan r = walked_as r ≡ walked_on t plan
+abbrev pub PlanAnswer : Task → List ℕ → Declared.Walked → Type 0
+PlanAnswer t plan r = given_as r ≡ walked_on t plan

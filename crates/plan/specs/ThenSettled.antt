@@ -1,11 +1,8 @@
 -- Walk followed by settle: the judged plan, with all its amounts.
 use Rattle.std.specs.Prelude.{Bool, List, ℕ}
 use Rattle.meaning.specs.Verdict
-use Rattle.settling.specs.Settled
 use Rattle.settling.specs.Settled.{Settled, worth, settled}
-use Rattle.plan.specs.Judged
 use Rattle.plan.specs.Judged.{Judged}
-use Rattle.plan.specs.Walked
 use Rattle.plan.specs.Walked.{Walk, solved, stopped, goal_missed, rule_missed, Walked, given}
 
 abbrev pub priced : ℕ → (ℕ → Bool) → Settled → Judged

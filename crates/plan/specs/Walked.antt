@@ -3,9 +3,7 @@
 use Rattle.std.specs.Prelude.{Bool, List, ℕ}
 use Rattle.task.specs.File.{task_of}
 use Rattle.meaning.specs.Literals.{literals}
-use Rattle.meaning.specs.Verdict
 use Rattle.meaning.specs.Verdict.{Verdict}
-use Rattle.plan.specs.Judged
 use Rattle.plan.specs.Judged.{Judged, judged}
 
 -- a verdict: solved has cost and the set of the met preferences' numbers; stopped has the first step that doesn't apply,

@@ -34,13 +34,6 @@ pub struct Position {
     pub looked: u64,
 }
 
-// Stopped has how many literals were looked at, those of the precondition among them.
-#[derive(Clone, Copy)]
-pub enum Moved {
-    To(Position),
-    Stopped(u64),
-}
-
 // A step as an index.
 pub fn step_index(k: u8) -> usize
     ensures { result ≡ k }
@@ -48,8 +41,9 @@ pub fn step_index(k: u8) -> usize
     k as usize
 }
 
-// One step by the action that row `from` opens.
-pub fn step(marks: &[u8], values: &[u8], from: usize, p: Position) -> Moved
+// One step by the action that row `from` opens. Where it doesn't apply, how many literals were looked at, those of its precondition
+// among them.
+pub fn step(marks: &[u8], values: &[u8], from: usize, p: Position) -> Result<Position, u64>
     requires rows { Rows marks.now values.now × (from < length marks.now) × Roomy p }
     requires some_action { SomeAction marks.now values.now from }
     ensures little { Little p result }
@@ -62,10 +56,10 @@ pub fn step(marks: &[u8], values: &[u8], from: usize, p: Position) -> Moved
     let pre = conditions::condition(marks, values, from + 1, s);
     let looked = p.looked + (pre.looked as u64);
     if !pre.holds {
-        return Moved::Stopped(looked);
+        return Err(looked);
     }
     let next = effects::after(marks, values, pre.next, s);
-    Moved::To(Position {
+    Ok(Position {
         low: next.low,
         high: next.high,
         cost: p.cost + (rows::value_at(values, from) as u64),
@@ -87,18 +81,27 @@ fn finish(marks: &[u8], values: &[u8], places: Places, p: Position, ms: &mut [u8
     let g = conditions::condition(marks, values, places.goal, s);
     let looked = p.looked + (seen as u64) + (g.looked as u64);
     if !g.holds {
-        return Walked::Given(Verdict::GoalMissed, looked);
+        return Walked {
+            verdict: Verdict::GoalMissed,
+            looked,
+        };
     }
     let found = met::find(marks, places.preferences, &*ms);
     if found.kept < found.number {
-        return Walked::Given(Verdict::RuleMissed(found.kept), looked);
+        return Walked {
+            verdict: Verdict::RuleMissed(found.kept),
+            looked,
+        };
     }
     let ones = found.met;
     let solution = Solution {
         cost: p.cost,
         met: ones.low,
     };
-    Walked::Given(Verdict::Solved(solution), looked)
+    Walked {
+        verdict: Verdict::Solved(solution),
+        looked,
+    }
 }
 
 // The position with so many more literals looked at.
@@ -135,8 +138,7 @@ fn follow(
         cost: 0,
         looked: 0,
     };
-    let mut i = 0;
-    while i < plan.len() {
+    for i in 0..plan.len() {
         let here = State {
             low: p.low,
             high: p.high,
@@ -149,14 +151,16 @@ fn follow(
             looked_on(p, seen),
         );
         match moved {
-            Moved::To(q) => {
+            Ok(q) => {
                 p = q;
             }
-            Moved::Stopped(looked) => {
-                return Walked::Given(Verdict::Stopped(i), looked);
+            Err(looked) => {
+                return Walked {
+                    verdict: Verdict::Stopped(i),
+                    looked,
+                };
             }
         }
-        i += 1;
     }
     finish(marks, values, places, p, &mut *ms)
 }

@@ -1,6 +1,6 @@
 use borrow.Author.Rules.{rules}
-use mathlib.Core.Path.{sym, ◌∙◌}
-use Prim.Native.Nat.{◌-◌}
+use mathlib.Core.Path.{◌≡◌, sym, ◌∙◌}
+use lib.ListN.{length}
 use native.Mathlib.Nat.{zero-add}
 use native.Mathlib.Omega.{arith}
 use lib.Dec.{leb}
@@ -28,4 +28,5 @@ loop-i-preserved c =
 pub returns : goal.returns
 returns c =
     let a = c.args in
-    sym (take_until_end (leb a.actions) a.plan.now c.loop-i.i (search rules)) ∙ c.loop-i.invariant
+    let at_end : length a.plan.now ≡ c.loop-i.i = omega arith in
+    at_end ∙ sym (take_until_end (leb a.actions) a.plan.now c.loop-i.i (search rules)) ∙ c.loop-i.invariant

@@ -6,7 +6,7 @@ use Rattle.task.specs.File.{task_of}
 use Rattle.task.specs.Answers.{as_sizes}
 use Rattle.task.proofs.Answered.{Limited, limited}
 use Rattle.layout.proofs.Parts.{parts_rows, parts_spelled}
-use Rattle.plan.specs.Answers.{walked_as}
+use Rattle.plan.specs.Answers.{given_as}
 use Rattle.plan.specs.Walked.{refused}
 use Rattle.plan.proofs.Walking.{too_long, unknown, actions_fit, run_on}
 use Rattle.plan.proofs.walk_on.Goals as goal
@@ -18,14 +18,13 @@ parts c = limited c.args.file.now (as_sizes c.args.z) c.requires
 pub returns-then-plan-gt-MAX_STEPS : goal.returns-then-plan-gt-MAX_STEPS
 returns-then-plan-gt-MAX_STEPS c =
     let a = c.args in
-    c.refuse.ensures ∙ too_long a.file.now a.plan.now a.z c.requires (search rules)
+    rw c.at.ensures (too_long a.file.now a.plan.now a.z c.requires (search rules))
 
 pub returns-then-known-plan : goal.returns-then-known-plan
 returns-then-known-plan c =
     let a = c.args in
-    c.refuse-then-known-plan.ensures
-    ∙ ap (refused 11) c.steps_known-known.ensures
-    ∙ unknown a.file.now a.plan.now a.z c.requires (search rules) (omega (arith, c.if-known-plan.true, c.steps_known-known.ensures))
+    rw c.at-then-known-plan.ensures (ap (refused 11) c.steps_known-known.ensures
+    ∙ unknown a.file.now a.plan.now a.z c.requires (search rules) (omega (arith, c.if-known-plan.true, c.steps_known-known.ensures)))
 
 -- from where the run is called
 pub overflow_add-middle : goal.overflow_add-middle
@@ -61,4 +60,4 @@ pub returns : goal.returns
 returns c =
     let a = c.args in
     run_on a.file.now a.plan.now a.z c.requires (search rules) (omega (arith, c.if-known-plan.false, c.steps_known-known.ensures))
-    (walked_as c.run.result) c.run.ensures
+    (given_as c.run.result) c.run.ensures

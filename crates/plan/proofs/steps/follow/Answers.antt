@@ -1,14 +1,14 @@
 use borrow.Author.Rules.{rules}
 use mathlib.Core.Path.{◌≡◌, refl, subst, ◌∙◌, sym}
-use Prim.Native.Nat.{ℕ, ◌-◌, ◌<◌}
+use Prim.Native.Nat.{ℕ, ◌<◌}
 use native.Mathlib.Omega.{arith}
 use lib.ListN.{length, get_or}
+use Rattle.std.specs.Prelude.{Result, Ok, Err}
 use Rattle.meaning.specs.Task.{Task}
 use Rattle.layout.specs.Counting.{AMPLE}
 use Rattle.layout.specs.Actions.{ActionAt}
 use Rattle.plan.specs.Steps.{StepAnswer, Little, Start}
-use Rattle.plan.specs.declared.steps.Moved.{Moved}
-use Rattle.plan.specs.declared.steps.Moved.TheVariants.{To, Stopped}
+use Rattle.plan.specs.declared.steps.Position.{Position}
 use Rattle.plan.proofs.Running.{watched_ones, known, begins, ends, stops, goes_on}
 use Rattle.plan.proofs.steps.follow.Goals as goal
 use Rattle.plan.proofs.steps.follow.Goals.{After-step-moved, After-step_index}
@@ -30,7 +30,7 @@ action c t S =
 
 -- a step by that action
 moves : (c : After-step-moved)
-    → (r : Moved) → c.step-moved.result ≡ r → (t : Task)
+    → (r : Result Position ℕ) → c.step-moved.result ≡ r → (t : Task)
     → Start c.args.marks.now c.args.values.now c.args.places c.args.starts.now c.args.s t
     → StepAnswer t c.step_index.result c.looked_on.result r
 moves c r e t S =
@@ -77,27 +77,21 @@ step-moved-requires c =
       some_action = (c.requires.start.0, c.step_index.result, action (goal.at.step-moved-requires c).After-step_index c.requires.start.0 c.requires.start.1);
     }
 
-pub shape_of-ms-in-Stopped : goal.shape_of-ms-in-Stopped
-shape_of-ms-in-Stopped c =
+pub shape_of-ms-in-Err : goal.shape_of-ms-in-Err
+shape_of-ms-in-Err c =
     c.watch-seen.auto.ms ∙ c.loop-i.invariant.all_there ∙ sym c.requires.all_below.2.sixteen
 
-pub returns-in-Stopped : goal.returns-in-Stopped
-returns-in-Stopped c = λ t S.
+pub returns-in-Err : goal.returns-in-Err
+returns-in-Err c = λ t S.
     stops t c.args.plan.now c.loop-i.p c.loop-i.ms c.loop-i.i (c.loop-i.invariant.stands t S) (search rules) c.step_index.result c.step_index.ensures
     c.looked_on.result c.looked_on.ensures.0 c.looked_on.ensures.1 c.watch-seen.result c.looked_on.ensures.2
     c.watch-seen.new.ms (c.watch-seen.ensures.for_preferences t.preferences (watched_ones S))
-    _ (moves (goal.at.returns-in-Stopped c).After-step-moved (Stopped c.in-Stopped.looked) c.in-Stopped.is t S)
-
-pub overflow_add-i : goal.overflow_add-i
-overflow_add-i c =
-    let left = c.loop-i-test in
-    let short = c.requires.rows.1 in
-    search rules
+    _ (moves (goal.at.returns-in-Err c).After-step-moved (Err c.in-Err.looked) c.in-Err.is t S)
 
 pub loop-i-preserved : goal.loop-i-preserved
 loop-i-preserved c =
-    let q = c.in-To.q in
-    let few = subst (Little c.looked_on.result) c.in-To.is c.step-moved.ensures.little in
+    let q = c.in-Ok.q in
+    let few = subst (Little c.looked_on.result) c.in-Ok.is c.step-moved.ensures.little in
     record {
       steps_left = search rules;
       little = omega (arith, c.loop-i.invariant.little, few, c.looked_on.ensures.1);
@@ -107,7 +101,7 @@ loop-i-preserved c =
           goes_on t c.args.plan.now c.loop-i.p c.loop-i.ms c.loop-i.i (c.loop-i.invariant.stands t S) (search rules) c.step_index.result c.step_index.ensures
           c.looked_on.result c.looked_on.ensures.0 c.looked_on.ensures.1 c.watch-seen.result c.looked_on.ensures.2
           c.watch-seen.new.ms (c.watch-seen.ensures.for_preferences t.preferences (watched_ones S))
-          q (moves (goal.at.loop-i-preserved c).After-step-moved (To q) c.in-To.is t S);
+          q (moves (goal.at.loop-i-preserved c).After-step-moved (Ok q) c.in-Ok.is t S);
     }
 
 pub finish-requires : goal.finish-requires
