@@ -34,19 +34,15 @@ fn put_met(out: &mut [u8], c: Cursor, kind: Kind, s: u32) -> Cursor
     ensures { Wrote out.old c (clause_rows (met_clause s (s + 1) (as_kind kind))) result out.new }
 {
     let b = s + 1;
-    let k = writer::put_row(&mut *out, c, marks::CLAUSE, 0);
     match kind {
-        Kind::Always => writer::put_row(&mut *out, k, marks::LACKS, b),
-        Kind::Sometime => writer::put_row(&mut *out, k, marks::HOLDS, s),
-        Kind::AtEnd => writer::put_row(&mut *out, k, marks::HOLDS, s),
+        Kind::Sometime | Kind::AtEnd | Kind::Within(_) => {
+            writer::put_single(&mut *out, c, marks::HOLDS, s)
+        }
         Kind::AtMostOnce => {
-            let k = writer::put_row(&mut *out, k, marks::HOLDS, s);
+            let k = writer::put_single(&mut *out, c, marks::HOLDS, s);
             writer::put_row(&mut *out, k, marks::LACKS, b)
         }
-        Kind::SometimeBefore => writer::put_row(&mut *out, k, marks::LACKS, b),
-        Kind::SometimeAfter => writer::put_row(&mut *out, k, marks::LACKS, b),
-        Kind::Within(_) => writer::put_row(&mut *out, k, marks::HOLDS, s),
-        Kind::AlwaysWithin(_) => writer::put_row(&mut *out, k, marks::LACKS, b),
+        _ => writer::put_single(&mut *out, c, marks::LACKS, b),
     }
 }
 
@@ -57,17 +53,14 @@ fn put_missed(out: &mut [u8], c: Cursor, kind: Kind, s: u32) -> Cursor
 {
     let b = s + 1;
     match kind {
-        Kind::Always => writer::put_single(&mut *out, c, marks::HOLDS, b),
-        Kind::Sometime => writer::put_single(&mut *out, c, marks::LACKS, s),
-        Kind::AtEnd => writer::put_single(&mut *out, c, marks::LACKS, s),
+        Kind::Sometime | Kind::AtEnd | Kind::Within(_) => {
+            writer::put_single(&mut *out, c, marks::LACKS, s)
+        }
         Kind::AtMostOnce => {
             let k = writer::put_single(&mut *out, c, marks::LACKS, s);
             writer::put_single(&mut *out, k, marks::HOLDS, b)
         }
-        Kind::SometimeBefore => writer::put_single(&mut *out, c, marks::HOLDS, b),
-        Kind::SometimeAfter => writer::put_single(&mut *out, c, marks::HOLDS, b),
-        Kind::Within(_) => writer::put_single(&mut *out, c, marks::LACKS, s),
-        Kind::AlwaysWithin(_) => writer::put_single(&mut *out, c, marks::HOLDS, b),
+        _ => writer::put_single(&mut *out, c, marks::HOLDS, b),
     }
 }
 
@@ -102,8 +95,7 @@ fn put_forgone(out: &mut [u8], c: Cursor, x: Closing) -> Cursor
     requires { Room c out.old × (x.s < BEYOND) }
     ensures { Wrote out.old c (forgone_rows x.s x.ended (closed x)) result out.new }
 {
-    let kind = x.kind;
-    let k = put_missed(&mut *out, c, kind, x.s);
+    let k = put_missed(&mut *out, c, x.kind, x.s);
     put_never(&mut *out, k, x.hard, x.ended)
 }
 
@@ -121,14 +113,12 @@ fn put_closing(out: &mut [u8], c: Cursor, x: Closing) -> Cursor
     requires { Room c out.old × Preceded x.s }
     ensures { Wrote out.old c (preference_closings x.first x.s x.ended (closed x)) result out.new }
 {
-    let kind = x.kind;
-    let s = x.s;
     let k = open_closing(&mut *out, c, 0, x);
-    let k = put_met(&mut *out, k, kind, s);
-    let k = put_closed(&mut *out, k, s);
+    let k = put_met(&mut *out, k, x.kind, x.s);
+    let k = put_closed(&mut *out, k, x.s);
     let k = open_closing(&mut *out, k, x.weight, x);
     let k = put_forgone(&mut *out, k, x);
-    put_closed(&mut *out, k, s)
+    put_closed(&mut *out, k, x.s)
 }
 
 // Collect and forgo of the preference at row `at`.
@@ -177,14 +167,12 @@ pub fn put_closings(
 {
     let mut k = c;
     let mut s = facts;
-    let mut i = 0;
-    while i < starts.len() {
+    for &at in starts {
         if writer::OVERFULL <= k.next {
             return k;
         }
-        k = closing_at(&mut *out, k, marks, values, starts[i], s == facts, s, ended);
+        k = closing_at(&mut *out, k, marks, values, at, s == facts, s, ended);
         s += 3;
-        i += 1;
     }
     k
 }
