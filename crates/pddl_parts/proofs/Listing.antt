@@ -6,7 +6,7 @@ use Prim.Native.Nat.{ℕ, ◌+◌, ◌*◌, ◌-◌, ◌≤◌, ◌<◌}
 use native.Mathlib.Omega.{arith}
 use lib.Dec.{T, leb, ltb}
 use lib.ListN.{length, drop, get_or}
-use borrow.Author.Tests.{le-leb, leb-true, ltb-true, ltb-false}
+use borrow.Author.Tests.{le-leb, le-ltb, leb-true, ltb-true, ltb-false}
 use Rattle.lists.specs.Lists.{all}
 use Rattle.task.specs.TaskRows.{Row, row}
 use Rattle.task.specs.File.{paired}
@@ -37,6 +37,9 @@ module _ (least most : ℕ) (ms : List ℕ) (i : ℕ) where
       go : (b : Bool) → ltb i (length ms) ≡ b → (b && between least most (get_or ms i 0)) ≡ false → P
       go true h e = other (ltb-true i (length ms) h) e
       go false h e = past (ltb-false i (length ms) h)
+
+  pub none_past : length ms ≤ i → mark_at least most ms i ≡ false
+  none_past h = rw (le-ltb i (length ms) h)
 
 -- what stops a range stops a narrower one
 outside : (a b c d m : ℕ) → a ≤ c → d ≤ b → between a b m ≡ false → between c d m ≡ false

@@ -78,13 +78,17 @@ pub fn put_list(
     ensures from_le_next { (from ≤ result.next) × (result.next ≤ length marks.now) × (result.at ≤ at + 30 * (result.next - from)) }
 {
     let mut k = at;
-    let mut i = from;
-    while has_mark(marks, i, least, most) {
+    for i in from..marks.len() {
+        if !has_mark(marks, i, least, most) {
+            return Emitted { at: k, next: i };
+        }
         k = text::put_byte(&mut *out, k, b' ');
         k = put_row(&mut *out, k, marks[i], rows::value_at(values, i));
-        i += 1;
     }
-    Emitted { at: k, next: i }
+    Emitted {
+        at: k,
+        next: marks.len(),
+    }
 }
 
 // Writes the clause that row `from` opens.

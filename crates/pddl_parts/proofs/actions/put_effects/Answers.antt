@@ -1,6 +1,6 @@
 use borrow.Author.Rules.{rules}
 use mathlib.Core.Path.{sym, ◌∙◌}
-use Prim.Native.Nat.{◌+◌, ◌-◌, ◌<◌}
+use Prim.Native.Nat.{◌+◌, ◌<◌}
 use lib.ListN.{length}
 use Rattle.pddl_parts.proofs.Listing.{there}
 use Rattle.pddl_parts.proofs.Emitting.{prefix, looping, loop_part, looped, all_done}

@@ -1,11 +1,6 @@
 -- The text so far and the list from the next row on are what the contract asks: each turn is `one_more`, the end `listed_all`.
-use Prim.Native.Nat.{◌-◌}
-use lib.ListN.{length}
 use Rattle.pddl_parts.proofs.Listing.{Listing}
 use Rattle.pddl_parts.proofs.conditions.put_list.Given as goal
 
-abbrev pub invariant-loop-out : goal.invariant-loop-out
-invariant-loop-out l = Listing l.initial.out l.at l.marks l.values l.from l.least l.most l.out l.k l.i
-
-abbrev pub decreases-loop-out : goal.decreases-loop-out
-decreases-loop-out l = length l.marks - l.i
+abbrev pub invariant-loop-i : goal.invariant-loop-i
+invariant-loop-i l = Listing l.initial.out l.at l.marks l.values l.from l.least l.most l.out l.k l.i
