@@ -7,7 +7,7 @@ use native.Mathlib.Nat.{zero-add}
 use native.Mathlib.Numerals.{add-one}
 use native.Mathlib.Omega.{arith}
 use lib.Dec.{T}
-use lib.ListN.{length, drop, get_or}
+use lib.ListN.{length, drop, get_or, length-append, length-drop}
 use lib.Seq.{drop-cons, drop-nil}
 use Rattle.lists.proofs.Tests.{as_false, tests}
 use Rattle.text.specs.Ascii.{ascii}
@@ -69,6 +69,10 @@ module _ (t : List ℕ) (k n : ℕ) where
             ∙ ap (λ (m : ℕ). step_line m ++ (NEWLINE ∷ drop z t)) (sym c.same);
         inside = c.inside;
       }
+
+pub not_empty : (t : List ℕ) (n z : ℕ) → Begins t n z → 0 < z
+not_empty t n z b =
+    omega (arith, ap length b.is, length-append (step_line n) (NEWLINE ∷ drop z t), length-drop z t, b.inside)
 
 -- What comes after it
 

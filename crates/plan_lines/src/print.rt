@@ -22,10 +22,8 @@ pub fn put_plan(plan: &[u8], out: &mut [u8]) -> usize
     ensures upper_bound { result ≤ 7 * length plan.now }
 {
     let mut k = 0;
-    let mut i = 0;
-    while i < plan.len() {
-        k = put_step(&mut *out, k, plan[i]);
-        i += 1;
+    for step in plan {
+        k = put_step(&mut *out, k, *step);
     }
     k
 }

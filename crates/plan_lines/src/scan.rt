@@ -1,5 +1,5 @@
 // A plan's text: the lines of steps read at once, other lines byte by byte.
-ghost use Rattle.std.specs.Prelude.{◌≡◌, true, ◌+◌, ◌*◌, ◌-◌, ◌^◌, ◌<◌, ◌≤◌, length};
+ghost use Rattle.std.specs.Prelude.{◌≡◌, true, ◌+◌, ◌*◌, ◌-◌, ◌^◌, ◌<◌, ◌≤◌, length, IfSome};
 ghost use Rattle.task.specs.Limits.{MAX_TEXT};
 ghost use Rattle.text.specs.Area.{written};
 ghost use Rattle.text.specs.Text.{is_digit};
@@ -9,7 +9,7 @@ ghost use Rattle.plan_lines.specs.Scan.{follow, next_line, advance, is_opening, 
 ghost use Rattle.plan_lines.specs.Scan.{Numbered, Closes, Begins};
 
 // What stands of a line: nothing, `;`, `(`, `(a`, `(a0`, `(aN` and `(aN)` with its number, or another form.
-#[derive(Clone, Copy)]
+#[derive(Clone, Copy, PartialEq, Eq)]
 pub enum Mode {
     Opening,
     Comment,
@@ -22,17 +22,11 @@ pub enum Mode {
 }
 
 // The present line, its number, and how many steps stand in the lines before.
-#[derive(Clone, Copy)]
+#[derive(Clone, Copy, PartialEq, Eq)]
 pub struct Scan {
     pub mode: Mode,
     pub line: usize,
     pub steps: usize,
-}
-
-fn is_digit(b: u8) -> bool
-    ensures { result ≡ is_digit b }
-{
-    (b'0' <= b) & (b <= b'9')
 }
 
 // A number with one digit more, 255 where it is larger.
@@ -62,7 +56,7 @@ fn after_letter(b: u8) -> Mode
     if b == b'0' {
         return Mode::Zero;
     }
-    if is_digit(b) {
+    if b.is_ascii_digit() {
         Mode::Digits(b - b'0')
     } else {
         Mode::Other
@@ -74,7 +68,7 @@ fn after_digits(n: u8, b: u8) -> Mode
 {
     if b == b')' {
         Mode::Closed(n)
-    } else if is_digit(b) {
+    } else if b.is_ascii_digit() {
         Mode::Digits(with_digit(n, b))
     } else {
         Mode::Other
@@ -148,97 +142,68 @@ fn advanced(s: Scan, b: u8) -> Scan
 pub fn between_lines(s: Scan) -> bool
     ensures { result ≡ is_opening s.mode }
 {
-    let m = s.mode;
-    match m {
-        Mode::Opening => true,
-        _ => false,
-    }
+    s.mode == Mode::Opening
 }
 
-// The line of a step at the start of a text, and how many bytes it has: 0 where no such line was found.
-#[derive(Clone, Copy)]
+// The line of a step at the start of a text, and how many bytes it has.
+#[derive(Clone, Copy, PartialEq, Eq)]
 pub struct StepLine {
     pub step: u8,
     pub size: usize,
 }
 
-fn no_line() -> StepLine
-    ensures { result.size ≡ 0 }
-{
-    StepLine { step: 0, size: 0 }
-}
-
 // The line of step n, where `)` and a newline stand from byte k on.
-fn closed_line(t: &[u8], k: usize, n: u8) -> StepLine
+fn closed_line(t: &[u8], k: usize, n: u8) -> Option<StepLine>
     requires { k + 2 ≤ length t.now }
-    ensures { 0 < result.size → Closes t.now k n result.step result.size }
+    ensures { IfSome result (λ l. Closes t.now k n l.step l.size) }
 {
-    if t[k] != b')' {
-        return no_line();
+    if t[k] != b')' || t[k + 1] != b'\n' {
+        return None;
     }
-    if t[k + 1] != b'\n' {
-        return no_line();
-    }
-    StepLine {
+    Some(StepLine {
         step: n,
         size: k + 2,
-    }
+    })
 }
 
 // The line of a step whose number has the first digit given. One of 250 or more is not looked for.
-fn numbered_line(t: &[u8], first: u8) -> StepLine
+fn numbered_line(t: &[u8], first: u8) -> Option<StepLine>
     requires { (3 ≤ length t.now) × Numbered t.now 3 first }
-    ensures { 0 < result.size → Begins t.now result.step result.size }
+    ensures { IfSome result (λ l. Begins t.now l.step l.size) }
 {
-    let size = t.len();
     let mut n = first;
-    let mut k = 3;
-    while 2 <= size - k {
+    for k in 3..t.len() - 1 {
         let b = t[k];
-        if !is_digit(b) {
+        if !b.is_ascii_digit() {
             return closed_line(t, k, n);
         }
-        if n == 0 {
-            return no_line();
-        }
-        if 24 < n {
-            return no_line();
+        if n == 0 || 24 < n {
+            return None;
         }
         n = 10 * n + (b - b'0');
-        k += 1;
     }
-    no_line()
+    None
 }
 
 // The line of a step that a text begins with.
-fn step_line(t: &[u8]) -> StepLine
-    ensures { 0 < result.size → Begins t.now result.step result.size }
+fn step_line(t: &[u8]) -> Option<StepLine>
+    ensures { IfSome result (λ l. Begins t.now l.step l.size) }
 {
-    if t.len() < 5 {
-        return no_line();
-    }
-    if t[0] != b'(' {
-        return no_line();
-    }
-    if t[1] != b'a' {
-        return no_line();
+    if t.len() < 5 || t[0] != b'(' || t[1] != b'a' {
+        return None;
     }
     let b = t[2];
-    if !is_digit(b) {
-        return no_line();
+    if !b.is_ascii_digit() {
+        return None;
     }
     numbered_line(t, b - b'0')
 }
 
 // The line of a step that begins here, where no line is begun.
-fn line_here(s: Scan, t: &[u8]) -> StepLine
-    ensures { 0 < result.size → (is_opening s.mode ≡ true) × Begins t.now result.step result.size }
+fn line_here(s: Scan, t: &[u8]) -> Option<StepLine>
+    ensures { IfSome result (λ l. (is_opening s.mode ≡ true) × Begins t.now l.step l.size) }
 {
-    if between_lines(s) {
-        step_line(t)
-    } else {
-        no_line()
-    }
+    if between_lines(s) { step_line(t) } else { None }
 }
 
 // Writes the step of a line.
@@ -246,11 +211,8 @@ fn put_step(m: Mode, out: &mut [u8], at: usize)
     requires { at + 1 < 2 ^ 64 }
     ensures { out.new ≡ written (step_of m) at out.old }
 {
-    match m {
-        Mode::Closed(n) => {
-            text::put_byte(out, at, n);
-        }
-        _ => {}
+    if let Mode::Closed(n) = m {
+        text::put_byte(out, at, n);
     }
 }
 
@@ -275,8 +237,7 @@ pub fn fill(text: &[u8], out: &mut [u8]) -> Scan
     let mut s = at_line(0, 0);
     let mut i = 0;
     while i < text.len() {
-        let l = line_here(s, &text[i..]);
-        if 0 < l.size {
+        if let Some(l) = line_here(s, &text[i..]) {
             text::put_byte(&mut *out, s.steps, l.step);
             s = at_line(s.line + 1, s.steps + 1);
             i += l.size;

@@ -1,27 +1,13 @@
 use borrow.Author.Rules.{rules}
-use Prim.Native.Nat.{◌-◌}
-use Rattle.text.proofs.Writing.{same_size}
-use Rattle.plan_lines.proofs.Printing.{no_lines, one_line_more, all_lines}
+use Rattle.plan_lines.proofs.Printing.{no_lines, one_line_more}
 use Rattle.plan_lines.proofs.print.put_plan.Goals as goal
 
-pub loop-i-init : goal.loop-i-init
-loop-i-init c = let a = c.args in (search rules, search rules, no_lines a.out.now a.plan.now)
+pub loop-step-init : goal.loop-step-init
+loop-step-init c = let a = c.args in (search rules, no_lines a.out.now a.plan.now)
 
-pub loop-i-preserved : goal.loop-i-preserved
-loop-i-preserved c =
+pub loop-step-preserved : goal.loop-step-preserved
+loop-step-preserved c =
     let a = c.args in (
       search rules,
-      search rules,
-      one_line_more a.out.now a.plan.now c.loop-i.out c.put_step-k.new.out c.loop-i.i c.loop-i.k c.put_step-k.result (search rules) c.loop-i.invariant.2 c.put_step-k.ensures.wrote,
+      one_line_more a.out.now a.plan.now c.loop-step.out c.put_step-k.new.out c.loop-step.step-index c.loop-step.k c.put_step-k.result (search rules) c.loop-step.invariant.1 c.put_step-k.ensures.wrote,
     )
-
-pub shape_of-out : goal.shape_of-out
-shape_of-out c = same_size c.loop-i.invariant.2
-
-pub returns : goal.returns
-returns c =
-    let a = c.args in
-    record {
-      filled = all_lines a.out.now a.plan.now c.loop-i.out c.loop-i.i c.loop-i.k (search rules) c.loop-i.invariant.2;
-      upper_bound = search rules;
-    }

@@ -3,9 +3,6 @@ use borrow.Author.Tests.{ne_eqb}
 use Rattle.text.specs.Area.{written}
 use Rattle.plan_lines.proofs.scan.put_byte.Goals as goal
 
-pub returns-then-b-eq10 : goal.returns-then-b-eq10
-returns-then-b-eq10 c = rw c.if-b-eq10.true c.put_step.ensures
-
 pub returns-else-b-eq10 : goal.returns-else-b-eq10
 unfolding written
 returns-else-b-eq10 c = rw (ne_eqb _ 10 c.if-b-eq10.false)

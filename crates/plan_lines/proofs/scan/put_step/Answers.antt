@@ -3,9 +3,6 @@ use Rattle.text.specs.Area.{written}
 use Rattle.plan_lines.proofs.Modes.{no_step}
 use Rattle.plan_lines.proofs.scan.put_step.Goals as goal
 
-pub returns-in-Closed : goal.returns-in-Closed
-returns-in-Closed c = rw c.in-Closed.is c.put_byte.ensures.area
-
 pub returns-in_default : goal.returns-in_default
 unfolding written
 returns-in_default c = rw (no_step c.args.m c.in_default.not-Closed)
