@@ -11,11 +11,10 @@ use Rattle.task.specs.File
 use Rattle.task.specs.File.{task_of}
 use Rattle.task.specs.Check
 use Rattle.task.specs.Check.{check}
-use Rattle.task.specs.Answers.{answer as checked, as_sizes, refusal_in}
+use Rattle.std.specs.Prelude.{Result, Ok, Err}
+use Rattle.task.specs.Answers.{answer as checked, as_sizes, number_of}
 use Rattle.task.specs.declared.Sizes.{Sizes}
 use Rattle.task.specs.declared.Refusal.{Refusal}
-use Rattle.task.specs.declared.Checked.{Checked}
-use Rattle.task.specs.declared.Checked.TheVariants.{Accepted, Refused}
 use Rattle.lists.proofs.Tests.{both_true}
 use Rattle.task.proofs.Spelled.{accepted_spelling}
 use Rattle.task.proofs.Answered.{parts_spell}
@@ -26,7 +25,6 @@ use Rattle.pddl_text.specs.Writing.{SpelledShort, OfTask}
 use Rattle.pddl_text.specs.Outcomes.{Outcome, written, refused, both_fit, fitted, outcome_by, outcome, domain_after, problem_after, outcome_over, domain_over, problem_over}
 use Rattle.pddl_text.specs.Answers.{answer, DomainPut, ProblemPut, TextsAnswer, DomainLeft, ProblemLeft}
 use Rattle.pddl_text.specs.declared.Lengths.{Lengths}
-use Rattle.pddl_text.specs.declared.Outcome.{Outcome as Written}
 use Rattle.pddl_text.proofs.Longest.{longest}
 
 -- Whether both fit
@@ -71,14 +69,14 @@ module _ (b domain problem : List ℕ) where
       → domain' ≡ domain_after (task_of b) domain o → problem' ≡ problem_after (task_of b) problem o → Due o domain' problem'
   by_outcome o h d p = (h, (d ∙ ap (domain_after (task_of b) domain) h, p ∙ ap (problem_after (task_of b) problem) h))
 
-  pub turned_down : {x : Checked} {f : Refusal} → x ≡ Refused f → checked x ≡ check b → (r : Refusal) → r ≡ refusal_in x → Due (refused r.number r.place) domain problem
+  pub turned_down : {x : Result Sizes Refusal} {f : Refusal} → x ≡ Err f → checked x ≡ check b → Due (refused (number_of f.cause) f.place) domain problem
   unfolding outcome
-  turned_down {x} {f} q e r says =
-      by_outcome (refused r.number r.place)
-      (ap (λ (g : Refusal). refused g.number g.place) (says ∙ ap refusal_in q) ∙ ap (outcome_by b (length domain) (length problem)) (sym (ap checked q) ∙ e))
+  turned_down {x} {f} q e =
+      by_outcome (refused (number_of f.cause) f.place)
+      (ap (outcome_by b (length domain) (length problem)) (sym (ap checked q) ∙ e))
       refl refl
 
-module _ (b : List ℕ) {x : Checked} {z : Sizes} (q : x ≡ Accepted z) (e : checked x ≡ check b) where
+module _ (b : List ℕ) {x : Result Sizes Refusal} {z : Sizes} (q : x ≡ Ok z) (e : checked x ≡ check b) where
   accepted : check b ≡ Check.accepted (as_sizes z)
   accepted = sym e ∙ ap checked q
 
@@ -103,7 +101,7 @@ module _ (b : List ℕ) {x : Checked} {z : Sizes} (q : x ≡ Accepted z) (e : ch
     pub has_preferences : (z.preferences ≡ 0 → ⊥) → Due b domain problem (refused 13 0) domain problem
     has_preferences h = by_outcome b domain problem (refused 13 0) (rw (ne_eqb z.preferences 0 h) at on_task) refl refl
 
-    pub texts_put : z.preferences ≡ 0 → (r : Written) {domain' problem' : List ℕ} → OfTask z.facts marks_in values_in (TextsAnswer domain problem r)
+    pub texts_put : z.preferences ≡ 0 → (r : Result Lengths Refusal) {domain' problem' : List ℕ} → OfTask z.facts marks_in values_in (TextsAnswer domain problem r)
         → OfTask z.facts marks_in values_in (DomainLeft domain r domain') → OfTask z.facts marks_in values_in (ProblemLeft problem r problem')
         → Due b domain problem (answer r) domain' problem'
     texts_put h r fits d p =

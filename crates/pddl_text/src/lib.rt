@@ -7,13 +7,14 @@ ghost use Rattle.std.specs.Prelude.{◌≡◌, ◌≤◌};
 ghost use Rattle.task.specs.Rows.{Rows};
 ghost use Rattle.task.specs.Limits.{MAX_FACTS};
 ghost use Rattle.pddl_text.specs.Writing.{SpelledOver, SpelledShort, OfTask};
-ghost use Rattle.pddl_text.specs.Outcomes.{refused, both_fit, outcome_over, domain_over, problem_over};
+ghost use Rattle.pddl_text.specs.Outcomes.{both_fit, outcome_over, domain_over, problem_over};
 ghost use Rattle.pddl_text.specs.Answers.{answer, TextsAnswer, DomainPut, ProblemPut, DomainLeft, ProblemLeft};
 
-use task::{Checked, Refusal, refused};
+use task::Refusal;
+use task::refused::Cause;
 
 // How long the two texts are.
-#[derive(Clone, Copy)]
+#[derive(Clone, Copy, PartialEq, Eq)]
 pub struct Lengths {
     pub domain: usize,
     pub problem: usize,
@@ -21,19 +22,6 @@ pub struct Lengths {
 
 // An area of this length holds every domain and every problem (proofs/Longest).
 pub const MAX_PDDL: usize = 262144;
-
-// The texts stand at the starts of their areas, or a refusal has left both areas as they were.
-#[derive(Clone, Copy)]
-pub enum Outcome {
-    Written(Lengths),
-    Refused(Refusal),
-}
-
-fn refuse(number: u8) -> Outcome
-    ensures { answer result ≡ refused number 0 }
-{
-    Outcome::Refused(Refusal { number, place: 0 })
-}
 
 // Writes both texts, each as far as its area reaches.
 fn put_both(
@@ -73,35 +61,31 @@ fn put_texts(
     facts: usize,
     domain: &mut [u8],
     problem: &mut [u8],
-) -> Outcome
+) -> Result<Lengths, Refusal>
     requires { Rows marks.now values.now × (facts ≤ MAX_FACTS) × SpelledShort facts marks.now values.now }
     ensures of_task { OfTask facts marks.now values.now (TextsAnswer domain.old problem.old result) }
     ensures of_task_2 { OfTask facts marks.now values.now (DomainLeft domain.old result domain.new) }
     ensures of_task_3 { OfTask facts marks.now values.now (ProblemLeft problem.old result problem.new) }
 {
     if (MAX_PDDL <= domain.len()) & (MAX_PDDL <= problem.len()) {
-        let n = put_both(marks, values, facts, &mut *domain, &mut *problem);
-        return Outcome::Written(n);
+        return Ok(put_both(marks, values, facts, &mut *domain, &mut *problem));
     }
     if !both_fit(marks, values, facts, domain.len(), problem.len()) {
-        return refuse(refused::SHORT_AREA);
+        return Err(Cause::ShortArea.at(0));
     }
-    let n = put_both(marks, values, facts, &mut *domain, &mut *problem);
-    Outcome::Written(n)
+    Ok(put_both(marks, values, facts, &mut *domain, &mut *problem))
 }
 
-// Writes the task in a file as PDDL, the domain into one area and the problem into the other.
-pub fn write(file: &[u8], domain: &mut [u8], problem: &mut [u8]) -> Outcome
+// Writes the task in a file as PDDL, the domain to the start of one area and the problem to that of the other. A refusal leaves both as
+// they were.
+pub fn write(file: &[u8], domain: &mut [u8], problem: &mut [u8]) -> Result<Lengths, Refusal>
     ensures result_value { answer result ≡ outcome_over file.now domain.old problem.old }
     ensures domain_after { domain.new ≡ domain_over file.now domain.old problem.old }
     ensures problem_after { problem.new ≡ problem_over file.now domain.old problem.old }
 {
-    let c = task::check(file);
-    let Checked::Accepted(z) = c else {
-        return Outcome::Refused(task::refusal_of(c));
-    };
+    let z = task::check(file)?;
     if z.preferences != 0 {
-        return refuse(refused::PREFERENCES);
+        return Err(Cause::Preferences.at(0));
     }
     let middle = 8 + z.rows;
     put_texts(

@@ -19,11 +19,9 @@ fn put_facts(out: &mut [u8], at: usize, facts: usize) -> usize
     ensures upper_bound { result ≤ at + 24 * facts }
 {
     let mut k = at;
-    let mut i = 0;
-    while i < facts {
+    for i in 0..facts {
         k = text::put_byte(&mut *out, k, b' ');
         k = conditions::put_fact(&mut *out, k, i as u32);
-        i += 1;
     }
     k
 }
