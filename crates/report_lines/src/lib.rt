@@ -1,7 +1,7 @@
 // The lines of the text, one by one. Each function writes from a place on and answers the place after.
 #![tactic(auto)]
 
-ghost use Rattle.std.specs.Prelude.{◌+◌, ◌^◌, ◌≤◌, ◌<◌};
+ghost use Rattle.std.specs.Prelude.{◌≡◌, ◌+◌, ◌^◌, ◌≤◌, ◌<◌, length};
 ghost use Rattle.task.specs.File.{opens_hard, soft_mark, kind_of};
 ghost use Rattle.task.specs.Answers.{as_kind};
 ghost use Rattle.text.specs.Area.{Wrote};
@@ -10,33 +10,28 @@ ghost use Rattle.report_lines.specs.Lines.{kind_word, hard_word, full_kind, outc
 use task::kinds;
 use task::kinds::Kind;
 
-// Writes the word of a kind, whatever its steps.
-fn put_soft_kind(out: &mut [u8], at: usize, kind: Kind) -> usize
-    requires { at + 15 < 2 ^ 64 }
-    ensures wrote { Wrote out.old at (kind_word (as_kind kind)) result out.new }
-    ensures upper_bound { result ≤ at + 15 }
+// The word of a kind, whatever its steps.
+fn kind_word(kind: Kind) -> &'static [u8]
+    ensures word { result.now ≡ kind_word (as_kind kind) }
+    ensures upper_bound { length result.now ≤ 15 }
 {
     match kind {
-        Kind::Always => text::put_bytes(out, at, b"always"),
-        Kind::Sometime => text::put_bytes(out, at, b"sometime"),
-        Kind::AtEnd => text::put_bytes(out, at, b"at-end"),
-        Kind::AtMostOnce => text::put_bytes(out, at, b"at-most-once"),
-        Kind::SometimeBefore => text::put_bytes(out, at, b"sometime-before"),
-        Kind::SometimeAfter => text::put_bytes(out, at, b"sometime-after"),
-        Kind::Within(_) => text::put_bytes(out, at, b"within"),
-        Kind::AlwaysWithin(_) => text::put_bytes(out, at, b"always-within"),
+        Kind::Always => b"always",
+        Kind::Sometime => b"sometime",
+        Kind::AtEnd => b"at-end",
+        Kind::AtMostOnce => b"at-most-once",
+        Kind::SometimeBefore => b"sometime-before",
+        Kind::SometimeAfter => b"sometime-after",
+        Kind::Within(_) => b"within",
+        Kind::AlwaysWithin(_) => b"always-within",
     }
 }
 
-fn put_hard(out: &mut [u8], at: usize, hard: bool) -> usize
-    requires { at + 5 < 2 ^ 64 }
-    ensures wrote { Wrote out.old at (hard_word hard) result out.new }
-    ensures upper_bound { result ≤ at + 5 }
+fn hard_word(hard: bool) -> &'static [u8]
+    ensures word { result.now ≡ hard_word hard }
+    ensures upper_bound { length result.now ≤ 5 }
 {
-    if hard {
-        return text::put_bytes(out, at, b"hard-");
-    }
-    at
+    if hard { b"hard-" } else { b"" }
 }
 
 // Writes the kind that a mark opens, with `hard-` before that of a hard preference.
@@ -45,20 +40,19 @@ fn put_kind(out: &mut [u8], at: usize, mark: u8) -> usize
     ensures wrote { Wrote out.old at (full_kind (opens_hard mark) (kind_of (soft_mark mark) 0)) result out.new }
     ensures upper_bound { result ≤ at + 20 }
 {
-    let a = put_hard(&mut *out, at, task::opens_hard(mark));
-    put_soft_kind(&mut *out, a, kinds::kind_of(task::soft_mark(mark), 0))
+    let a = text::put_bytes(&mut *out, at, hard_word(task::opens_hard(mark)));
+    text::put_bytes(
+        &mut *out,
+        a,
+        kind_word(kinds::kind_of(task::soft_mark(mark), 0)),
+    )
 }
 
-fn put_outcome(out: &mut [u8], at: usize, met: bool) -> usize
-    requires { at + 6 < 2 ^ 64 }
-    ensures wrote { Wrote out.old at (outcome_word met) result out.new }
-    ensures upper_bound { result ≤ at + 6 }
+fn outcome_word(met: bool) -> &'static [u8]
+    ensures word { result.now ≡ outcome_word met }
+    ensures upper_bound { length result.now ≤ 6 }
 {
-    if met {
-        text::put_bytes(out, at, b"met")
-    } else {
-        text::put_bytes(out, at, b"missed")
-    }
+    if met { b"met" } else { b"missed" }
 }
 
 // Writes the line of preference k, which the mark opens.
@@ -80,7 +74,7 @@ pub fn put_preference(
     let d = text::put_byte(&mut *out, c, b' ');
     let e = text::put_decimal(&mut *out, d, weight as u64);
     let f = text::put_byte(&mut *out, e, b' ');
-    let g = put_outcome(&mut *out, f, met);
+    let g = text::put_bytes(&mut *out, f, outcome_word(met));
     text::put_byte(&mut *out, g, b'\n')
 }
 

@@ -6,6 +6,6 @@ use Rattle.report_lines.proofs.put_kind.Goals as goal
 pub returns : goal.returns
 returns c =
     rw (← c.soft_mark.ensures, ← c.kind_of.ensures.result_value, ← c.opens_hard.ensures) (record {
-      wrote = then c.put_hard-a.ensures.wrote c.put_soft_kind.ensures.wrote;
+      wrote = then (rw c.hard_word.ensures.word at c.put_bytes-a.ensures) (rw c.kind_word.ensures.word at c.put_bytes.ensures);
       upper_bound = search rules;
     })

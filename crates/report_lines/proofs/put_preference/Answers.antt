@@ -10,6 +10,6 @@ returns c =
     let kinds = then (then c.put_decimal-a.ensures.wrote c.put_byte-b.ensures) c.put_kind-c.ensures.wrote in
     let weights = then (then kinds c.put_byte-d.ensures) c.put_decimal-e.ensures.wrote in
     record {
-      wrote = then (then (then weights c.put_byte-f.ensures) c.put_outcome-g.ensures.wrote) c.put_byte.ensures;
+      wrote = then (then (then weights c.put_byte-f.ensures) (rw c.outcome_word.ensures.word at c.put_bytes-g.ensures)) c.put_byte.ensures;
       upper_bound = search rules;
     }
