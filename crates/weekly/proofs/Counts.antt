@@ -1,10 +1,11 @@
 -- The loop over the counts of a tally.
-use mathlib.Core.Path.{◌≡◌, sym, ap, ◌∙◌}
-use mathlib.Core.Bool.{Bool, cond}
+use mathlib.Core.Path.{◌≡◌, refl, sym, ap, ◌∙◌}
+use mathlib.Core.Bool.{Bool, true, false, cond}
 use mathlib.Core.List.{List, [], ◌∷◌}
-use Prim.Native.Nat.{ℕ, zero, suc, ◌+◌, ◌≤◌, ◌<◌}
+use Prim.Native.Nat.{ℕ, zero, suc, max, ◌+◌, ◌≤◌, ◌<◌}
 use native.Mathlib.Omega.{arith}
-use lib.Dec.{leb, leb→le, le→leb}
+use borrow.Author.Tests.{ltb-true, ltb-false}
+use lib.Dec.{leb, ltb, leb→le, le→leb}
 use lib.ListN.{length, get_or, set, length-set}
 use Rattle.lists.specs.Lists.{all}
 use Rattle.lists.proofs.Tests.{tests, and_both, all_at, all_implies}
@@ -40,3 +41,11 @@ module _ (met : ℕ → Bool) (l cs : List ℕ) (k : ℕ) (r : Raising met l cs 
             (all_implies (λ (c : ℕ). leb c (64 + k)) (λ (c : ℕ). leb c (64 + (k + 1))) (λ c t. le→leb c (64 + (k + 1)) (omega (arith, leb→le c (64 + k) t))) cs r.few);
         same = ap (λ (n : ℕ). raised_from met 0 (k + 1) (set cs k n)) e ∙ sym (raise_next met k cs here) ∙ r.same;
       }
+
+-- the greater of two, by a test
+pub greater : (a b : ℕ) → max a b ≡ cond (ltb a b) b a
+greater a b = go (ltb a b) refl
+  where
+    go : (x : Bool) → ltb a b ≡ x → max a b ≡ cond x b a
+    go true e = omega (arith, ltb-true a b e)
+    go false e = omega (arith, ltb-false a b e)

@@ -1,6 +1,7 @@
 -- The pass over the plans of a file.
 use mathlib.Core.Path.{◌≡◌, sym, ap, subst, ◌∙◌}
 use mathlib.Core.List.{List}
+use Rattle.std.specs.Prelude.{Result, Ok, Err}
 use Prim.Native.Nat.{ℕ, ◌+◌, ◌≤◌, ◌<◌}
 use native.Mathlib.Omega.{arith}
 use lib.ListN.{replicate}
@@ -10,14 +11,12 @@ use Rattle.task.specs.Check.{check}
 use Rattle.plan.specs.Judged.{judged}
 use Rattle.figures.specs.Plans.{count}
 use Rattle.figures.specs.Week.{Answer}
-use Rattle.figures.specs.Pass.{Tally, no_plans, Turn, on, turned, pass_on, closing, pass_at, MOST, Small, Counting, CountingIn}
+use Rattle.figures.specs.Pass.{Tally, no_plans, Turn, on, turned, pass_on, closing, pass_at, MOST, Small, Counting}
 use Rattle.figures.proofs.Loop.{plan_at, pass_next, pass_end}
 use Rattle.figures.proofs.Small.{small_first, small_turned}
 use Rattle.figures.proofs.Uncounted.{counting_first, counting_turned}
 use Rattle.weekly.specs.Answers.{as_tally, turn_as}
 use Rattle.weekly.specs.declared.tally.Totals.{Totals}
-use Rattle.weekly.specs.declared.tally.Taken.{Taken}
-use Rattle.weekly.specs.declared.tally.Taken.TheVariants.{On, Refused}
 use Rattle.task.specs.declared.Refusal.{Refusal}
 
 -- what holds before plan i, of a task of P preferences
@@ -52,18 +51,15 @@ module _ (b f : List ℕ) (P : ℕ) (a : Tally) (i : ℕ) (s : Passing b f P a i
         ap (pass_on rest) (e ∙ ap (λ (l : List ℕ). turned i a (judged b l)) lent) ∙ sym (pass_next f i b P a h) ∙ s.same
 
     -- a refused plan ends the pass
-    pub refused_at : (r : Taken) (cs : List ℕ) → turn_as r cs ≡ turned i a (judged b p) → (g : Refusal) → r ≡ Refused g
-        → (closing P (turn_as r cs) ≡ pass_at b f P no_plans 0) × CountingIn P (turn_as r cs)
-    refused_at r cs e g q = (
-      ap (λ (r : Taken). closing P (turn_as r cs)) q ∙ ap (λ (r : Taken). pass_on rest (turn_as r cs)) (sym q) ∙ next (turn_as r cs) e,
-      subst (λ (r : Taken). CountingIn P (turn_as r cs)) (sym q) tt,
-    )
+    pub refused_at : (r : Result Totals Refusal) (cs : List ℕ) → turn_as r cs ≡ turned i a (judged b p) → (g : Refusal) → r ≡ Err g
+        → closing P (turn_as (Err g) cs) ≡ pass_at b f P no_plans 0
+    refused_at r cs e g q = ap (λ (r : Result Totals Refusal). pass_on rest (turn_as r cs)) (sym q) ∙ next (turn_as r cs) e
 
     -- any other is taken in
-    pub taken_on : (z : Sizes) → check b ≡ Check.accepted z → z.preferences ≡ P → (r : Taken) (cs : List ℕ) → turn_as r cs ≡ turned i a (judged b p)
-        → (t : Totals) → r ≡ On t → Passing b f P (as_tally t cs) (i + 1)
+    pub taken_on : (z : Sizes) → check b ≡ Check.accepted z → z.preferences ≡ P → (r : Result Totals Refusal) (cs : List ℕ) → turn_as r cs ≡ turned i a (judged b p)
+        → (t : Totals) → r ≡ Ok t → Passing b f P (as_tally t cs) (i + 1)
     taken_on z c n r cs e t q =
-        let turn : on (as_tally t cs) ≡ turned i a (judged b p) = ap (λ (r : Taken). turn_as r cs) (sym q) ∙ e in
+        let turn : on (as_tally t cs) ≡ turned i a (judged b p) = ap (λ (r : Result Totals Refusal). turn_as r cs) (sym q) ∙ e in
         let before : Counting z.preferences a = subst (λ (P : ℕ). Counting P a) (sym n) s.counting in
         record {
           left = omega arith;

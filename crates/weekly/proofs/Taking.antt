@@ -1,6 +1,7 @@
 -- One plan taken in, from what walk and settle answer.
 use mathlib.Core.Path.{◌≡◌, sym, ap, ◌∙◌}
 use mathlib.Core.List.{List}
+use Rattle.std.specs.Prelude.{Result, Ok, Err}
 use Prim.Native.Nat.{ℕ, ◌<◌}
 use native.Mathlib.Omega.{arith}
 use lib.Dec.{leb, leb→le, le→leb}
@@ -11,8 +12,8 @@ use Rattle.task.specs.Check.{check}
 use Rattle.state.specs.Member.{bit}
 use Rattle.settling.specs.Settled.{settled}
 use Rattle.settling.specs.Answers.{settled_as}
-use Rattle.settling.specs.declared.Settled.{Settled}
-use Rattle.settling.specs.declared.Settled.TheVariants.{Given, Refused}
+use Rattle.task.specs.declared.Refusal.{Refusal}
+use Rattle.settling.specs.declared.Worth.{Worth}
 use Rattle.plan.specs.Judged.{judged}
 use Rattle.plan.specs.Walked
 use Rattle.plan.specs.Walked.{solved, walked}
@@ -40,8 +41,8 @@ turn_walked b p w e k a = ap (turned k a) (ap (then_settle b) e ∙ walk_then_se
 
 -- what settle answers on a plan that solves
 pub cheap_settled : (b : List ℕ) (z : Sizes) → check b ≡ Check.accepted z → (p : List ℕ) (cost met looked : ℕ)
-    → Walked.given (solved cost (bit met)) looked ≡ walked b p → (s : Settled) → settled_as s ≡ settled b cost (bit met) → Cheap s
-cheap_settled b z h p cost met looked e (Refused f) q = tt
-cheap_settled b z h p cost met looked e (Given w) q =
+    → Walked.given (solved cost (bit met)) looked ≡ walked b p → (s : Result Worth Refusal) → settled_as s ≡ settled b cost (bit met) → Cheap s
+cheap_settled b z h p cost met looked e (Err r) q = tt
+cheap_settled b z h p cost met looked e (Ok w) q =
     metric_small b z h p cost w.metric w.utility (bit met)
     (sym (ap (then_settle b) e ∙ walk_then_settle b p) ∙ ap (priced cost (bit met)) (sym q))

@@ -1,17 +1,15 @@
 -- What the values of `week` stand for.
-use Rattle.std.specs.Prelude.{List, [], ◌++◌, ℕ, ◌-◌, length, take, replicate}
+use Rattle.std.specs.Prelude.{List, [], ◌++◌, ℕ, ◌-◌, length, take, replicate, Option, Some, None, Result, Ok, Err}
 use Rattle.figures.specs.Plans
-use Rattle.figures.specs.Figures.{none_solves, solve}
+use Rattle.figures.specs.Figures.{Figures, none_solves, solve}
 use Rattle.figures.specs.Week.{Answer, given, refused}
 use Rattle.figures.specs.Pass.{Tally, Turn, on, ends}
+use Rattle.task.specs.Answers.{number_of, cause_of}
+use Rattle.task.specs.Limits.{MAX_PREFERENCES}
+use Rattle.task.specs.declared.Refusal.{Refusal}
 use Rattle.weekly.specs.declared.plans.Entry.{Entry}
 use Rattle.weekly.specs.declared.tally.Totals.{Totals}
-use Rattle.weekly.specs.declared.tally.Taken.{Taken}
-use Rattle.weekly.specs.declared.tally.Taken.TheVariants.{On, Refused}
-use Rattle.weekly.specs.declared.Figures.{Figures}
-use Rattle.weekly.specs.declared.Figures.TheVariants as F
-use Rattle.weekly.specs.declared.Reckoned.{Reckoned}
-use Rattle.task.specs.Limits.{MAX_PREFERENCES}
+use Rattle.weekly.specs.declared.Amounts.{Amounts}
 
 abbrev pub as_entry : Entry → Plans.Entry
 as_entry e = record { start = e.start; steps = e.steps }
@@ -20,34 +18,38 @@ as_entry e = record { start = e.start; steps = e.steps }
 abbrev pub as_tally : Totals → List ℕ → Tally
 as_tally t counts = record { solving = t.solving; lowest = t.least; highest = t.greatest; total = t.sum; meetings = counts }
 
-abbrev pub turn_as : Taken → List ℕ → Turn
-turn_as (On t) counts = on (as_tally t counts)
-turn_as (Refused f) counts = ends f.number f.place
+abbrev pub turn_as : Result Totals Refusal → List ℕ → Turn
+turn_as (Ok t) counts = on (as_tally t counts)
+turn_as (Err r) counts = ends (number_of r.cause) r.place
 
 -- the counts are read where a plan solves, as many as there are preferences
-abbrev pub figures_as : Figures → List ℕ → Answer
-figures_as F.NoneSolves counts = given none_solves
-figures_as (F.Solve a) counts =
-    given (solve a.solving (record {
-      meetings = take a.preferences counts;
+abbrev pub figures_as : Option Amounts → Figures
+figures_as None = none_solves
+figures_as (Some a) =
+    solve a.solving (record {
+      meetings = take a.preferences a.meeting;
       lowest = a.least;
       highest = a.greatest;
       total = a.sum;
       quotient = a.mean;
       remainder = a.remainder;
-    }))
-figures_as (F.Refused f) counts = refused f.number f.place
+    })
 
-abbrev pub reckoned_as : Reckoned → Answer
-reckoned_as r = figures_as r.figures r.meeting
+abbrev pub reckoned_as : Result (Option Amounts) Refusal → Answer
+reckoned_as (Ok x) = given (figures_as x)
+reckoned_as (Err r) = refused (number_of r.cause) r.place
 
 -- The whole value for an answer
 
+-- counts with zeros after them, 16 in all
+abbrev pub padded : List ℕ → List ℕ
+padded cs = cs ++ replicate (MAX_PREFERENCES - length cs) 0
+
 -- it has as many preferences as there are counts
-abbrev pub as_figures : Answer → Figures
-as_figures (given none_solves) = F.NoneSolves
-as_figures (given (solve n a)) =
-    F.Solve (record {
+abbrev pub as_figures : Figures → Option Amounts
+as_figures none_solves = None
+as_figures (solve n a) =
+    Some (record {
       solving = n;
       least = a.lowest;
       greatest = a.highest;
@@ -55,8 +57,8 @@ as_figures (given (solve n a)) =
       mean = a.quotient;
       remainder = a.remainder;
       preferences = length a.meetings;
+      meeting = padded a.meetings;
     })
-as_figures (refused n i) = F.Refused (record { number = n; place = i })
 
 -- none where no plan solves, and none in a refusal
 abbrev pub counts_in : Answer → List ℕ
@@ -64,9 +66,6 @@ counts_in (given none_solves) = []
 counts_in (given (solve n a)) = a.meetings
 counts_in (refused n i) = []
 
--- with zeros after them, 16 in all
-abbrev pub padded : List ℕ → List ℕ
-padded cs = cs ++ replicate (MAX_PREFERENCES - length cs) 0
-
-abbrev pub as_reckoned : Answer → Reckoned
-as_reckoned x = record { figures = as_figures x; meeting = padded (counts_in x) }
+abbrev pub as_reckoned : Answer → Result (Option Amounts) Refusal
+as_reckoned (given x) = Ok (as_figures x)
+as_reckoned (refused n i) = Err (record { cause = cause_of n; place = i })

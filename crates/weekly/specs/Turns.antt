@@ -1,7 +1,7 @@
 -- What is asked of a plan that is taken in, so that no sum wraps.
-use Rattle.std.specs.Prelude.{◌≡◌, List, ℕ, ◌*◌, ◌≤◌, length}
-use Rattle.settling.specs.declared.Settled.{Settled}
-use Rattle.settling.specs.declared.Settled.TheVariants.{Given, Refused}
+use Rattle.std.specs.Prelude.{◌≡◌, List, ℕ, ◌*◌, ◌≤◌, length, Result, Ok, Err}
+use Rattle.task.specs.declared.Refusal.{Refusal}
+use Rattle.settling.specs.declared.Worth.{Worth}
 use Rattle.plan.specs.Walked
 use Rattle.plan.specs.Walked.{Walk, walked}
 use Rattle.figures.specs.Pass.{AtMost, MOST}
@@ -19,9 +19,9 @@ pub record Counts (cs : List ℕ) : Type 0 where
   pub sixteen : length cs ≡ MAX_PREFERENCES
 
 -- settle's metric is one that a plan can have
-abbrev pub Cheap : Settled → Type 0
-Cheap (Given w) = w.metric ≤ MOST
-Cheap (Refused f) = Unit {0}
+abbrev pub Cheap : Result Worth Refusal → Type 0
+Cheap (Ok w) = w.metric ≤ MOST
+Cheap (Err r) = Unit {0}
 
 -- walk gave the verdict w on the file b and some plan
 abbrev pub WalkedTo : List ℕ → Walk → Type 0

@@ -18,17 +18,14 @@ pub struct Entry {
 fn byte_at(plans: &[u8], i: usize) -> u8
     ensures { result ≡ get_or plans.now i 0 }
 {
-    if i < plans.len() {
-        return plans[i];
-    }
-    0
+    plans.get(i).copied().unwrap_or(0)
 }
 
 // Two bytes as a number, the lower first.
 fn u16_of(low: u8, high: u8) -> usize
     ensures { (result ≡ low + 256 * high) × (result < 65536) }
 {
-    (low as usize) + 256 * (high as usize)
+    u16::from_le_bytes([low, high]) as usize
 }
 
 fn word_at(plans: &[u8], i: usize) -> usize
@@ -81,12 +78,10 @@ pub fn is_readable(plans: &[u8]) -> bool
         return false;
     }
     let room = plans.len() - (2 + 4 * n);
-    let mut i = 0;
-    while i < n {
+    for i in 0..n {
         if !stands(entry_at(plans, n, i), room) {
             return false;
         }
-        i += 1;
     }
     true
 }

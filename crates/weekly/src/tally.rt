@@ -12,8 +12,8 @@ ghost use Rattle.figures.specs.Pass.{raised, counted, turned, MOST, Small};
 ghost use Rattle.weekly.specs.Answers.{as_tally, turn_as};
 ghost use Rattle.weekly.specs.Turns.{Cheap, Counts, Room, WalkedTo};
 
-use plan::{Verdict, Walked};
-use settling::Settled;
+use plan::Verdict;
+use settling::Worth;
 use task::{Refusal, Sizes, limits};
 
 // Of the plans so far: how many solve, and of their metrics the least, the greatest and the sum.
@@ -23,13 +23,6 @@ pub struct Totals {
     pub least: u64,
     pub greatest: u64,
     pub sum: u64,
-}
-
-// The totals with one plan more, or its refusal.
-#[derive(Clone, Copy)]
-pub enum Taken {
-    On(Totals),
-    Refused(Refusal),
 }
 
 // A count, one more where preference k is met.
@@ -48,10 +41,8 @@ fn raise(met: u64, meeting: &mut [u64; limits::MAX_PREFERENCES])
     requires { Counts meeting.old }
     ensures { meeting.new ≡ raised (bit met) 0 meeting.old }
 {
-    let mut k = 0;
-    while k < limits::MAX_PREFERENCES {
+    for k in 0..limits::MAX_PREFERENCES {
         meeting[k] = raised_count(meeting[k], met, k);
-        k += 1;
     }
 }
 
@@ -59,20 +50,10 @@ fn raise(met: u64, meeting: &mut [u64; limits::MAX_PREFERENCES])
 fn least(t: Totals, metric: u64) -> u64
     ensures { result ≡ cond (eqb t.solving 0 || ltb metric t.least) metric t.least }
 {
-    if (t.solving == 0) | (metric < t.least) {
+    if t.solving == 0 {
         return metric;
     }
-    t.least
-}
-
-// The greatest with one more.
-fn greatest(t: Totals, metric: u64) -> u64
-    ensures { result ≡ cond (ltb t.greatest metric) metric t.greatest }
-{
-    if t.greatest < metric {
-        return metric;
-    }
-    t.greatest
+    t.least.min(metric)
 }
 
 // The totals with one plan more that solves.
@@ -83,7 +64,7 @@ fn with_metric(t: Totals, metric: u64) -> Totals
     Totals {
         solving: t.solving + 1,
         least: least(t, metric),
-        greatest: greatest(t, metric),
+        greatest: t.greatest.max(metric),
         sum: t.sum + metric,
     }
 }
@@ -91,24 +72,21 @@ fn with_metric(t: Totals, metric: u64) -> Totals
 // Takes in plan k, which solves, by what settle answers: it refuses nothing that walk gave.
 fn take_settled(
     k: u16,
-    s: Settled,
+    s: Result<Worth, Refusal>,
     met: u64,
     t: Totals,
     meeting: &mut [u64; limits::MAX_PREFERENCES],
-) -> Taken
+) -> Result<Totals, Refusal>
     requires { Room t × Counts meeting.old × Cheap s }
     ensures { let before = as_tally t meeting.old in
         ((cost : ℕ) → turn_as result meeting.new ≡ turned k before (priced cost (bit met) (settled_as s))) }
 {
     match s {
-        Settled::Given(w) => {
+        Ok(w) => {
             raise(met, &mut *meeting);
-            Taken::On(with_metric(t, w.metric))
+            Ok(with_metric(t, w.metric))
         }
-        Settled::Refused(f) => Taken::Refused(Refusal {
-            number: f.number,
-            place: k,
-        }),
+        Err(f) => Err(f.cause.at(k)),
     }
 }
 
@@ -120,7 +98,7 @@ fn take_verdict(
     v: Verdict,
     t: Totals,
     meeting: &mut [u64; limits::MAX_PREFERENCES],
-) -> Taken
+) -> Result<Totals, Refusal>
     requires file_value { (check file.now ≡ accepted (as_sizes z)) × WalkedTo file.now (as_verdict v) }
     requires room { Room t × Counts meeting.old }
     ensures { let before = as_tally t meeting.old in
@@ -131,9 +109,9 @@ fn take_verdict(
             let settled = settling::settle_on(file, z, s.cost, s.met);
             take_settled(k, settled, s.met, t, &mut *meeting)
         }
-        Verdict::Stopped(_) => Taken::On(t),
-        Verdict::GoalMissed => Taken::On(t),
-        Verdict::RuleMissed(_) => Taken::On(t),
+        Verdict::Stopped(_) => Ok(t),
+        Verdict::GoalMissed => Ok(t),
+        Verdict::RuleMissed(_) => Ok(t),
     }
 }
 
@@ -145,17 +123,14 @@ pub fn take_plan(
     plan: &[u8],
     t: Totals,
     meeting: &mut [u64; limits::MAX_PREFERENCES],
-) -> Taken
+) -> Result<Totals, Refusal>
     requires { (check file.now ≡ accepted (as_sizes z)) × (k < MAX_PLANS) × Small MOST k (as_tally t meeting.old) }
     ensures { let before = as_tally t meeting.old in
         turn_as result meeting.new ≡ turned k before (judged file.now plan.now) }
 {
     let w = plan::walk_on(file, z, plan);
     match w {
-        Walked::Given(v, _) => take_verdict(file, z, k, v, t, &mut *meeting),
-        Walked::Refused(f) => Taken::Refused(Refusal {
-            number: f.number,
-            place: k,
-        }),
+        Ok(given) => take_verdict(file, z, k, given.verdict, t, &mut *meeting),
+        Err(r) => Err(r.cause.at(k)),
     }
 }

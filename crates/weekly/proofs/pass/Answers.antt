@@ -1,12 +1,17 @@
 use borrow.Author.Rules.{rules}
-use mathlib.Core.Path.{◌≡◌, refl, ap}
+use mathlib.Core.Path.{◌≡◌, refl, ap, subst⁻¹, ◌∙◌}
+use Rattle.std.specs.Prelude.{Result, Err}
+use Rattle.std.proofs.lemmas.Result.{err_from_is_err_and}
 use Prim.Native.Nat.{◌+◌, ◌*◌, ◌-◌, ◌≤◌}
 use native.Mathlib.Omega.{arith}
 use lib.ListN.{length, take, drop}
 use Rattle.task.specs.Answers.{as_sizes}
 use Rattle.figures.specs.Plans.{Entry, count}
 use Rattle.figures.proofs.Loop.{plan_at, read_head, plan_within, plan_lent}
-use Rattle.weekly.specs.Answers.{as_tally}
+use Rattle.task.specs.declared.Refusal.{Refusal}
+use Rattle.figures.specs.Pass.{closing, CountingIn}
+use Rattle.weekly.specs.declared.tally.Totals.{Totals}
+use Rattle.weekly.specs.Answers.{as_tally, turn_as}
 use Rattle.weekly.proofs.Reading.{head_fits}
 use Rattle.weekly.proofs.Passing.{begun, passed, refused_at, taken_on}
 use Rattle.weekly.proofs.pass.Goals as goal
@@ -49,14 +54,14 @@ overflow_cast-i c = let h = few (goal.at.overflow_cast-i c).After-count-n in sea
 pub slice_bounds-take_plan-end : goal.slice_bounds-take_plan-end
 slice_bounds-take_plan-end c = let h = within (goal.at.slice_bounds-take_plan-end c).After-entry_at-e in search rules
 
-pub take_plan-taken-requires : goal.take_plan-taken-requires
-take_plan-taken-requires c =
-    (c.requires.0, omega (arith, c.loop-i-test.true, few (goal.at.take_plan-taken-requires c).After-count-n), c.loop-i.invariant.small)
+pub take_plan-requires : goal.take_plan-requires
+take_plan-requires c =
+    (c.requires.0, omega (arith, c.loop-i-test.true, few (goal.at.take_plan-requires c).After-count-n), c.loop-i.invariant.small)
 
-pub returns-in_default : goal.returns-in_default
-returns-in_default c =
+pub returns-in_err-t : goal.returns-in_err-t
+returns-in_err-t c =
     let a = c.args in
-    let at = goal.at.returns-in_default c in
+    let at = goal.at.returns-in_err-t c in
     let few' = few at.After-count-n in
     let f = a.plans.now in
     let e = c.entry_at-e.ensures.0 in
@@ -64,10 +69,15 @@ returns-in_default c =
     let lent : take (from + c.entry_at-e.result.steps - from) (drop from f) ≡ plan_at f c.loop-i.i =
     plan_lent f c.requires.1 c.loop-i.i from (from + c.entry_at-e.result.steps)
     (omega (arith, few', ap (λ (x : Entry). x.start) e)) (omega (arith, ap (λ (x : Entry). x.steps) e)) in
-    let parts = refused_at a.file.now a.plans.now a.z.preferences (as_tally c.loop-i.t c.loop-i.meeting) c.loop-i.i c.loop-i.invariant
-    (omega (arith, c.loop-i-test.true, few')) _ lent c.take_plan-taken.result _ c.take_plan-taken.ensures c.in_default.field-0
-    c.in_default.is in
-    record { meeting_after = parts.0; counting_in = parts.1 }
+    let r = err_from_is_err_and c.from_residual.result c.from_residual.ensures.1 in
+    let told = r.1 ∙ ap Err r.2 in
+    record {
+      meeting_after = ap (λ (x : Result Totals Refusal). closing a.z.preferences (turn_as x c.take_plan.new.meeting)) told
+          ∙ refused_at a.file.now a.plans.now a.z.preferences (as_tally c.loop-i.t c.loop-i.meeting) c.loop-i.i c.loop-i.invariant
+          (omega (arith, c.loop-i-test.true, few')) _ lent c.take_plan.result c.take_plan.new.meeting c.take_plan.ensures c.in_err-t.field-0.0
+          c.in_err-t.was;
+      counting_in = subst⁻¹ (λ (x : Result Totals Refusal). CountingIn a.z.preferences (turn_as x c.take_plan.new.meeting)) told tt;
+    }
 
 pub loop-i-preserved : goal.loop-i-preserved
 loop-i-preserved c =
@@ -81,8 +91,8 @@ loop-i-preserved c =
     plan_lent f c.requires.1 c.loop-i.i from (from + c.entry_at-e.result.steps)
     (omega (arith, few', ap (λ (x : Entry). x.start) e)) (omega (arith, ap (λ (x : Entry). x.steps) e)) in
     taken_on a.file.now a.plans.now a.z.preferences (as_tally c.loop-i.t c.loop-i.meeting) c.loop-i.i c.loop-i.invariant
-    (omega (arith, c.loop-i-test.true, few')) _ lent (as_sizes a.z) c.requires.0 refl c.take_plan-taken.result _ c.take_plan-taken.ensures
-    c.in-On.next c.in-On.is
+    (omega (arith, c.loop-i-test.true, few')) _ lent (as_sizes a.z) c.requires.0 refl c.take_plan.result _ c.take_plan.ensures
+    c.in_ok-t.t c.in_ok-t.was
 
 pub returns : goal.returns
 returns c =

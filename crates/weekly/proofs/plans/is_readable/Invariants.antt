@@ -1,10 +1,6 @@
 -- The loop looks at every plan, by `Reading`.
-use Prim.Native.Nat.{◌-◌}
 use Rattle.weekly.proofs.Reading.{Reading}
 use Rattle.weekly.proofs.plans.is_readable.Given as goal
 
 abbrev pub invariant-loop-i : goal.invariant-loop-i
 invariant-loop-i l = Reading l.plans l.n l.i
-
-abbrev pub decreases-loop-i : goal.decreases-loop-i
-decreases-loop-i l = l.n - l.i

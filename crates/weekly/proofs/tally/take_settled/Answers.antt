@@ -1,10 +1,12 @@
 -- A settled plan is counted, a refused one ends the pass.
 use mathlib.Core.Path.{sym, ap, subst, ◌∙◌}
 use mathlib.Core.List.{List}
+use Rattle.std.specs.Prelude.{Result}
 use Prim.Native.Nat.{ℕ}
+use Rattle.task.specs.declared.Refusal.{Refusal}
 use Rattle.state.specs.Member.{bit}
 use Rattle.settling.specs.Answers.{settled_as}
-use Rattle.settling.specs.declared.Settled.{Settled}
+use Rattle.settling.specs.declared.Worth.{Worth}
 use Rattle.plan.specs.ThenSettled.{priced}
 use Rattle.figures.specs.Pass.{on, turned}
 use Rattle.weekly.specs.Answers.{as_tally}
@@ -16,16 +18,17 @@ raise-requires c = c.requires.1
 
 pub with_metric-requires : goal.with_metric-requires
 with_metric-requires c =
-    (c.requires.0, subst Cheap c.in-Given.is c.requires.2)
+    (c.requires.0, subst Cheap c.in-Ok.is c.requires.2)
 
-pub returns-in-Given : goal.returns-in-Given
-returns-in-Given c =
+pub returns-in-Ok : goal.returns-in-Ok
+returns-in-Ok c =
     let a = c.args in
     λ cost. ap (λ (l : List ℕ). on (as_tally c.with_metric.result l)) c.raise.ensures
     ∙ ap on (c.with_metric.ensures (bit a.met) a.meeting.now)
-    ∙ ap (λ (s : Settled). turned a.k (as_tally a.t a.meeting.now) (priced cost (bit a.met) (settled_as s))) (sym c.in-Given.is)
+    ∙ ap (λ (s : Result Worth Refusal). turned a.k (as_tally a.t a.meeting.now) (priced cost (bit a.met) (settled_as s))) (sym c.in-Ok.is)
 
-pub returns-in-Refused : goal.returns-in-Refused
-returns-in-Refused c =
+pub returns-in-Err : goal.returns-in-Err
+returns-in-Err c =
     let a = c.args in
-    λ cost. ap (λ (s : Settled). turned a.k (as_tally a.t a.meeting.now) (priced cost (bit a.met) (settled_as s))) (sym c.in-Refused.is)
+    λ cost. rw c.at.ensures
+    (ap (λ (s : Result Worth Refusal). turned a.k (as_tally a.t a.meeting.now) (priced cost (bit a.met) (settled_as s))) (sym c.in-Err.is))
