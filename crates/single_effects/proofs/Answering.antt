@@ -3,32 +3,30 @@ use mathlib.Core.Path.{◌≡◌, refl, sym, ap, ◌∙◌, subst⁻¹}
 use mathlib.Core.Bool.{Bool, true, false, cond, true≢false}
 use mathlib.Core.List.{List, ◌++◌}
 use mathlib.Core.Option.{Option, none, some}
-use Prim.Native.Nat.{ℕ, ◌+◌, ◌*◌, ◌-◌, ◌≤◌, ◌<◌}
+use Rattle.std.specs.Prelude.{Result, Ok, Err}
+use Prim.Native.Nat.{ℕ, ◌+◌, ◌*◌, ◌≤◌}
 use native.Mathlib.Omega.{arith}
 use lib.Dec.{T, leb}
 use lib.ListN.{length, take, drop, length-take, length-drop}
 use lib.Seq.{take_at}
-use borrow.Author.Tests.{leb-true, lt-ltb, le-ltb}
+use borrow.Author.Tests.{leb-true}
 use Rattle.meaning.specs.Task.{Task}
 use Rattle.lists.specs.Lists.{all}
+use Rattle.lists.proofs.Tests.{as_true}
 use Rattle.task.specs.TaskRows.{task_rows}
 use Rattle.task.specs.File
 use Rattle.task.specs.File.{paired, rows, sizes, sizes_of, task_of, file_of_rows, with_rows}
 use Rattle.task.specs.Check
-use Rattle.task.specs.Check.{check}
-use Rattle.task.specs.Answers.{answer as checked, as_sizes, refusal_in}
+use Rattle.task.specs.Check.{check, sizes_allowed}
+use Rattle.task.specs.Answers.{answer as checked, as_sizes, number_of}
 use Rattle.task.specs.declared.Sizes.{Sizes}
 use Rattle.task.specs.declared.Refusal.{Refusal}
-use Rattle.task.specs.declared.Checked.{Checked}
-use Rattle.task.specs.declared.Checked.TheVariants.{Accepted, Refused}
 use Rattle.task.specs.Rows.{Rows}
 use Rattle.task.proofs.Bytes.{file_length}
 use Rattle.task.proofs.Spelled.{Spelling, accepted_spelling}
 use Rattle.task.proofs.Answered.{parts_spell, Limited, limited}
 use Rattle.outcome.specs.Outcome.{written, refused, area_after}
 use Rattle.outcome.specs.Answers.{answer}
-use Rattle.outcome.specs.declared.Outcome.{Outcome}
-use Rattle.outcome.specs.declared.Outcome.TheVariants
 use Rattle.layout.proofs.Parts.{marks_of, values_of, parts_rows}
 use Rattle.alike.specs.Alike.{Alike}
 use Rattle.alike.proofs.Verdict.{same_solves, judged_alike}
@@ -38,7 +36,7 @@ use Rattle.singling.specs.Outcome.{rows_fitted, outcome_by, outcome}
 use Rattle.singling.proofs.Spellable.{singled_sizes}
 use Rattle.singling.proofs.SingledFile.{SingledFile, singled_file_lem}
 use Rattle.singling.proofs.Wide.{none_wide}
-use Rattle.single_effects.specs.Whole.{place_at, Narrow, Fitted}
+use Rattle.single_effects.specs.Whole.{place_in, Narrow, Fitted}
 use Rattle.single_effects.specs.Claim.{Delivered}
 use Rattle.single_effects.proofs.Following.{followed}
 
@@ -88,13 +86,13 @@ module _ (b area : List ℕ) (n : ℕ) where
   delivered h = by_answer (check b) refl h
 
 -- what single promises of its answer and of the area
-abbrev Promised : List ℕ → List ℕ → Outcome → List ℕ → Type 0
+abbrev Promised : List ℕ → List ℕ → Result ℕ Refusal → List ℕ → Type 0
 Promised b area r out =
     (answer r ≡ outcome b (length area))
     × ((out ≡ area_after (singled_file b) area (outcome b (length area)))
     × ((n : ℕ) → answer r ≡ written n → Delivered b out n))
 
-promised : (b area : List ℕ) (r : Outcome) (out : List ℕ) → answer r ≡ outcome b (length area) → out ≡ area_after (singled_file b) area (answer r)
+promised : (b area : List ℕ) (r : Result ℕ Refusal) (out : List ℕ) → answer r ≡ outcome b (length area) → out ≡ area_after (singled_file b) area (answer r)
     → Promised b area r out
 promised b area r out e f = (
   e,
@@ -104,18 +102,17 @@ promised b area r out e f = (
   ),
 )
 
-module _ (b area : List ℕ) (x : Checked) (e : checked x ≡ check b) where
+module _ (b area : List ℕ) (x : Result Sizes Refusal) (e : checked x ≡ check b) where
   -- a refusal leaves the area as it was
-  refuses : (r : Outcome) (k i : ℕ) → answer r ≡ refused k i → refused k i ≡ outcome b (length area) → Promised b area r area
+  refuses : (r : Result ℕ Refusal) (k i : ℕ) → answer r ≡ refused k i → refused k i ≡ outcome b (length area) → Promised b area r area
   refuses r k i p q = promised b area r area (p ∙ q) (sym (ap (area_after (singled_file b) area) p))
 
-  pub turned_down : (f : Refusal) → x ≡ Refused f → (r : Refusal) → r ≡ refusal_in x → Promised b area (TheVariants.Refused r) area
+  pub turned_down : (y : Result ℕ Refusal) (r : Refusal) → y ≡ Err r → x ≡ Err r → Promised b area y area
   unfolding outcome
-  turned_down f q r says =
-      refuses (TheVariants.Refused r) f.number f.place (ap (λ (g : Refusal). refused g.number g.place) (says ∙ ap refusal_in q))
-      (ap (outcome_by b (length area)) (sym (ap checked q) ∙ e))
+  turned_down y r p q =
+      refuses y (number_of r.cause) r.place (ap answer p) (ap (outcome_by b (length area)) (sym (ap checked q) ∙ e))
 
-  module _ (z : Sizes) (q : x ≡ Accepted z) where
+  module _ (z : Sizes) (q : x ≡ Ok z) where
     accepted : check b ≡ Check.accepted (as_sizes z)
     accepted = sym e ∙ ap checked q
 
@@ -135,26 +132,30 @@ module _ (b area : List ℕ) (x : Checked) (e : checked x ≡ check b) where
     abbrev vs : List ℕ
     vs = values_of b (as_sizes z)
 
+    pub allowed : sizes_allowed (as_sizes z) ≡ true
+    allowed = as_true (sizes_allowed (as_sizes z)) spelling.allowed
+
     pub lent : Rows ms vs
     lent = parts_rows b (as_sizes z) accepted
 
     pub many : length ms ≡ z.rows
     many = simp (length-take, length-drop) (omega (arith, sizes_limited.exact))
 
-    -- the row that find_wide answers
-    module _ (w : ℕ) (found : (us : List ℕ) (t : Task) → paired ms us ≡ task_rows t → place_at w (length ms) ≡ first_wide 0 (task_rows t)) where
-      place : place_at w z.rows ≡ first_wide 0 (rows b)
+    -- what find_wide answers
+    module _ (w : Result ℕ Refusal) (found : (us : List ℕ) (t : Task) → paired ms us ≡ task_rows t → place_in w ≡ first_wide 0 (task_rows t)) where
+      place : place_in w ≡ first_wide 0 (rows b)
       place =
-          ap (place_at w) (sym many) ∙ found vs (task_of b) (parts_spell b (as_sizes z) accepted) ∙ ap (first_wide 0) (sym spelling.spelled)
+          found vs (task_of b) (parts_spell b (as_sizes z) accepted) ∙ ap (first_wide 0) (sym spelling.spelled)
 
-      pub too_wide : w < z.rows → (r : Outcome) → answer r ≡ refused 17 w → Promised b area r area
-      too_wide h r p =
-          let here : some w ≡ first_wide 0 (rows b) = rw (lt-ltb w z.rows h) at place in
-          refuses r 17 w p (ap (rows_fitted (singled_rows b) (length area)) here ∙ on_task)
+      pub too_wide : (y : Result ℕ Refusal) (r : Refusal) → y ≡ Err r → w ≡ Err r → number_of r.cause ≡ 17 → Promised b area y area
+      too_wide y r p h k =
+          let here : some r.place ≡ first_wide 0 (rows b) = sym (ap place_in h) ∙ place in
+          refuses y 17 r.place (ap answer p ∙ ap (λ (n : ℕ). refused n r.place) k)
+          (ap (rows_fitted (singled_rows b) (length area)) here ∙ on_task)
 
-      module _ (h : z.rows ≤ w) where
+      module _ (last : ℕ) (h : w ≡ Ok last) where
         nowhere : none ≡ first_wide 0 (rows b)
-        nowhere = rw (le-ltb w z.rows h) at place
+        nowhere = sym (ap place_in h) ∙ place
 
         pub narrow : Narrow ms vs (task_of b)
         narrow =
@@ -172,7 +173,7 @@ module _ (b area : List ℕ) (x : Checked) (e : checked x ≡ check b) where
         file_is : file_of_task (task_of b) ≡ singled_file b
         file_is = λ i. file_of_rows (same_sizes i).facts (same_sizes i).actions (same_sizes i).preferences (task_rows (singled (task_of b)))
 
-        pub put : (r : Outcome) (out : List ℕ) → ((t : Task) → Narrow ms vs t → Fitted (length (task_rows (singled t))) (file_of_task t) area r out)
+        pub put : (r : Result ℕ Refusal) (out : List ℕ) → ((t : Task) → Narrow ms vs t → Fitted (length (task_rows (singled t))) (file_of_task t) area r out)
             → Promised b area r out
         put r out fits =
             let f = fits (task_of b) narrow in

@@ -2,7 +2,7 @@
 use mathlib.Core.Path.{◌≡◌, refl, sym, ap, ◌∙◌, subst}
 use mathlib.Core.Bool.{Bool, true, false, not, cond, ◌&&◌}
 use mathlib.Core.List.{List, [], ◌∷◌, ◌++◌}
-use mathlib.Core.Option.{some}
+use mathlib.Core.Option.{none, some}
 use Prim.Native.Nat.{ℕ, zero, suc, ◌+◌, ◌-◌, ◌≤◌, ◌<◌}
 use mathlib.Core.Logic.{◌⊎◌, inl, inr}
 use native.Mathlib.Nat.{eq-or-lt_of_le}
@@ -21,7 +21,7 @@ use Rattle.singling.specs.Wide.{is_wide, first_wide}
 use Rattle.singling.proofs.Capped.{counted_wide}
 use Rattle.singling.proofs.Wide.{wide_effect}
 use Rattle.single_effects.specs.Shapes.{shape_at}
-use Rattle.single_effects.specs.Whole.{place_at, NoEffects}
+use Rattle.single_effects.specs.Whole.{NoEffects}
 use Rattle.single_effects.specs.declared.shapes.Shape.{Shape}
 use Rattle.single_effects.proofs.EffectShape.{choices_found, after_found, left_found}
 use Rattle.single_effects.proofs.Pieces.{Piece, plain, effect, rows_of, Sound, task_pieces, task_pieces_lem, task_sound}
@@ -40,10 +40,10 @@ seeking_begins ms vs t e =
 
 module _ (ms vs : List ℕ) (t : Task) (i : ℕ) (S : Seeking ms vs t i) where
   -- after the last row
-  pub none_found : length ms ≤ i → place_at i (length ms) ≡ first_wide 0 (task_rows t)
+  pub none_found : length ms ≤ i → none ≡ first_wide 0 (task_rows t)
   none_found h =
       let e : S.left ≡ [] = none_left ms vs i S.left S.there h in
-      rw (le-ltb i (length ms) h) (sym (ap (λ (ps : List Piece). first_wide i (rows_of ps)) e) ∙ S.same)
+      sym (ap (λ (ps : List Piece). first_wide i (rows_of ps)) e) ∙ S.same
 
   module _ (l : i < length ms) where
     pub seeking_on : (get_or ms i 0 ≡ EFFECT → ⊥) → Seeking ms vs t (i + 1)
@@ -79,11 +79,11 @@ module _ (ms vs : List ℕ) (t : Task) (i : ℕ) (S : Seeking ms vs t i) where
             ∙ λ z. cond (told z) (some i) (first_wide (n z) (rows_of qs)))
             ∙ S.same
 
-      pub found_here : 64 < r.choices → place_at i (length ms) ≡ first_wide 0 (task_rows t)
+      pub found_here : 64 < r.choices → some i ≡ first_wide 0 (task_rows t)
       found_here h = build (effect_here ms vs i S.left S.there S.sound l m)
         where
-          build : (e : Effect) × (qs : List Piece) × (S.left ≡ effect e ∷ qs) → place_at i (length ms) ≡ first_wide 0 (task_rows t)
-          build (e, qs, q) = rw (lt-ltb i (length ms) l) (rw (lt-ltb 64 r.choices h) at by_choices e qs q)
+          build : (e : Effect) × (qs : List Piece) × (S.left ≡ effect e ∷ qs) → some i ≡ first_wide 0 (task_rows t)
+          build (e, qs, q) = rw (lt-ltb 64 r.choices h) at by_choices e qs q
 
       pub seeking_past : r.choices ≤ 64 → Seeking ms vs t r.changes.to
       seeking_past h = build (effect_here ms vs i S.left S.there S.sound l m)

@@ -177,11 +177,9 @@ pub fn put_effect(
         to: s.changes.from,
     };
     let known = find_longest(marks, condition, choices);
-    let mut j = 0;
     let mut k = c;
-    while j < choices {
+    for j in 0..choices {
         k = put_choice(&mut *out, k, marks, values, at, s, j, known);
-        j += 1;
     }
     k
 }

@@ -13,35 +13,17 @@ ghost use Rattle.singling.specs.Singled.{singled_file};
 ghost use Rattle.singling.specs.Outcome.{outcome};
 ghost use Rattle.single_effects.specs.Claim.{Delivered};
 
-use outcome::Outcome;
-use task::{Checked, refused};
+use task::Refusal;
 
 // Rewrites the effects of the task in a file into the area: one effect for each choice of a literal from every clause.
-pub fn single(file: &[u8], out: &mut [u8]) -> Outcome
+pub fn single(file: &[u8], out: &mut [u8]) -> Result<usize, Refusal>
     ensures result_value { answer result ≡ outcome file.now (length out.old) }
     ensures out_after { let answered = outcome file.now (length out.old) in
         out.new ≡ area_after (singled_file file.now) out.old answered }
     ensures by_index { (n : ℕ) → answer result ≡ written n → Delivered file.now out.new n }
 {
-    let c = task::check(file);
-    let Checked::Accepted(z) = c else {
-        return Outcome::Refused(task::refusal_of(c));
-    };
+    let z = task::check(file)?;
     let middle = 8 + z.rows;
-    let found = wide::find_wide(&file[8..middle]);
-    if found.wide < z.rows {
-        return outcome::refuse(refused::CHOICES, found.wide as u16);
-    }
-    let facts = z.facts as u32;
-    let actions = z.actions as u32;
-    let preferences = z.preferences as u32;
-    whole::put_file(
-        &mut *out,
-        &file[8..middle],
-        &file[middle..],
-        facts,
-        actions,
-        preferences,
-        found.last,
-    )
+    let last = wide::find_wide(&file[8..middle])?;
+    whole::put_file(out, &file[8..middle], &file[middle..], z, last)
 }

@@ -4,7 +4,6 @@ ghost use Rattle.task.specs.TaskRows.{row};
 ghost use Rattle.task.specs.Limits.{MAX_ROWS};
 ghost use Rattle.task.specs.Rows.{between, MarksTo};
 ghost use Rattle.task.specs.Marks.{CLAUSE, LACKS};
-ghost use Rattle.singling.specs.Capped.{capped};
 ghost use Rattle.single_effects.specs.Shapes.{Few, tallied, counted, counted_at, shape_at, InOrder};
 
 use layout::sides;
@@ -38,12 +37,6 @@ pub struct Shape {
     pub changes: Span,
 }
 
-fn cap(n: usize) -> usize
-    ensures { result ≡ capped n }
-{
-    if n < OVERWIDE { n } else { OVERWIDE }
-}
-
 fn in_condition(mark: u8) -> bool
     ensures { result ≡ between CLAUSE LACKS mark }
 {
@@ -60,7 +53,7 @@ fn take_in(t: Tally, mark: u8) -> Tally
     let clauses = t.clauses;
     if mark == marks::CLAUSE {
         return Tally {
-            choices: cap(choices * literals),
+            choices: usize::min(choices * literals, OVERWIDE),
             literals: 0,
             clauses: clauses + 1,
         };
@@ -79,7 +72,7 @@ fn finish(t: Tally, i: usize) -> Counted
 {
     let clauses = t.clauses;
     Counted {
-        choices: cap(t.choices * t.literals),
+        choices: usize::min(t.choices * t.literals, OVERWIDE),
         clauses,
         next: i,
     }
@@ -96,16 +89,14 @@ fn count_choices(marks: &[u8], from: usize) -> Counted
         literals: 1,
         clauses: 0,
     };
-    let mut i = from;
-    while i < marks.len() {
+    for i in from..marks.len() {
         let mark = marks[i];
         if !in_condition(mark) {
             return finish(t, i);
         }
         t = take_in(t, mark);
-        i += 1;
     }
-    finish(t, i)
+    finish(t, marks.len())
 }
 
 // The shape of the effect that row `at` opens.

@@ -1,8 +1,10 @@
 // The whole file.
-ghost use Rattle.std.specs.Prelude.{◌≡◌, ◌≤◌, length};
+ghost use Rattle.std.specs.Prelude.{◌≡◌, true, ◌≤◌, length};
 ghost use Rattle.meaning.specs.Task.{Task};
 ghost use Rattle.task.specs.TaskRows.{task_rows};
 ghost use Rattle.task.specs.File.{file_of_rows};
+ghost use Rattle.task.specs.Check.{sizes_allowed};
+ghost use Rattle.task.specs.Answers.{as_sizes};
 ghost use Rattle.task.specs.Rows.{Rows};
 ghost use Rattle.writer.specs.Writer.{row_after, Room, Wrote};
 ghost use Rattle.singling.specs.Singled.{singled};
@@ -10,8 +12,8 @@ ghost use Rattle.single_effects.specs.Whole.{NoEffects, Narrow, Fitted};
 
 use super::{choosing, shapes};
 use layout::sides::Span;
-use outcome::Outcome;
-use task::{limits, marks, refused};
+use task::refused::Cause;
+use task::{Refusal, Sizes, limits, marks};
 use writer::Cursor;
 
 // Writes the rows of the new task: each effect with several choices by these, and the rows between such effects as they stand, since an
@@ -61,27 +63,29 @@ pub fn put_file(
     out: &mut [u8],
     marks: &[u8],
     values: &[u8],
-    facts: u32,
-    actions: u32,
-    preferences: u32,
+    z: Sizes,
     last: usize,
-) -> Outcome
+) -> Result<usize, Refusal>
     requires rows { Rows marks.now values.now × (last ≤ length marks.now) × NoEffects marks.now last (length marks.now) }
+    requires sizes { sizes_allowed (as_sizes z) ≡ true }
     requires narrow { (t : Task) × Narrow marks.now values.now t }
     ensures { (t : Task) → Narrow marks.now values.now t
         → let rows = task_rows (singled t) in
-        Fitted (length rows) (file_of_rows facts actions preferences rows) out.old result out.new }
+        Fitted (length rows) (file_of_rows z.facts z.actions z.preferences rows) out.old result out.new }
 {
     let n = count_rows(marks, values, last);
     if limits::MAX_ROWS < n {
-        return outcome::refuse(refused::TRANSLATION_ROWS, 0);
+        return Err(Cause::TranslationRows.at(0));
     }
-    let length = 8 + 5 * n;
-    if out.len() < length {
-        return outcome::refuse(refused::SHORT_OUTPUT, 0);
-    }
-    writer::put_sizes(&mut *out, facts, actions, preferences, n as u32);
+    let length = outcome::fitted(8 + 5 * n, out.len())?;
+    writer::put_sizes(
+        &mut *out,
+        z.facts as u32,
+        z.actions as u32,
+        z.preferences as u32,
+        n as u32,
+    );
     let c = Cursor { rows: n, next: 0 };
     let _ = put_task(&mut *out, c, marks, values, last);
-    Outcome::Written(length)
+    Ok(length)
 }

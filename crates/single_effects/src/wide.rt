@@ -1,22 +1,18 @@
 // Effects with too many choices.
-ghost use Rattle.std.specs.Prelude.{◌≡◌, List, true, ℕ, ◌+◌, ◌≤◌, length};
+ghost use Rattle.std.specs.Prelude.{◌≡◌, List, true, ℕ, ◌+◌, ◌≤◌, length, IfOk, IfErr};
 ghost use Rattle.meaning.specs.Task.{Task};
 ghost use Rattle.task.specs.TaskRows.{task_rows};
 ghost use Rattle.task.specs.File.{paired};
+ghost use Rattle.task.specs.Answers.{number_of};
+ghost use Rattle.task.specs.Refused.{CHOICES};
 ghost use Rattle.task.specs.Limits.{MAX_ROWS};
 ghost use Rattle.task.specs.Rows.{MarksTo};
 ghost use Rattle.singling.specs.Wide.{first_wide};
-ghost use Rattle.single_effects.specs.Whole.{place_at, NoEffects};
+ghost use Rattle.single_effects.specs.Whole.{place_in, NoEffects};
 
 use super::shapes;
-use task::{limits, marks};
-
-// The first EFFECT row whose effect has too many choices, or the number of rows; and the row after the last effect before it.
-#[derive(Clone, Copy)]
-pub struct Found {
-    pub wide: usize,
-    pub last: usize,
-}
+use task::refused::Cause;
+use task::{Refusal, limits, marks};
 
 // Whether none of four rows from row i on opens an effect.
 fn four_others(marks: &[u8], i: usize) -> bool
@@ -45,13 +41,13 @@ fn past_others(marks: &[u8], from: usize) -> usize
     i
 }
 
-// Goes through the effects.
-pub fn find_wide(marks: &[u8]) -> Found
+// Goes through the effects, and answers the row after the last one. The first that has too many choices is refused.
+pub fn find_wide(marks: &[u8]) -> Result<usize, Refusal>
     requires { length marks.now ≤ MAX_ROWS }
-    ensures last_in_bounds { (result.last ≤ length marks.now)
-        × (length marks.now ≤ result.wide → NoEffects marks.now result.last (length marks.now)) }
+    ensures last_in_bounds { IfOk result (λ last. (last ≤ length marks.now) × NoEffects marks.now last (length marks.now)) }
+    ensures for_choices { IfErr result (λ r. number_of r.cause ≡ CHOICES) }
     ensures by_index { (vs : List ℕ) (t : Task) → paired marks.now vs ≡ task_rows t
-        → place_at result.wide (length marks.now) ≡ first_wide 0 (task_rows t) }
+        → place_in result ≡ first_wide 0 (task_rows t) }
 {
     let mut last = 0;
     let mut i = 0;
@@ -59,7 +55,7 @@ pub fn find_wide(marks: &[u8]) -> Found
         if marks[i] == marks::EFFECT {
             let s = shapes::shape_of(marks, i);
             if limits::MAX_CHOICES < s.choices {
-                return Found { wide: i, last };
+                return Err(Cause::Choices.at(i as u16));
             }
             i = s.changes.to;
             last = i;
@@ -67,5 +63,5 @@ pub fn find_wide(marks: &[u8]) -> Found
             i = past_others(marks, i + 1);
         }
     }
-    Found { wide: i, last }
+    Ok(last)
 }

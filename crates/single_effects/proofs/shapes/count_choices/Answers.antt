@@ -1,6 +1,7 @@
 use borrow.Author.Rules.{rules}
-use mathlib.Core.Path.{refl, sym, ◌∙◌}
-use Prim.Native.Nat.{◌-◌}
+use mathlib.Core.Path.{◌≡◌, refl, sym, ap, ◌∙◌}
+use lib.ListN.{length}
+use Rattle.single_effects.specs.Shapes.{counted}
 use native.Mathlib.Omega.{arith}
 use borrow.Author.Tests.{not-true, not-false}
 use Rattle.single_effects.proofs.Counting.{fewer, counting_on, counted_stop, counted_end}
@@ -37,5 +38,7 @@ finish-requires-2 c =
 pub returns : goal.returns
 returns c =
     let a = c.args in
-    let parts = counted_end a.marks.now a.from c.loop-i.t c.loop-i.i c.loop-i.invariant (search rules) c.finish-2.result c.finish-2.ensures in
+    let end : length a.marks.now ≡ c.loop-i.i = omega (arith, c.loop-i.invariant.inside, c.loop-i.auto.i-end, c.loop-i-test.false) in
+    let parts = counted_end a.marks.now a.from c.loop-i.t c.loop-i.i c.loop-i.invariant (search rules) c.finish-2.result
+    (c.finish-2.ensures ∙ ap (counted c.loop-i.t) end) in
     record { from_le_next = parts.0; by_index = parts.1 }

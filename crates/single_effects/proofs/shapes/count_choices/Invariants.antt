@@ -1,11 +1,6 @@
 -- What is left to count from row i on is what the contract asks, by the laws of a row automaton (`Reading`).
-use Prim.Native.Nat.{◌-◌}
-use lib.ListN.{length}
 use Rattle.single_effects.proofs.Counting.{Counting}
 use Rattle.single_effects.proofs.shapes.count_choices.Given as goal
 
 abbrev pub invariant-loop-i : goal.invariant-loop-i
 invariant-loop-i l = Counting l.marks l.from l.t l.i
-
-abbrev pub decreases-loop-i : goal.decreases-loop-i
-decreases-loop-i l = length l.marks - l.i

@@ -10,4 +10,4 @@ overflow_mul-t c = record { fits = product_fits c.args.t c.requires }
 pub returns : goal.returns
 returns c =
     let a = c.args in
-    ap (λ (n : ℕ). record { choices = n; clauses = a.t.clauses; next = a.i }) c.cap.ensures
+    ap (λ (n : ℕ). record { choices = n; clauses = a.t.clauses; next = a.i }) c.min.ensures

@@ -11,7 +11,7 @@ overflow_mul-choices c = record { fits = product_fits c.args.t c.requires }
 pub returns-then-mark-eq-CLAUSE : goal.returns-then-mark-eq-CLAUSE
 returns-then-mark-eq-CLAUSE c = λ v.
     let a = c.args in
-    rw (eq-eqb a.mark 3 c.if-mark-eq-CLAUSE.true) (ap (λ (n : ℕ). record { choices = n; literals = 0; clauses = a.t.clauses + 1 }) c.cap.ensures)
+    rw (eq-eqb a.mark 3 c.if-mark-eq-CLAUSE.true) (ap (λ (n : ℕ). record { choices = n; literals = 0; clauses = a.t.clauses + 1 }) c.min.ensures)
 
 pub returns : goal.returns
 returns c = λ v. rw (ne_eqb c.args.mark 3 c.if-mark-eq-CLAUSE.false)

@@ -1,6 +1,6 @@
 use borrow.Author.Rules.{rules}
 use mathlib.Core.Path.{◌∙◌}
-use Prim.Native.Nat.{◌-◌, ◌≤◌}
+use Prim.Native.Nat.{◌≤◌}
 use native.Mathlib.Omega.{arith}
 use Rattle.single_effects.proofs.Rewriting.{Rewriting, rewriting_begins, rewritten, rewriting_on, rewriting_along, effect_there, rewriting_past}
 use Rattle.single_effects.proofs.whole.put_task.Goals as goal

@@ -1,7 +1,11 @@
 use borrow.Author.Rules.{rules}
+use mathlib.Core.Path.{ap, ◌∙◌}
+use mathlib.Core.Option.{some}
 use Prim.Native.Nat.{◌+◌, ◌-◌, ◌≤◌, ◌<◌}
 use native.Mathlib.Omega.{arith}
 use lib.ListN.{length}
+use Rattle.task.specs.Answers.{number_of}
+use Rattle.task.specs.declared.Refusal.{Refusal}
 use Rattle.single_effects.specs.Whole.{NoEffects}
 use Rattle.single_effects.proofs.Seeking.{seeking_begins, none_found, seeking_on, seeking_through, found_here, seeking_past, no_both, no_more}
 use Rattle.single_effects.proofs.wide.find_wide.Goals as goal
@@ -13,8 +17,9 @@ pub returns-then-s-gt-MAX_CHOICES : goal.returns-then-s-gt-MAX_CHOICES
 returns-then-s-gt-MAX_CHOICES c =
     let a = c.args in
     let inside : c.loop-i.i < length a.marks.now = search rules in record {
-      last_in_bounds = (c.loop-i.invariant.1, λ h m f g q. omega arith);
-      by_index = λ vs t e. found_here a.marks.now vs t c.loop-i.i (c.loop-i.invariant.0 vs t e) inside (search rules) c.shape_of-s.result (c.shape_of-s.ensures.by_index vs) (search rules);
+      last_in_bounds = tt;
+      for_choices = ap (λ (r : Refusal). number_of r.cause) c.at.ensures;
+      by_index = λ vs t e. ap (λ (r : Refusal). some r.place) c.at.ensures ∙ found_here a.marks.now vs t c.loop-i.i (c.loop-i.invariant.0 vs t e) inside (search rules) c.shape_of-s.result (c.shape_of-s.ensures.by_index vs) (search rules);
     }
 
 pub loop-i-smaller-then-marks-i-eq-EFFECT : goal.loop-i-smaller-then-marks-i-eq-EFFECT
@@ -50,6 +55,7 @@ pub returns : goal.returns
 returns c =
     let a = c.args in
     let through : length a.marks.now ≤ c.loop-i.i = search rules in record {
-      last_in_bounds = (c.loop-i.invariant.1, λ h m f g q. c.loop-i.invariant.2 m f (omega arith) q);
+      last_in_bounds = (c.loop-i.invariant.1, λ m f g q. c.loop-i.invariant.2 m f (omega arith) q);
+      for_choices = tt;
       by_index = λ vs t e. none_found a.marks.now vs t c.loop-i.i (c.loop-i.invariant.0 vs t e) through;
     }
