@@ -2,6 +2,7 @@
 use mathlib.Core.Path.{◌≡◌, refl, sym, ap, ◌∙◌, subst}
 use mathlib.Core.Bool.{Bool, true, false, cond, ◌&&◌, true≢false}
 use mathlib.Core.List.{List, []}
+use Rattle.std.specs.Prelude.{Result, Ok, Err}
 use Prim.Native.Nat.{ℕ, ◌+◌, ◌*◌, ◌≤◌, ◌<◌}
 use native.Mathlib.Omega.{arith}
 use lib.Dec.{leb}
@@ -13,16 +14,13 @@ use Rattle.task.specs.File
 use Rattle.task.specs.File.{sizes, task_of}
 use Rattle.task.specs.Check
 use Rattle.task.specs.Check.{Answer, check}
-use Rattle.task.specs.Answers.{answer as checked, as_sizes, refusal_in}
+use Rattle.task.specs.Answers.{number_of, answer as checked, as_sizes}
 use Rattle.task.specs.declared.Sizes.{Sizes}
 use Rattle.task.specs.declared.Refusal.{Refusal}
-use Rattle.task.specs.declared.Checked.{Checked}
-use Rattle.task.specs.declared.Checked.TheVariants.{Accepted, Refused}
 use Rattle.task.proofs.Spelled.{accepted_spelling}
 use Rattle.task.proofs.Answered.{passed_on}
 use Rattle.classical.specs.Translation.{further, translated, compiled_rows}
 use Rattle.writer.specs.Writer.{row_after}
-use Rattle.outcome.specs.Outcome
 use Rattle.outcome.specs.Outcome.{Outcome, fitted}
 use Rattle.translated_rows.specs.Parts.{translated_rows}
 use Rattle.translated_rows.specs.declared.places.Places.{Places}
@@ -35,12 +33,12 @@ use Rattle.translation.proofs.Translating.{Counted, accepted, test_is, reads, ms
 abbrev by : List ℕ → Answer → Measured
 by b a = measured_by b (outcome_by b 60008 a)
 
-module _ (b : List ℕ) (x : Checked) (e : checked x ≡ check b) where
-  pub turned_down : (f : Refusal) → x ≡ Refused f → (r : Refusal) → r ≡ refusal_in x → refused r.number r.place ≡ measured b
+module _ (b : List ℕ) (x : Result Sizes Refusal) (e : checked x ≡ check b) where
+  pub turned_down : (r : Refusal) → x ≡ Err r → refused (number_of r.cause) r.place ≡ measured b
   unfolding outcome measured
   turned_down = passed_on (by b) b x e
 
-  module _ (z : Sizes) (q : x ≡ Accepted z) where
+  module _ (z : Sizes) (q : x ≡ Ok z) where
     on_task : by b (Check.accepted (as_sizes z)) ≡ measured b
     unfolding outcome measured
     on_task = ap (by b) (sym (accepted b [] x e z q))

@@ -2,7 +2,8 @@
 use mathlib.Core.Path.{◌≡◌, refl, sym, ap, ap₂, ◌∙◌, subst, subst⁻¹}
 use mathlib.Core.Bool.{Bool, true, false, cond, ◌&&◌, ◌||◌, true≢false}
 use mathlib.Core.List.{List, ◌++◌}
-use Prim.Native.Nat.{ℕ, ◌+◌, ◌*◌, ◌-◌, ◌≤◌, ◌<◌}
+use Rattle.std.specs.Prelude.{Result, Ok, Err}
+use Prim.Native.Nat.{ℕ, ◌+◌, ◌*◌, ◌≤◌, ◌<◌}
 use native.Mathlib.Omega.{arith}
 use lib.Dec.{T, leb, leb→le}
 use lib.ListN.{length, take, drop}
@@ -17,11 +18,9 @@ use Rattle.task.specs.File
 use Rattle.task.specs.File.{paired, sizes, sizes_of, task_of_rows, task_of, bytes16, file_of}
 use Rattle.task.specs.Check
 use Rattle.task.specs.Check.{check}
-use Rattle.task.specs.Answers.{answer as checked, as_sizes, refusal_in}
+use Rattle.task.specs.Answers.{number_of, answer as checked, as_sizes}
 use Rattle.task.specs.declared.Sizes.{Sizes}
 use Rattle.task.specs.declared.Refusal.{Refusal}
-use Rattle.task.specs.declared.Checked.{Checked}
-use Rattle.task.specs.declared.Checked.TheVariants.{Accepted, Refused}
 use Rattle.lists.proofs.Tests.{tests, all_implies}
 use Rattle.task.proofs.RoundTrip.{task_back}
 use Rattle.task.proofs.Bytes.{file_length}
@@ -35,9 +34,8 @@ use Rattle.writer.specs.declared.Cursor.{Cursor}
 use Rattle.translated_rows.specs.Parts.{read_task, Found}
 use Rattle.translated_rows.specs.declared.places.Places.{Places}
 use Rattle.translation.specs.Whole.{Sized, Fitted}
-use Rattle.outcome.specs.Outcome.{written, refused, area_after}
+use Rattle.outcome.specs.Outcome.{written, refused, fitted, area_after}
 use Rattle.outcome.specs.Answers.{answer}
-use Rattle.outcome.specs.declared.Outcome.{Outcome}
 use Rattle.translation.specs.Translated.{rows_fitted, small_enough, outcome_by, outcome, Delivered}
 use Rattle.classical.specs.Claim.{Faithful}
 use Rattle.writer.proofs.Putting.{whole_file}
@@ -71,8 +69,16 @@ module _ (m n room : ℕ) (e : n ≡ row_after 0 m) where
       let same : n ≡ m = omega arith in
       rw (le-leb m 12000 l, le-leb (8 + 5 * m) room g) (ap (λ (k : ℕ). written (8 + 5 * k)) same)
 
+-- what is written has the length that was asked for, and fits
+pub fits_is : (bytes room n : ℕ) → written n ≡ fitted bytes room → (n ≡ bytes) × (bytes ≤ room)
+fits_is bytes room n e = go (leb bytes room) refl e
+  where
+    go : (u : Bool) → leb bytes room ≡ u → written n ≡ cond u (written bytes) (refused 9 0) → (n ≡ bytes) × (bytes ≤ room)
+    go true p q = (cc, leb-true bytes room p)
+    go false p q = absurd (true≢false (cc))
+
 -- refused: the area is as it was
-pub stays : (t : Task) (b : List ℕ) (r : Outcome) (k : ℕ) → answer r ≡ refused k 0 → refused k 0 ≡ rows_fitted (length (task_rows (translated t))) (length b) → Fitted t b r b
+pub stays : (t : Task) (b : List ℕ) (r : Result ℕ Refusal) (k : ℕ) → answer r ≡ refused k 0 → refused k 0 ≡ rows_fitted (length (task_rows (translated t))) (length b) → Fitted t b r b
 stays t b r k e f = record { answering = e ∙ f; area = sym (ap (area_after (file_of (translated t)) b) e) }
 
 -- written: the file, and then what stood after it
@@ -175,13 +181,13 @@ module _ (b area : List ℕ) (n : ℕ) where
 -- The whole
 
 -- what translate promises of its answer and of the area
-abbrev Promised : List ℕ → List ℕ → Outcome → List ℕ → Type 0
+abbrev pub Promised : List ℕ → List ℕ → Result ℕ Refusal → List ℕ → Type 0
 Promised b area r out =
     (answer r ≡ outcome b (length area))
     × ((out ≡ area_after (compiled b) area (outcome b (length area)))
     × ((n : ℕ) → answer r ≡ written n → Delivered b out n))
 
-promised : (b area : List ℕ) (r : Outcome) (out : List ℕ) → answer r ≡ outcome b (length area) → out ≡ area_after (compiled b) area (answer r) → Promised b area r out
+promised : (b area : List ℕ) (r : Result ℕ Refusal) (out : List ℕ) → answer r ≡ outcome b (length area) → out ≡ area_after (compiled b) area (answer r) → Promised b area r out
 promised b area r out e f = (
   e,
   (
@@ -190,17 +196,16 @@ promised b area r out e f = (
   ),
 )
 
-module _ (b area : List ℕ) (x : Checked) (e : checked x ≡ check b) where
+module _ (b area : List ℕ) (x : Result Sizes Refusal) (e : checked x ≡ check b) where
   -- a refusal leaves the area as it was
-  refuses : (r : Outcome) (k i : ℕ) → answer r ≡ refused k i → refused k i ≡ outcome b (length area) → Promised b area r area
+  refuses : (r : Result ℕ Refusal) (k i : ℕ) → answer r ≡ refused k i → refused k i ≡ outcome b (length area) → Promised b area r area
   refuses r k i p q = promised b area r area (p ∙ q) (sym (ap (area_after (compiled b) area) p))
 
-  pub turned_down : (f : Refusal) → x ≡ Refused f → (r : Refusal) → r ≡ refusal_in x → Promised b area (Outcome.Refused r) area
+  pub turned_down : (f : Refusal) → x ≡ Err f → Promised b area (Err f) area
   unfolding outcome
-  turned_down f q r says =
-      refuses (Outcome.Refused r) f.number f.place (ap (λ (g : Refusal). refused g.number g.place) (says ∙ ap refusal_in q)) (ap (outcome_by b (length area)) (sym (ap checked q) ∙ e))
+  turned_down f q = refuses (Err f) (number_of f.cause) f.place refl (ap (outcome_by b (length area)) (sym (ap checked q) ∙ e))
 
-  module _ (z : Sizes) (q : x ≡ Accepted z) where
+  module _ (z : Sizes) (q : x ≡ Ok z) where
     pub accepted : check b ≡ Check.accepted (as_sizes z)
     accepted = sym e ∙ ap checked q
 
@@ -233,7 +238,7 @@ module _ (b area : List ℕ) (x : Checked) (e : checked x ≡ check b) where
     pub test_is : (p : Places) (d : ℕ) → Counted p d → (x : Bool) → small_enough (as_sizes z) d ≡ x → small_enough (as_sizes z) (further (task_of b).preferences) ≡ x
     test_is p d e x h = ap (small_enough (as_sizes z)) (sym (counted_is p d e)) ∙ h
 
-    pub too_large : (p : Places) (d : ℕ) → Counted p d → small_enough (as_sizes z) d ≡ false → (r : Outcome) → answer r ≡ refused 7 0 → Promised b area r area
+    pub too_large : (p : Places) (d : ℕ) → Counted p d → small_enough (as_sizes z) d ≡ false → (r : Result ℕ Refusal) → answer r ≡ refused 7 0 → Promised b area r area
     too_large p d e h r q = refuses r 7 0 q (rw (test_is p d e false h) at on_task)
 
     pub small : (d : ℕ) → small_enough (as_sizes z) d ≡ true → (z.facts + 3 * z.preferences + 2 + d ≤ 128) × (z.actions + 2 * z.preferences + 1 ≤ 128)
@@ -269,7 +274,7 @@ module _ (b area : List ℕ) (x : Checked) (e : checked x ≡ check b) where
           few_actions = (small d h).1;
         }
 
-    pub put : (p : Places) (d : ℕ) → Counted p d → small_enough (as_sizes z) d ≡ true → (r : Outcome) (out : List ℕ)
+    pub put : (p : Places) (d : ℕ) → Counted p d → small_enough (as_sizes z) d ≡ true → (r : Result ℕ Refusal) (out : List ℕ)
         → Fitted (read_task z.facts ms vs) area r out → Promised b area r out
     put p d e h r out fits =
         let f : Fitted (task_of b) area r out = subst (λ (t : Task). Fitted t area r out) reads fits in

@@ -1,13 +1,12 @@
 -- Whether the task in a file can be translated: what translate answers where no area is too short.
-use Rattle.std.specs.Prelude.{List, ℕ}
+use Rattle.std.specs.Prelude.{List, ℕ, Result, Ok, Err}
 use Rattle.task.specs.File.{Sizes, sizes}
-use Rattle.task.specs.Answers.{as_sizes}
+use Rattle.task.specs.Answers.{as_sizes, number_of}
+use Rattle.task.specs.declared.Sizes.{Sizes as Given}
+use Rattle.task.specs.declared.Refusal.{Refusal}
 use Rattle.task.specs.Limits.{MAX_FILE}
-use Rattle.outcome.specs.Outcome
 use Rattle.outcome.specs.Outcome.{Outcome}
 use Rattle.translation.specs.Translated.{outcome}
-use Rattle.translation.specs.declared.measures.Measured.{Measured as Given}
-use Rattle.translation.specs.declared.measures.Measured.TheVariants.{Within, Refused}
 
 -- it can, and has these sizes; or it is refused by a number, with a place
 pub data Measured : Type 0 where
@@ -22,6 +21,6 @@ unfoldable pub measured : List ℕ → Measured
 measured b = measured_by b (outcome b MAX_FILE)
 
 -- what the answers of `measure` stand for
-abbrev pub measured_as : Given → Measured
-measured_as (Within z) = within (as_sizes z)
-measured_as (Refused r) = refused r.number r.place
+abbrev pub measured_as : Result Given Refusal → Measured
+measured_as (Ok z) = within (as_sizes z)
+measured_as (Err r) = refused (number_of r.cause) r.place

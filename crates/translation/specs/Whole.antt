@@ -1,5 +1,5 @@
 -- What is due and written where the rows spell a task whose translation is not too large.
-use Rattle.std.specs.Prelude.{◌≡◌, List, ℕ, ◌+◌, ◌*◌, ◌≤◌, length}
+use Rattle.std.specs.Prelude.{◌≡◌, Result, List, ℕ, ◌+◌, ◌*◌, ◌≤◌, length}
 use Rattle.meaning.specs.Task.{Task}
 use Rattle.task.specs.TaskRows.{task_rows}
 use Rattle.task.specs.File.{file_of}
@@ -7,7 +7,7 @@ use Rattle.task.specs.Limits.{MAX_ACTIONS, MAX_FACTS}
 use Rattle.classical.specs.Translation.{further, translated}
 use Rattle.outcome.specs.Outcome.{area_after}
 use Rattle.outcome.specs.Answers.{answer}
-use Rattle.outcome.specs.declared.Outcome.{Outcome}
+use Rattle.task.specs.declared.Refusal.{Refusal}
 use Rattle.translated_rows.specs.Parts.{read_task, Source}
 use Rattle.translation.specs.Translated.{rows_fitted}
 
@@ -20,6 +20,6 @@ pub record Sized (ms vs : List ℕ) (F A P D : ℕ) : Type 0 where
   pub few_actions : A + 2 * P + 1 ≤ MAX_ACTIONS
 
 -- r is due for the translation of t and an area as long as b, and the area holds what r says
-pub record Fitted (t : Task) (b : List ℕ) (r : Outcome) (out : List ℕ) : Type 0 where
+pub record Fitted (t : Task) (b : List ℕ) (r : Result ℕ Refusal) (out : List ℕ) : Type 0 where
   pub answering : answer r ≡ rows_fitted (length (task_rows (translated t))) (length b)
   pub area : out ≡ area_after (file_of (translated t)) b (answer r)
