@@ -1,17 +1,17 @@
 // The actions of a node that the search takes, tried by number.
 #![tactic(auto)]
 
-ghost use Rattle.std.specs.Prelude.{◌≡◌, Bool, ℕ, ◌+◌, ◌*◌, ◌<◌, length};
+ghost use Rattle.std.specs.Prelude.{◌≡◌, Bool, ℕ, ◌+◌, ◌*◌, ◌<◌, ◌≤◌, length, IfSome};
 ghost use Rattle.meaning.specs.Task.{Task};
 ghost use Rattle.task.specs.Rows.{Rows};
 ghost use Rattle.layout.specs.Actions.{ActionAt, SomeAction};
 ghost use Rattle.searching.specs.Limits.{MAX_NODES};
-ghost use Rattle.meeting.specs.Meeting.{nodes_in};
+ghost use Rattle.meeting.specs.Meeting.{nodes_in, wanted};
 ghost use Rattle.expanding.specs.Expanding.{Listed, Trying, Tried, Expanding, Expanded};
 
 use leading;
-use leading::Led;
 use meeting;
+use meeting::Index;
 use node_words;
 use node_words::Packed;
 
@@ -40,80 +40,56 @@ fn link(place: usize, action: usize) -> u64
     (place as u64) * 256 + (action as u64)
 }
 
-// Tries one action from node x: how many nodes there are then, more than the limit where one had no room.
+// Tries one action from node x: how many nodes there are then, or none where one had no room.
 fn try_action(
     marks: &[u8],
     values: &[u8],
     trial: Trial,
     x: Packed,
     words: &mut [u64],
-    table: &mut [u16],
-    tree: &mut [u16],
-) -> usize
+    index: &mut Index,
+) -> Option<usize>
     requires rows { Rows marks.now values.now × (trial.from < length marks.now) × SomeAction marks.now values.now trial.from }
-    requires by_index { (taken : ℕ → Bool) × Trying trial.limit x (nodes_in words.old table.old tree.old trial.nodes taken) }
-    ensures { let before = nodes_in words.old table.old tree.old trial.nodes in
-        let after = nodes_in words.new table.new tree.new result in
+    requires by_index { (taken : ℕ → Bool) × Trying trial.limit x (nodes_in words.old index.old.table index.old.tree trial.nodes taken) }
+    ensures tried { let before = nodes_in words.old index.old.table index.old.tree trial.nodes in
+        let after = nodes_in words.new index.new.table index.new.tree (wanted trial.limit result) in
         ((t : Task) (k : ℕ) (taken : ℕ → Bool) → ActionAt marks.now values.now trial.from t k
         → Trying trial.limit x (before taken) → Tried trial x (before taken) (after taken) t k) }
+    ensures within { IfSome result (λ m. m ≤ trial.limit) }
 {
-    let led = leading::lead(marks, values, trial.from, x, trial.link);
-    let Led::To(y) = led else {
-        return trial.nodes;
+    let Some(y) = leading::lead(marks, values, trial.from, x, trial.link) else {
+        return Some(trial.nodes);
     };
-    meeting::meet(
-        &mut *words,
-        &mut *table,
-        &mut *tree,
-        trial.nodes,
-        trial.limit,
-        y,
-    )
+    meeting::meet(&mut *words, &mut *index, trial.nodes, trial.limit, y)
 }
 
-// Tries the actions, whose rows are `starts`, from the taken place: how many nodes there are then, more than the limit where one had
-// no room.
+// Tries the actions, whose rows are `starts`, from the taken place: how many nodes there are then, or none where one had no room.
 pub fn expand(
     marks: &[u8],
     values: &[u8],
     starts: &[usize],
     turn: Turn,
     words: &mut [u64],
-    table: &mut [u16],
-    tree: &mut [u16],
-) -> usize
+    index: &mut Index,
+) -> Option<usize>
     requires { (t : Task) × (taken : ℕ → Bool) × Listed marks.now values.now starts.now t
-        × Expanding turn (nodes_in words.old table.old tree.old turn.nodes taken) t }
-    ensures { let before = nodes_in words.old table.old tree.old turn.nodes in
-        let after = nodes_in words.new table.new tree.new result in
+        × Expanding turn (nodes_in words.old index.old.table index.old.tree turn.nodes taken) t }
+    ensures expanded { let before = nodes_in words.old index.old.table index.old.tree turn.nodes in
+        let after = nodes_in words.new index.new.table index.new.tree (wanted turn.limit result) in
         ((t : Task) (taken : ℕ → Bool) → Listed marks.now values.now starts.now t
         → Expanding turn (before taken) t → Expanded turn (before taken) (after taken) t) }
+    ensures within { IfSome result (λ m. m ≤ turn.limit) }
 {
-    let place = turn.place;
-    let limit = turn.limit;
-    let x = node_words::node_at(&*words, place);
+    let x = node_words::node_at(&*words, turn.place);
     let mut n = turn.nodes;
-    let mut k = 0;
-    while k < starts.len() {
+    for (k, from) in starts.iter().enumerate() {
         let trial = Trial {
-            from: starts[k],
-            link: link(place, k),
+            from: *from,
+            link: link(turn.place, k),
             nodes: n,
-            limit,
+            limit: turn.limit,
         };
-        n = try_action(
-            marks,
-            values,
-            trial,
-            x,
-            &mut *words,
-            &mut *table,
-            &mut *tree,
-        );
-        if limit < n {
-            return n;
-        }
-        k += 1;
+        n = try_action(marks, values, trial, x, &mut *words, &mut *index)?;
     }
-    n
+    Some(n)
 }

@@ -14,9 +14,9 @@ ghost use Rattle.exploring.specs.Exploring.{Opened, as_answer};
 
 use expanding;
 use expanding::Turn;
+use meeting::Index;
 use node_words;
 use reading::conditions;
-use state::State;
 use tournament;
 
 // Found has the place that meets the goal; each has the number of nodes.
@@ -32,12 +32,7 @@ fn meets_goal(marks: &[u8], values: &[u8], goal: usize, words: &[u64], p: usize)
     requires { Rows marks.now values.now × Placed words.now p }
     ensures { result ≡ (evaluate_at (member (state_of (packed_at words.now p))) begin marks.now values.now goal).holds }
 {
-    let x = node_words::node_at(words, p);
-    let s = State {
-        low: x.low,
-        high: x.high,
-    };
-    let g = conditions::condition(marks, values, goal, s);
+    let g = conditions::condition(marks, values, goal, node_words::state_at(words, p));
     g.holds
 }
 
@@ -49,44 +44,31 @@ pub fn explore(
     goal: usize,
     limit: usize,
     words: &mut [u64],
-    table: &mut [u16],
-    tree: &mut [u16],
+    index: &mut Index,
 ) -> Ended
     requires node_limit { NodeLimit limit }
-    requires listed { (t : Task) × Listed marks.now values.now starts.now t × Opened goal words.old table.old tree.old t }
+    requires listed { (t : Task) × Listed marks.now values.now starts.now t × Opened goal words.old index.old.table index.old.tree t }
     ensures { (t : Task) → Listed marks.now values.now starts.now t
-        → Opened goal words.old table.old tree.old t → as_answer words.new result ≡ Search.explore t limit }
+        → Opened goal words.old index.old.table index.old.tree t → as_answer words.new result ≡ Search.explore t limit }
 {
     let mut n = 1;
-    let mut m = 0;
-    while m < limit {
-        let root = tree[1] as usize;
-        if root == 0 {
+    for _turn in 0..limit {
+        let Some(place) = node_words::place_of(index.tree[1]) else {
             return Ended::NoPlan(n);
+        };
+        if meets_goal(marks, values, goal, &*words, place) {
+            return Ended::Found(place, n);
         }
-        let i = root - 1;
-        if meets_goal(marks, values, goal, &*words, i) {
-            return Ended::Found(i, n);
-        }
-        tournament::set_leaf(&mut *tree, &*words, i, false);
+        tournament::set_leaf(&mut index.tree, &*words, place, false);
         let turn = Turn {
-            place: i,
+            place,
             nodes: n,
             limit,
         };
-        n = expanding::expand(
-            marks,
-            values,
-            starts,
-            turn,
-            &mut *words,
-            &mut *table,
-            &mut *tree,
-        );
-        if limit < n {
+        let Some(more) = expanding::expand(marks, values, starts, turn, &mut *words, &mut *index) else {
             return Ended::Full(limit);
-        }
-        m += 1;
+        };
+        n = more;
     }
     Ended::NoPlan(n)
 }

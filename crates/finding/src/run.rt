@@ -14,6 +14,7 @@ use exploring;
 use exploring::Ended;
 use layout::actions;
 use meeting;
+use meeting::Index;
 use node_words::Packed;
 use reading::opening;
 use state_table;
@@ -31,15 +32,17 @@ pub fn on_rows(marks: &[u8], values: &[u8], limit: usize, words: &mut [u64]) -> 
     let s = start.state;
     let mut starts: [usize; limits::MAX_ACTIONS] = [0; limits::MAX_ACTIONS];
     let many = actions::note_actions(marks, &mut starts);
-    let mut table: [u16; state_table::SLOTS] = [0; state_table::SLOTS];
-    let mut tree: [u16; tournament::ENTRIES] = [0; tournament::ENTRIES];
+    let mut index = Index {
+        table: [0; state_table::SLOTS],
+        tree: [0; tournament::ENTRIES],
+    };
     let x = Packed {
         low: s.low,
         high: s.high,
         cost: 0,
         link: 0,
     };
-    meeting::meet(&mut *words, &mut table, &mut tree, 0, limit, x);
+    meeting::meet(&mut *words, &mut index, 0, limit, x);
     exploring::explore(
         marks,
         values,
@@ -47,7 +50,6 @@ pub fn on_rows(marks: &[u8], values: &[u8], limit: usize, words: &mut [u64]) -> 
         goal,
         limit,
         &mut *words,
-        &mut table,
-        &mut tree,
+        &mut index,
     )
 }

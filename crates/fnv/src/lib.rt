@@ -1,7 +1,7 @@
 // The 32-bit FNV-1a hash of a state's 16 bytes.
 #![tactic(auto)]
 
-ghost use Rattle.std.specs.Prelude.{◌≡◌, ◌*◌, ◌%◌};
+ghost use Rattle.std.specs.Prelude.{◌≡◌};
 ghost use Rattle.fnv.specs.Fnv.{BASIS, mixed, hash_from, fnv1a, little_endian, state_bytes};
 
 use state::State;
@@ -10,38 +10,34 @@ const BASIS: u32 = 2166136261;
 
 const PRIME: u32 = 16777619;
 
-// The product of two numbers of 32 bits, of which the lower 32 bits are kept.
-fn times(a: u32, b: u32) -> u32
-    ensures { result ≡ a * b % 4294967296 }
-{
-    ((a as u64) * (b as u64) % 4294967296) as u32
-}
-
 // The hash h with one byte more.
 fn with_byte(h: u32, byte: u8) -> u32
     ensures { result ≡ mixed h byte }
 {
-    times(h ^ (byte as u32), PRIME)
+    (h ^ u32::from(byte)).wrapping_mul(PRIME)
+}
+
+// The hash h with these bytes more.
+fn with_bytes(h: u32, bytes: &[u8]) -> u32
+    ensures { result ≡ hash_from h bytes.now }
+{
+    let mut g = h;
+    for byte in bytes {
+        g = with_byte(g, *byte);
+    }
+    g
 }
 
 // The hash h with the eight bytes of a word more, the lowest first.
 fn with_word(h: u32, word: u64) -> u32
     ensures { result ≡ hash_from h (little_endian 8 word) }
 {
-    let mut g = h;
-    let mut w = word;
-    let mut i: usize = 0;
-    while i < 8 {
-        g = with_byte(g, (w % 256) as u8);
-        w = w / 256;
-        i += 1;
-    }
-    g
+    with_bytes(h, &word.to_le_bytes())
 }
 
 // The hash of a state: of word 0, then of word 1.
-pub fn of_state(low: u64, high: u64) -> u32
-    ensures { result ≡ fnv1a (state_bytes (record { low = low; high = high })) }
+pub fn of_state(s: State) -> u32
+    ensures { result ≡ fnv1a (state_bytes s) }
 {
-    with_word(with_word(BASIS, low), high)
+    with_word(with_word(BASIS, s.low), s.high)
 }

@@ -10,32 +10,21 @@ ghost use Rattle.leading.specs.Leading.{LedAs};
 
 use node_words::Packed;
 use reading::{conditions, effects};
-use state::State;
 use task::rows;
 
-// The node that an action leads to, or none where it does not apply.
-#[derive(Clone, Copy)]
-pub enum Led {
-    To(Packed),
-    None,
-}
-
-// Where the action that row `from` opens leads from node x; the new node gets the link.
-pub fn lead(marks: &[u8], values: &[u8], from: usize, x: Packed, link: u64) -> Led
+// Where the action that row `from` opens leads from node x, or none where it does not apply; the new node gets the link.
+pub fn lead(marks: &[u8], values: &[u8], from: usize, x: Packed, link: u64) -> Option<Packed>
     requires rows { Rows marks.now values.now × (from < length marks.now) × (x.cost < AMPLE) }
     requires some_action { SomeAction marks.now values.now from }
     ensures { (t : Task) (k : ℕ) → ActionAt marks.now values.now from t k → LedAs t k x link result }
 {
-    let s = State {
-        low: x.low,
-        high: x.high,
-    };
+    let s = x.state();
     let pre = conditions::condition(marks, values, from + 1, s);
     if !pre.holds {
-        return Led::None;
+        return None;
     }
     let next = effects::after(marks, values, pre.next, s);
-    Led::To(Packed {
+    Some(Packed {
         low: next.low,
         high: next.high,
         cost: x.cost + (rows::value_at(values, from) as u64),

@@ -1,5 +1,5 @@
 -- The nodes of a search as its code holds them, and a node that is met.
-use Rattle.std.specs.Prelude.{◌≡◌, ◌⊎◌, Bool, not, cond, ◌&&◌, List, ℕ, ◌^◌, ◌≤◌, ◌<◌, leb, ltb, length}
+use Rattle.std.specs.Prelude.{◌≡◌, ◌⊎◌, Bool, not, cond, ◌&&◌, List, ℕ, suc, ◌^◌, ◌≤◌, ◌<◌, leb, ltb, length, Option, Some, None}
 use Rattle.state.specs.Member.{member}
 use Rattle.searching.specs.Search.{Node, Kept, meet, fit}
 use Rattle.searching.specs.States.{Below}
@@ -59,6 +59,11 @@ kept_as limit s = record { nodes = list_of (roomed limit s); full = not (leb s.c
 -- the nodes name facts below F only
 abbrev pub AllBelow : ℕ → Nodes → Type 0
 AllBelow F s = (p : ℕ) → p < s.count → Below F (member (state_of (packed_at s.words p)))
+
+-- how many nodes were wanted, one more than the limit where the last had no room
+abbrev pub wanted : ℕ → Option ℕ → ℕ
+wanted limit (Some n) = n
+wanted limit None = suc limit
 
 -- x is met; where it is new and has no room, `after` counts it all the same
 pub record MetAs (before after : Nodes) (limit : ℕ) (x : Packed) : Type 0 where

@@ -41,31 +41,25 @@ pub fn put_node(nodes: &mut [Node], i: usize, n: Node)
 }
 
 // The node whose words stand at place i.
-pub fn node_of<'a>(i: usize, words: &'a [u64]) -> Node
+pub fn node_of(i: usize, words: &[u64]) -> Node
     requires { Placed words.now i }
     ensures { result ≡ node_read words.now i }
 {
     let x = node_words::node_at(words, i);
-    let state = State {
-        low: x.low,
-        high: x.high,
-    };
     Node {
-        state,
+        state: x.state(),
         cost: x.cost,
-        origin: (x.link / 256 % 65536) as u16,
-        action: (x.link % 256) as u8,
+        origin: (x.origin() % 65536) as u16,
+        action: x.action(),
     }
 }
 
 // The first n nodes come from their words, and the others are as they were.
-pub fn fill<'b, 'a>(nodes: &'b mut [Node], n: usize, words: &'a [u64])
+pub fn fill(nodes: &mut [Node], n: usize, words: &[u64])
     requires { (n ≤ length nodes.old) × RoomFor words.now n }
     ensures { nodes.new ≡ up_to (node_read words.now) n ++ drop n nodes.old }
 {
-    let mut i = 0;
-    while i < n {
+    for i in 0..n {
         nodes[i] = node_of(i, words);
-        i = i + 1;
     }
 }

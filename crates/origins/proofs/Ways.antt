@@ -86,9 +86,9 @@ module _ (words : List ℕ) (n place : ℕ) (inside : Inside (nodes_of words n))
   pub counted_zero : (d i : ℕ) → Counted words n place d i → i ≡ 0 → d ≡ length (plan_to ns place)
   counted_zero d i C z = omega (arith, C.same, ap length (plan_none ns (n - d) i z))
 
-  pub counted_last : (d i : ℕ) → Counted words n place d i → n ≤ d → d ≡ length (plan_to ns place)
+  pub counted_last : (d i : ℕ) → Counted words n place d i → n ≤ d → n ≡ length (plan_to ns place)
   counted_last d i C l =
-      let e : n - d ≡ 0 = omega arith in omega (arith, C.same, ap (λ (j : ℕ). length (plan_from ns j i)) e)
+      let e : n - d ≡ 0 = omega arith in omega (arith, C.few, C.same, ap (λ (j : ℕ). length (plan_from ns j i)) e)
 
   -- Writing
 

@@ -1,30 +1,12 @@
 // The plan that leads to a node, read from the origins.
 #![tactic(auto)]
 
-ghost use Rattle.std.specs.Prelude.{◌≡◌, ◌++◌, ◌/◌, ◌%◌, ◌≤◌, length, drop};
+ghost use Rattle.std.specs.Prelude.{◌≡◌, ◌++◌, ◌≤◌, length, drop};
 ghost use Rattle.searching.specs.Search.{plan_to};
-ghost use Rattle.node_words.specs.Words.{Placed, packed_at, nodes_of};
+ghost use Rattle.node_words.specs.Words.{nodes_of};
 ghost use Rattle.origins.specs.Origins.{PlaceIn};
 
 use node_words;
-
-// The place from which the node at place p was reached.
-fn origin_at(words: &[u64], p: usize) -> usize
-    requires { Placed words.now p }
-    ensures { result ≡ (packed_at words.now p).link / 256 }
-{
-    let x = node_words::node_at(words, p);
-    (x.link / 256) as usize
-}
-
-// The action that led to it.
-fn action_at(words: &[u64], p: usize) -> u8
-    requires { Placed words.now p }
-    ensures { result ≡ (packed_at words.now p).link % 256 }
-{
-    let x = node_words::node_at(words, p);
-    (x.link % 256) as u8
-}
 
 // How many steps lead to a place of n nodes.
 fn count_steps(words: &[u64], n: usize, place: usize) -> usize
@@ -32,15 +14,13 @@ fn count_steps(words: &[u64], n: usize, place: usize) -> usize
     ensures { result ≡ length (plan_to (nodes_of words.now n) place) }
 {
     let mut i = place;
-    let mut d = 0;
-    while d < n {
+    for d in 0..n {
         if i == 0 {
             return d;
         }
-        i = origin_at(words, i);
-        d += 1;
+        i = node_words::node_at(words, i).origin();
     }
-    d
+    n
 }
 
 // Writes the steps that lead to a place of n nodes, from the last one back.
@@ -50,11 +30,10 @@ fn put_steps(words: &[u64], n: usize, place: usize, steps: usize, plan: &mut [u8
     ensures { plan.new ≡ plan_to (nodes_of words.now n) place ++ drop steps plan.old }
 {
     let mut i = place;
-    let mut k = steps;
-    while 0 < k {
-        k -= 1;
-        plan[k] = action_at(words, i);
-        i = origin_at(words, i);
+    for k in (0..steps).rev() {
+        let x = node_words::node_at(words, i);
+        plan[k] = x.action();
+        i = x.origin();
     }
 }
 

@@ -100,8 +100,7 @@ pub stops_empty : (ws : List ℕ) (s : State) (e : ℕ) → e ≡ 0 → true ≡
 stops_empty ws s e z = rw z refl
 
 pub stops_node : (ws : List ℕ) (s : State) (e : ℕ) → (e ≡ 0 → ⊥)
-    → (eqb (get_or ws (4 * (e - 1)) 0) s.low && eqb (get_or ws (4 * (e - 1) + 1) 0) s.high) ≡ stops_at ws s e
-unfolding packed_at
+    → (eqb (state_at ws (e - 1)).low s.low && eqb (state_at ws (e - 1)).high s.high) ≡ stops_at ws s e
 stops_node ws s zero z = absurd (z refl)
 stops_node ws s (suc p) z =
     let q : suc p - 1 ≡ p = omega arith in

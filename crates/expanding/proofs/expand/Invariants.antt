@@ -9,15 +9,8 @@ use Rattle.expanding.specs.declared.Turn.{Turn}
 use Rattle.expanding.proofs.Trying.{TriedTo}
 use Rattle.expanding.proofs.expand.Given as goal
 
-abbrev turn_of : ℕ → ℕ → ℕ → Turn
-turn_of place limit n = record { place = place; nodes = n; limit = limit }
-
 abbrev pub invariant-loop-k : goal.invariant-loop-k
 invariant-loop-k l =
-    (t : Task) (taken : ℕ → Bool) → Listed l.marks l.values l.starts t
-    → Expanding (turn_of l.place l.limit l.initial.n) (nodes_in l.initial.words l.initial.table l.initial.tree l.initial.n taken) t
-    → TriedTo (nodes_in l.initial.words l.initial.table l.initial.tree l.initial.n taken) (turn_of l.place l.limit l.initial.n) l.k
-    (nodes_in l.words l.table l.tree l.n taken) t
-
-abbrev pub decreases-loop-k : goal.decreases-loop-k
-decreases-loop-k l = length l.starts - l.k
+    let start = nodes_in l.initial.words l.initial.index.table l.initial.index.tree l.turn.nodes in
+    (t : Task) (taken : ℕ → Bool) → Listed l.marks l.values l.starts t → Expanding l.turn (start taken) t
+    → TriedTo (start taken) l.turn l.k (nodes_in l.words l.index.table l.index.tree l.n taken) t

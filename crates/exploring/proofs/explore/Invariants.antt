@@ -8,10 +8,7 @@ use Rattle.exploring.specs.Exploring.{Opened}
 use Rattle.exploring.proofs.Turning.{Turning}
 use Rattle.exploring.proofs.explore.Given as goal
 
-abbrev pub invariant-loop-m : goal.invariant-loop-m
-invariant-loop-m l =
-    (t : Task) → Listed l.marks l.values l.starts t → Opened l.goal l.initial.words l.initial.table l.initial.tree t
-    → (taken : ℕ → Bool) × Turning t l.limit l.m (nodes_in l.words l.table l.tree l.n taken)
-
-abbrev pub decreases-loop-m : goal.decreases-loop-m
-decreases-loop-m l = l.limit - l.m
+abbrev pub invariant-loop-turn : goal.invariant-loop-turn
+invariant-loop-turn l =
+    (t : Task) → Listed l.marks l.values l.starts t → Opened l.goal l.initial.words l.initial.index.table l.initial.index.tree t
+    → (taken : ℕ → Bool) × Turning t l.limit l._turn (nodes_in l.words l.index.table l.index.tree l.n taken)

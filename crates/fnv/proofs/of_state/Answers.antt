@@ -9,5 +9,5 @@ pub returns : goal.returns
 returns c =
     let a = c.args in
     c.with_word-2.ensures
-    ∙ ap (λ (h : ℕ). hash_from h (little_endian 8 a.high)) c.with_word.ensures
-    ∙ sym (hash_append BASIS (little_endian 8 a.low) (little_endian 8 a.high))
+    ∙ ap (λ (h : ℕ). hash_from h (little_endian 8 a.s.high)) c.with_word.ensures
+    ∙ sym (hash_append BASIS (little_endian 8 a.s.low) (little_endian 8 a.s.high))

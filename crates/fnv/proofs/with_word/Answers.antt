@@ -1,17 +1,8 @@
-use borrow.Author.Rules.{rules}
-use mathlib.Core.Path.{sym, ◌∙◌, ap}
-use Prim.Native.Nat.{ℕ, ◌+◌, ◌-◌, ◌/◌}
-use Rattle.fnv.specs.Fnv.{hash_from, little_endian}
-use Rattle.fnv.proofs.Hashing.{next_byte, last_byte}
+-- The bytes by `low_bytes`.
+use mathlib.Core.Path.{ap, ◌∙◌}
+use Rattle.fnv.specs.Fnv.{hash_from}
+use Rattle.fnv.proofs.Hashing.{low_bytes}
 use Rattle.fnv.proofs.with_word.Goals as goal
 
-pub loop-i-preserved : goal.loop-i-preserved
-loop-i-preserved c =
-    let l = c.loop-i in
-    ap (λ (h : ℕ). hash_from h (little_endian (8 - (l.i + 1)) (l.w / 256))) c.with_byte-g.ensures
-    ∙ sym (next_byte 8 l.i l.g l.w (search rules)) ∙ l.invariant
-
 pub returns : goal.returns
-returns c =
-    let l = c.loop-i in
-    sym (last_byte 8 l.i l.g l.w (search rules)) ∙ l.invariant
+returns c = c.with_bytes.ensures ∙ ap (hash_from c.args.h) (c.to_le_bytes.ensures ∙ low_bytes 8 c.args.word)

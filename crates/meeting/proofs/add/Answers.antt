@@ -12,15 +12,15 @@ set_leaf-requires c =
     let W = c.put_node.ensures in
     let P = c.requires.2 in record {
       placed = record { few = search rules; room = omega (arith, W.long) };
-      by_index = (P.is_open, rewritten c.args.tree.now c.args.words.now P.is_open P.played c.put_node.new.words c.args.n W.others W.long);
+      by_index = (P.is_open, rewritten c.args.index.now.tree c.args.words.now P.is_open P.played c.put_node.new.words c.args.n W.others W.long);
     }
 
 pub returns : goal.returns
 returns c =
     let W = c.put_node.ensures in record {
-      written = (W, ap (λ (k : ℕ). set c.args.table.now c.args.slot k) (one_more c.args.n));
+      written = (W, ap (λ (k : ℕ). set c.args.index.now.table c.args.slot k) (one_more c.args.n));
       by_index = λ o P. c.set_leaf.ensures o
-          (rewritten c.args.tree.now c.args.words.now o P c.put_node.new.words c.args.n W.others W.long);
+          (rewritten c.args.index.now.tree c.args.words.now o P c.put_node.new.words c.args.n W.others W.long);
     }
   where
     one_more : (n : ℕ) → n + 1 ≡ suc n

@@ -1,5 +1,5 @@
 -- Below place i the nodes are filled, and the others are as they were.
-use Prim.Native.Nat.{◌-◌, ◌≤◌}
+use Prim.Native.Nat.{◌≤◌}
 use mathlib.Core.Path.{◌≡◌}
 use Rattle.nodes.specs.Nodes.{node_read}
 use Rattle.nodes.proofs.Filling.{filled}
@@ -10,6 +10,3 @@ invariant-loop-i l = record {
   within : l.i ≤ l.n;
   same : l.nodes ≡ filled (node_read l.words) l.initial.nodes l.i;
 }
-
-abbrev pub decreases-loop-i : goal.decreases-loop-i
-decreases-loop-i l = l.n - l.i

@@ -1,10 +1,6 @@
 -- Step by step back, by `Ways`.
-use Prim.Native.Nat.{◌-◌}
 use Rattle.origins.proofs.Ways.{Counted}
 use Rattle.origins.proofs.count_steps.Given as goal
 
 abbrev pub invariant-loop-d : goal.invariant-loop-d
 invariant-loop-d l = Counted l.words l.n l.place l.d l.i
-
-abbrev pub decreases-loop-d : goal.decreases-loop-d
-decreases-loop-d l = l.n - l.d

@@ -1,10 +1,6 @@
 -- Step by step back, each action being stored before those that follow it, by `Ways`.
-use Prim.Native.Nat.{◌-◌}
 use Rattle.origins.proofs.Ways.{Written}
 use Rattle.origins.proofs.put_steps.Given as goal
 
 abbrev pub invariant-loop-k : goal.invariant-loop-k
 invariant-loop-k l = Written l.words l.n l.place l.initial.plan l.steps l.plan l.k l.i
-
-abbrev pub decreases-loop-k : goal.decreases-loop-k
-decreases-loop-k l = l.k

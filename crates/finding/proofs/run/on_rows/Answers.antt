@@ -54,12 +54,12 @@ meet-requires c =
 
 -- the opening node has been met
 begun : (c : After-meet) → (t : Task) → Spells c.args.marks.now c.args.values.now t
-    → Opened (c.opening-start.result.next + 1) c.meet.new.words c.meet.new.table c.meet.new.tree t
+    → Opened (c.opening-start.result.next + 1) c.meet.new.words c.meet.new.index.table c.meet.new.index.tree t
 begun c t R =
     let p = c.requires.node_limit in
     let read = c.opening-start.ensures ∙ opening_read t c.args.marks.now c.args.values.now R in
     opened t R.formed (ap (λ (r : Result). r.next + 1) read) c.opening-start.result.state (ap (λ (r : Result). r.state) read) p.0.some
-    (c.meet.ensures (λ i. false) (held_none c.args.words.now _ _ (λ i. false) p.1 refl refl) refl)
+    (c.meet.ensures.met (λ i. false) (held_none c.args.words.now _ _ (λ i. false) p.1 refl refl) refl)
 
 pub explore-requires : goal.explore-requires
 explore-requires c =
