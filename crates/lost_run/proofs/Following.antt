@@ -14,9 +14,9 @@ use Rattle.state.specs.declared.State.{State}
 use Rattle.monitor.specs.Packed.{monitor_at}
 use Rattle.losses.specs.Losses.{lost, stopped}
 use Rattle.losses.specs.Following.{Position, first, goes, led, lost_here, followed}
+use Rattle.std.specs.Prelude.{Some, None}
 use Rattle.lost_run.specs.Run.{Stands, TakenAs}
 use Rattle.lost_run.specs.declared.taking.Place.{Place}
-use Rattle.lost_run.specs.declared.taking.Taken.TheVariants.{To, Stopped}
 
 -- place p with monitors l stands before action i of the list
 pub record On (t : Task) (list : List ℕ) (p : Place) (l : List ℕ) (i : ℕ) : Type 0 where
@@ -56,10 +56,10 @@ module _ (t : Task) (list : List ℕ) where
           ∙ ap (followed t q i) (sym (drop-cons list i 0 h))
           ∙ o.same
 
-      pub stops : (l' : List ℕ) → TakenAs t l' q j Stopped → stopped i ≡ followed t (first t) 0 list
+      pub stops : (l' : List ℕ) → TakenAs t l' q j None → stopped i ≡ followed t (first t) 0 list
       stops l' g = ap (λ (b : Bool). cond b (followed t (led t q j) (suc i) (drop (suc i) list)) (stopped i)) (sym g) ∙ here
 
-      pub goes_on : (l' : List ℕ) (p' : Place) → TakenAs t l' q j (To p') → On t list p' l' (i + 1)
+      pub goes_on : (l' : List ℕ) (p' : Place) → TakenAs t l' q j (Some p') → On t list p' l' (i + 1)
       goes_on l' p' g =
           record {
             position = led t q j;

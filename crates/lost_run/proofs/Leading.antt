@@ -15,11 +15,10 @@ use Rattle.state.specs.Member.{member}
 use Rattle.monitor.specs.Packed.{monitor_at}
 use Rattle.plan.specs.Steps.{MonitorsAre}
 use Rattle.losses.specs.Following.{Position, watched, is_met, closing, goes, led_by_source, led_by_end, led_by_closing, led}
+use Rattle.std.specs.Prelude.{Option, Some, None}
 use Rattle.lost_run.specs.Run.{SeenBy, Stands, TakenAs, SteppedAs, closed_by, Ended}
 use Rattle.lost_run.specs.declared.rules.Rule.{Rule}
 use Rattle.lost_run.specs.declared.taking.Place.{Place}
-use Rattle.lost_run.specs.declared.taking.Taken.{Taken}
-use Rattle.lost_run.specs.declared.taking.Taken.TheVariants.{To, Stopped}
 
 -- action j closes the next rule
 abbrev closes_next : Task → Position → ℕ → Bool
@@ -52,7 +51,7 @@ module _ (t : Task) (l l' : List ℕ) (p : Place) (q : Position) (S : Stands t l
   watched_are last s i h =
       s i h ∙ (λ z. step (preference_at t i).kind last (S.kept.monitors i h z) (seen (preference_at t i) (S.facts z)))
 
-  pub ends : j ≡ A → Seen true → TakenAs t l' q j (To (record { state = p.state; cost = p.cost; running = false; closed = p.closed }))
+  pub ends : j ≡ A → Seen true → TakenAs t l' q j (Some (record { state = p.state; cost = p.cost; running = false; closed = p.closed }))
   ends e s =
       let there : led_by_end t q ≡ led t q j = λ z. cond (sym on z) (cond (sym (le-ltb j A (omega arith)) z) (led_by_source t q j) (led_by_end t q)) (led_by_closing t q) in (
         goes_running ∙ ap (λ (b : Bool). applies t q.facts j || b) (eq-eqb j A e) ∙ or-true (applies t q.facts j),
@@ -68,9 +67,9 @@ module _ (t : Task) (l l' : List ℕ) (p : Place) (q : Position) (S : Stands t l
         ∙ or-false (applies t q.facts j)
         ∙ ap (λ (f : Facts). applies t f j) (sym S.facts)
 
-    pub steps : (r : Taken) → SteppedAs t j p r → TakenAs t l' q j r
-    steps Stopped e = source_goes ∙ e
-    steps (To y) e =
+    pub steps : (r : Option Place) → SteppedAs t j p r → TakenAs t l' q j r
+    steps None e = source_goes ∙ e
+    steps (Some y) e =
         let there : led_by_source t q j ≡ led t q j = λ z. cond (sym on z) (cond (sym (lt-ltb j A h) z) (led_by_source t q j) (led_by_end t q)) (led_by_closing t q) in (
           source_goes ∙ e.applying,
           subst (Stands t l' y) there
@@ -131,8 +130,8 @@ module _ (t : Task) (l : List ℕ) (A : ℕ) (p : Place) (q : Position) (E : End
         })
 
     pub closed_as : TakenAs t l q j (closed_by x A j p)
-    closed_as = subst (λ (b : Bool). TakenAs t l q j (cond b (To to) Stopped)) (sym test_is) (go (goes t q j) refl)
+    closed_as = subst (λ (b : Bool). TakenAs t l q j (cond b (Some to) None)) (sym test_is) (go (goes t q j) refl)
       where
-        go : (b : Bool) → goes t q j ≡ b → TakenAs t l q j (cond b (To to) Stopped)
+        go : (b : Bool) → goes t q j ≡ b → TakenAs t l q j (cond b (Some to) None)
         go true e = (e, stands)
         go false e = e

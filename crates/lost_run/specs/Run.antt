@@ -1,5 +1,5 @@
 -- What the code's values stand for, as a list is followed on marks and values that spell a task.
-use Rattle.std.specs.Prelude.{◌≡◌, Bool, true, false, not, cond, ◌&&◌, ◌||◌, List, ◌∷◌, ℕ, ◌+◌, ◌*◌, ◌≤◌, ◌<◌, T, eqb, length, drop, get_or}
+use Rattle.std.specs.Prelude.{◌≡◌, Bool, true, false, not, cond, ◌&&◌, ◌||◌, List, ◌∷◌, ℕ, ◌+◌, ◌*◌, ◌≤◌, ◌<◌, T, eqb, length, drop, get_or, Option, Some, None}
 use Rattle.lists.specs.Lists.{concat_map}
 use Rattle.meaning.specs.Task.{Preference, Task}
 use Rattle.meaning.specs.Meaning.{opening, after, action_at, applies, preference_at}
@@ -20,9 +20,6 @@ use Rattle.lost_run.specs.declared.Run.{Run}
 use Rattle.lost_run.specs.declared.Run.TheVariants.{Made, Stopped}
 use Rattle.lost_run.specs.declared.rules.Rule.{Rule}
 use Rattle.lost_run.specs.declared.taking.Place.{Place}
-use Rattle.lost_run.specs.declared.taking.Taken.{Taken}
-use Rattle.lost_run.specs.declared.taking.Taken.TheVariants
-use Rattle.lost_run.specs.declared.taking.Taken.TheVariants.{To}
 
 -- Rules
 
@@ -67,14 +64,14 @@ pub record Stands (t : Task) (l : List ℕ) (p : Place) (q : Position) : Type 0 
   pub cost : p.cost ≡ q.cost
 
 -- action j of a list, taken at position q
-abbrev pub TakenAs : Task → List ℕ → Position → ℕ → Taken → Type 0
-TakenAs t l q j (To p) = (goes t q j ≡ true) × Stands t l p (led t q j)
-TakenAs t l q j TheVariants.Stopped = goes t q j ≡ false
+abbrev pub TakenAs : Task → List ℕ → Position → ℕ → Option Place → Type 0
+TakenAs t l q j (Some p) = (goes t q j ≡ true) × Stands t l p (led t q j)
+TakenAs t l q j None = goes t q j ≡ false
 
 -- an action costs less than 2 ^ 32
-abbrev pub Little : Place → Taken → Type 0
-Little p (To q) = q.cost < p.cost + 4294967296
-Little p TheVariants.Stopped = Unit {0}
+abbrev pub Little : Place → Option Place → Type 0
+Little p (Some q) = q.cost < p.cost + 4294967296
+Little p None = Unit {0}
 
 -- by source action k of t from p to q
 pub record SourceTaken (t : Task) (k : ℕ) (p q : Place) : Type 0 where
@@ -84,9 +81,9 @@ pub record SourceTaken (t : Task) (k : ℕ) (p q : Place) : Type 0 where
   pub running : q.running ≡ p.running
   pub closed : q.closed ≡ p.closed
 
-abbrev pub SteppedAs : Task → ℕ → Place → Taken → Type 0
-SteppedAs t k p (To q) = SourceTaken t k p q
-SteppedAs t k p TheVariants.Stopped = applies t (member p.state) k ≡ false
+abbrev pub SteppedAs : Task → ℕ → Place → Option Place → Type 0
+SteppedAs t k p (Some q) = SourceTaken t k p q
+SteppedAs t k p None = applies t (member p.state) k ≡ false
 
 -- a rule can be closed from p without a number too large
 pub record Payable (A : ℕ) (p : Place) : Type 0 where
@@ -94,11 +91,11 @@ pub record Payable (A : ℕ) (p : Place) : Type 0 where
   pub cheap : p.cost < AMPLE
 
 -- by action j where x is the next rule, of a task with A actions
-abbrev pub closed_by : Rule → ℕ → ℕ → Place → Taken
+abbrev pub closed_by : Rule → ℕ → ℕ → Place → Option Place
 closed_by x A j p =
     cond (eqb j (A + cond x.met 1 2 + 2 * p.closed) && (not x.hard || x.met))
-    (To (record { state = p.state; cost = p.cost + cond x.met 0 x.weight; running = p.running; closed = p.closed + 1 }))
-    TheVariants.Stopped
+    (Some (record { state = p.state; cost = p.cost + cond x.met 0 x.weight; running = p.running; closed = p.closed + 1 }))
+    None
 
 -- p is a position after the end, on a task with A actions
 pub record Ended (t : Task) (l : List ℕ) (A : ℕ) (p : Place) (q : Position) : Type 0 where

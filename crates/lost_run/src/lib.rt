@@ -16,7 +16,7 @@ use layout::{actions, sides};
 use plan::steps;
 use reading::opening;
 use state::State;
-use taking::{Place, Taken};
+use taking::Place;
 use task::limits;
 
 // The cost so far and the lost weights.
@@ -56,8 +56,7 @@ fn follow(
         running: true,
         closed: 0,
     };
-    let mut i = 0;
-    while i < list.len() {
+    for i in 0..list.len() {
         let taken = taking::take(
             marks,
             values,
@@ -69,14 +68,13 @@ fn follow(
             &mut *ms,
         );
         match taken {
-            Taken::To(q) => {
+            Some(q) => {
                 p = q;
             }
-            Taken::Stopped => {
+            None => {
                 return Run::Stopped(i);
             }
         }
-        i += 1;
     }
     Run::Made(Amounts {
         cost: p.cost,

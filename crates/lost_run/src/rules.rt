@@ -71,11 +71,9 @@ pub fn lost(marks: &[u8], values: &[u8], rules: &[usize], closed: usize, ms: &[u
         → Kept t ms.now closed p → result ≡ lost_here t p }
 {
     let mut sum = 0;
-    let mut k = 0;
-    while k < rules.len() {
+    for k in 0..rules.len() {
         let r = rule_at(marks, values, rules[k], k, ms);
         sum += lost_of(r, closed <= k);
-        k += 1;
     }
     sum
 }

@@ -22,14 +22,8 @@ pub struct Place {
     pub closed: usize,
 }
 
-#[derive(Clone, Copy)]
-pub enum Taken {
-    To(Place),
-    Stopped,
-}
-
-// The source action that row `from` opens.
-fn step(marks: &[u8], values: &[u8], from: usize, p: Place) -> Taken
+// The place after the source action that row `from` opens, where it applies.
+fn step(marks: &[u8], values: &[u8], from: usize, p: Place) -> Option<Place>
     requires rows { Rows marks.now values.now × (from < length marks.now) × (p.cost < AMPLE) }
     requires some_action { SomeAction marks.now values.now from }
     ensures little { Little p result }
@@ -48,19 +42,19 @@ fn step(marks: &[u8], values: &[u8], from: usize, p: Place) -> Taken
         },
     );
     match moved {
-        steps::Moved::To(q) => {
+        Ok(q) => {
             let next = State {
                 low: q.low,
                 high: q.high,
             };
-            Taken::To(Place {
+            Some(Place {
                 state: next,
                 cost: q.cost,
                 running: p.running,
                 closed: p.closed,
             })
         }
-        steps::Moved::Stopped(_) => Taken::Stopped,
+        Err(_) => None,
     }
 }
 
@@ -84,17 +78,17 @@ fn paid(x: Rule) -> u64
 }
 
 // Action j, where the next rule is x: the one that closes it goes, but for forgo of a hard rule.
-fn close(x: Rule, actions: usize, j: usize, p: Place) -> Taken
+fn close(x: Rule, actions: usize, j: usize, p: Place) -> Option<Place>
     requires { Payable actions p × (p.closed < MAX_PREFERENCES) }
     ensures { (result ≡ closed_by x actions j p) × Little p result }
 {
     let k = p.closed;
     if !((j == closing(actions, x.met, k)) & (!x.hard | x.met)) {
-        return Taken::Stopped;
+        return None;
     }
     let state = p.state;
     let cost = p.cost + paid(x);
-    Taken::To(Place {
+    Some(Place {
         state,
         cost,
         running: p.running,
@@ -111,7 +105,7 @@ fn close_next(
     j: usize,
     p: Place,
     ms: &[u8],
-) -> Taken
+) -> Option<Place>
     requires { Rows marks.now values.now × SomeRules marks.now values.now rules.now × Payable actions p }
     ensures little { Little p result }
     ensures taken_as { (t : Task) (q : Position) → Rules marks.now values.now rules.now t
@@ -119,7 +113,7 @@ fn close_next(
 {
     let k = p.closed;
     if rules.len() <= k {
-        return Taken::Stopped;
+        return None;
     }
     let x = rules::rule_at(marks, values, rules[k], k, ms);
     close(x, actions, j, p)
@@ -135,7 +129,7 @@ pub fn take(
     j: usize,
     p: Place,
     ms: &mut [u8],
-) -> Taken
+) -> Option<Place>
     requires rows { Rows marks.now values.now × (length ms.old ≡ MAX_PREFERENCES) × (p.cost < AMPLE) × AllBelow (length marks.now) starts.now }
     requires setting { (t : Task) × Setting marks.now values.now at starts.now rules.now t }
     ensures little { Little p result }
@@ -147,12 +141,12 @@ pub fn take(
         return close_next(marks, values, rules, actions, j, p, &*ms);
     }
     if actions < j {
-        return Taken::Stopped;
+        return None;
     }
     let state = p.state;
     let _ = monitors::watch(marks, values, at, state, j == actions, &mut *ms);
     if j == actions {
-        return Taken::To(Place {
+        return Some(Place {
             state,
             cost: p.cost,
             running: false,

@@ -1,6 +1,6 @@
 use borrow.Author.Rules.{rules}
 use mathlib.Core.Path.{subst, ◌∙◌, sym}
-use Prim.Native.Nat.{◌-◌, ◌<◌}
+use Prim.Native.Nat.{◌<◌}
 use native.Mathlib.Omega.{arith}
 use Rattle.layout.specs.Counting.{AMPLE}
 use Rattle.lost_run.specs.Run.{TakenAs, Little}
@@ -24,27 +24,21 @@ take-taken-requires c =
       setting = (c.requires.all_below.1.0, c.requires.all_below.1.1);
     }
 
-pub shape_of-ms-in-Stopped : goal.shape_of-ms-in-Stopped
-shape_of-ms-in-Stopped c =
+pub shape_of-ms-in-None : goal.shape_of-ms-in-None
+shape_of-ms-in-None c =
     c.take-taken.auto.ms ∙ c.loop-i.invariant.all_there ∙ sym c.requires.rows.2.sixteen
 
-pub returns-in-Stopped : goal.returns-in-Stopped
-returns-in-Stopped c = λ t G O.
+pub returns-in-None : goal.returns-in-None
+returns-in-None c = λ t G O.
     let o = c.loop-i.invariant.on t (G, O) in
     let l' = c.take-taken.new.ms in
     stops t c.args.list.now c.loop-i.p c.loop-i.ms c.loop-i.i o (search rules) c.step_index.result c.step_index.ensures l'
-    (subst (TakenAs t l' o.position c.step_index.result) c.in-Stopped.is (c.take-taken.ensures.taken_as t o.position G o.stands))
-
-pub overflow_add-i : goal.overflow_add-i
-overflow_add-i c =
-    let left = c.loop-i-test in
-    let short = c.requires.rows.1 in
-    search rules
+    (subst (TakenAs t l' o.position c.step_index.result) c.in-None.is (c.take-taken.ensures.taken_as t o.position G o.stands))
 
 pub loop-i-preserved : goal.loop-i-preserved
 loop-i-preserved c =
-    let p' = c.in-To.q in
-    let e = c.in-To.is in
+    let p' = c.in-Some.q in
+    let e = c.in-Some.is in
     let l' = c.take-taken.new.ms in
     let few = subst (Little c.loop-i.p) e c.take-taken.ensures.little in
     record {

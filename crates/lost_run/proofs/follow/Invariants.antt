@@ -1,7 +1,4 @@
 -- The loop keeps what the list comes to from here on, by `Following`.
-use borrow.Author.Rules.{rules}
-use Prim.Native.Nat.{◌-◌}
-use lib.ListN.{length}
 use Rattle.meaning.specs.Task.{Task}
 use Rattle.lost_run.specs.Run.{Setting, Opens}
 use Rattle.lost_run.proofs.Following.{Running}
@@ -10,6 +7,3 @@ use Rattle.lost_run.proofs.follow.Given as goal
 abbrev pub invariant-loop-i : goal.invariant-loop-i
 invariant-loop-i l =
     Running (λ (t : Task). Setting l.marks l.values l.at l.starts l.rules t × Opens l.initial.p.state t) l.list l.p l.ms l.i
-
-abbrev pub decreases-loop-i : goal.decreases-loop-i
-decreases-loop-i l = length l.list - l.i

@@ -1,5 +1,5 @@
 use borrow.Author.Rules.{rules}
-use Prim.Native.Nat.{◌-◌, ◌<◌}
+use Prim.Native.Nat.{◌<◌}
 use native.Mathlib.Omega.{arith}
 use lib.ListN.{length, get_or}
 use Rattle.meaning.specs.Meaning.{preference_at}
@@ -27,11 +27,6 @@ rule_at-r-requires c =
 pub overflow_add-sum : goal.overflow_add-sum
 overflow_add-sum c =
     let S = c.loop-k.invariant in
-    let few = c.requires.1.1.few in
-    search rules
-
-pub overflow_add-k : goal.overflow_add-k
-overflow_add-k c =
     let few = c.requires.1.1.few in
     search rules
 

@@ -1,12 +1,6 @@
 -- The loop keeps the sum of the first k rules, by `Summing`.
-use borrow.Author.Rules.{rules}
-use Prim.Native.Nat.{◌-◌}
-use lib.ListN.{length}
 use Rattle.lost_run.proofs.Summing.{Summed}
 use Rattle.lost_run.proofs.rules.lost.Given as goal
 
 abbrev pub invariant-loop-k : goal.invariant-loop-k
 invariant-loop-k l = Summed l.marks l.values l.rules l.ms l.closed l.sum l.k
-
-abbrev pub decreases-loop-k : goal.decreases-loop-k
-decreases-loop-k l = length l.rules - l.k
