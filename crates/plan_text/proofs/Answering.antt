@@ -2,6 +2,7 @@
 use mathlib.Core.Path.{◌≡◌, refl, sym, ap, ◌∙◌}
 use mathlib.Core.Bool.{Bool, true, false, cond, true≢false}
 use mathlib.Core.List.{List}
+use Rattle.std.specs.Prelude.{Result, Ok, Err}
 use Prim.Native.Nat.{ℕ, ◌+◌, ◌≤◌, ◌<◌}
 use native.Mathlib.Nat.{zero-add}
 use native.Mathlib.Omega.{arith}
@@ -16,15 +17,13 @@ use Rattle.meaning.specs.Literals.{literals}
 use Rattle.task.specs.Check
 use Rattle.task.specs.Check.{Answer, check}
 use Rattle.task.specs.Answers.{answer as checked}
+use Rattle.task.specs.Answers.{number_of}
 use Rattle.task.specs.declared.Sizes.{Sizes}
 use Rattle.task.specs.declared.Refusal.{Refusal}
-use Rattle.task.specs.declared.Checked.{Checked}
-use Rattle.task.specs.declared.Checked.TheVariants.{Accepted, Refused}
 use Rattle.plan.specs.Judged.{judged_by, judged}
-use Rattle.plan.specs.Walked
 use Rattle.plan.specs.Walked.{Walked, without_worth, walked}
 use Rattle.plan_lines.specs.PlanText.{lines_of, Read, plan, faulty, read_lines, read_plan}
-use Rattle.outcome.specs.Outcome.{Outcome, written, refused, area_after}
+use Rattle.outcome.specs.Outcome.{Outcome, written, refused, fitted, area_after}
 use Rattle.outcome.proofs.Outcomes.{put_down}
 use Rattle.plan_text.specs.Outcomes.{plan_fitted, read_by, read_outcome, steps, steps_in, refused_after, text_walked_by, text_walked}
 use Rattle.plan_lines.specs.Scan.{is_opening, all, faulty_at, count, counted, begun, start, steps_from}
@@ -48,8 +47,8 @@ module _ (k bytes room : ℕ) where
   pub too_many : 2048 < k → plan_fitted k bytes room ≡ refused 10 0
   too_many h = rw (lt-leb k 2048 h)
 
-  pub too_small : k ≤ 2048 → room < bytes → plan_fitted k bytes room ≡ refused 9 0
-  too_small h l = rw (le-leb k 2048 h, lt-leb bytes room l)
+  pub few_enough : k ≤ 2048 → plan_fitted k bytes room ≡ fitted bytes room
+  few_enough h = rw (le-leb k 2048 h)
 
   pub roomy : k ≤ 2048 → bytes ≤ room → plan_fitted k bytes room ≡ written bytes
   roomy h l = rw (le-leb k 2048 h, le-leb bytes room l)
@@ -122,13 +121,6 @@ unfolding read_outcome steps_in
 at_front t area out room n e w =
     ap (take n) (w ∙ ap (area_after (steps (read_plan t)) area) e) ∙ take_at (steps (read_plan t)) (drop n area) n (size_read (read_plan t) room n e)
 
-module _ (b : List ℕ) (x : Checked) (e : checked x ≡ check b) (m j : ℕ) where
-  pub file_refused : (f : Refusal) → x ≡ Refused f → Walked.refused f.number f.place ≡ refused_after (check b) m j
-  file_refused f q = ap (λ (a : Answer). refused_after a m j) (sym (ap checked q) ∙ e)
-
-  pub file_accepted : (z : Sizes) → x ≡ Accepted z → Walked.refused m j ≡ refused_after (check b) m j
-  file_accepted z q = ap (λ (a : Answer). refused_after a m j) (sym (ap checked q) ∙ e)
-
 module _ (b : List ℕ) where
   -- walk refuses a plan that is too long by the same number
   over_long : (p : List ℕ) → leb (length p) 2048 ≡ false → (a : Answer) → refused_after a 10 0 ≡ without_worth (literals (task_of b) p) (judged_by b p a)
@@ -149,10 +141,19 @@ module _ (b : List ℕ) where
   on_plan (plan p) n e = refl
   on_plan (faulty i) n e = absurd (true≢false (cc))
 
-  pub text_refused : (t : List ℕ) (m j : ℕ) → read_outcome t 2048 ≡ refused m j → refused_after (check b) m j ≡ text_walked b t
+  text_refused : (t : List ℕ) (m j : ℕ) → read_outcome t 2048 ≡ refused m j → refused_after (check b) m j ≡ text_walked b t
   unfolding read_outcome text_walked
   text_refused t m j e = on_refusal (read_plan t) m j e
 
   pub text_walked_lem : (t : List ℕ) (n : ℕ) → read_outcome t 2048 ≡ written n → walked b (steps_in t) ≡ text_walked b t
   unfolding read_outcome text_walked steps_in
   text_walked_lem t n e = on_plan (read_plan t) n e
+
+  -- check's own refusal comes first
+  pub file_refused : (t : List ℕ) (m j : ℕ) → read_outcome t 2048 ≡ refused m j → {x : Result Sizes Refusal} → checked x ≡ check b → {r : Refusal} → x ≡ Err r
+      → Walked.refused (number_of r.cause) r.place ≡ text_walked b t
+  file_refused t m j h e q = ap (λ (a : Answer). refused_after a m j) (sym (ap checked q) ∙ e) ∙ text_refused t m j h
+
+  pub text_alone : (t : List ℕ) (m j : ℕ) → read_outcome t 2048 ≡ refused m j → {x : Result Sizes Refusal} → checked x ≡ check b → {z : Sizes} → x ≡ Ok z
+      → Walked.refused m j ≡ text_walked b t
+  text_alone t m j h e q = ap (λ (a : Answer). refused_after a m j) (sym (ap checked q) ∙ e) ∙ text_refused t m j h

@@ -3,9 +3,7 @@ use Rattle.std.specs.Prelude.{cond, List, [], ℕ, ◌≤◌, leb, length}
 use Rattle.task.specs.Check
 use Rattle.task.specs.Check.{Answer, check}
 use Rattle.outcome.specs.Outcome.{Outcome, refused, fitted}
-use Rattle.plan.specs.Judged
 use Rattle.plan.specs.Judged.{Judged, judged}
-use Rattle.plan.specs.Walked
 use Rattle.plan.specs.Walked.{Walked, walked}
 use Rattle.plan_lines.specs.PlanText.{text_of, Read, plan, faulty, read_plan}
 use Rattle.task.specs.Limits.{MAX_STEPS}
