@@ -1,10 +1,8 @@
 -- What the contract of `next_record` cites.
-use Rattle.std.specs.Prelude.{ℕ, ◌≤◌, ◌≡◌, List, length, drop}
-use Rattle.records.specs.declared.Next.{Next}
-use Rattle.records.specs.declared.Next.TheVariants.{Record, Nothing}
+use Rattle.std.specs.Prelude.{ℕ, ◌≤◌, ◌≡◌, List, length, drop, Option, Some, None}
 
 -- The buffer that held `was` and now holds `is`: a record lies at its start, and after the record nothing has changed.
 -- Where there is no record, any of its bytes may have changed.
-abbrev pub Filled : Next → List ℕ → List ℕ → Type 0
-Filled (Record n) was is = (n ≤ length is) × (drop n is ≡ drop n was)
-Filled Nothing was is = Unit {0}
+abbrev pub Filled : Option ℕ → List ℕ → List ℕ → Type 0
+Filled (Some n) was is = (n ≤ length is) × (drop n is ≡ drop n was)
+Filled None was is = Unit {0}
