@@ -14,7 +14,6 @@ use Rattle.task.specs.File.{Sizes, task_of}
 use Rattle.task.specs.Check
 use Rattle.task.specs.Check.{check}
 use Rattle.task.proofs.Spelled.{Spelling, accepted_spelling}
-use Rattle.task.proofs.Checking
 use Rattle.layout.specs.Actions.{actions_from}
 use Rattle.layout.proofs.Parts.{marks_of, values_of, parts_spelled}
 use Rattle.layout.proofs.ActionRows.{as_many}
@@ -22,7 +21,6 @@ use Rattle.plan.specs.Judged.{steps_known}
 use Rattle.plan.proofs.Walking.{all_known, not-all_known}
 use Rattle.classical.specs.Translation.{translated_actions}
 use Rattle.classical.proofs.Written.{written}
-use Rattle.translation.specs.Measured
 use Rattle.translation.specs.Measured.{Measured, within, measured}
 use Rattle.translation.proofs.Measuring.{Translatable, translatable}
 use Rattle.losses.specs.Losses.{Lost}

@@ -6,7 +6,6 @@ use Rattle.task.specs.Limits.{MAX_STEPS}
 use Rattle.task.specs.Refused.{LONG_PLAN, STEP}
 use Rattle.plan.specs.Judged.{steps_known}
 use Rattle.classical.specs.Translation.{translated, compiled, translated_actions}
-use Rattle.translation.specs.Measured
 use Rattle.translation.specs.Measured.{Measured, measured}
 use Rattle.losses.specs.Losses.{Lost, lost_after, Losses}
 

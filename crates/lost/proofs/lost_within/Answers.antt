@@ -26,7 +26,7 @@ parts c =
 
 pub returns-then-steps-gt-MAX_STEPS : goal.returns-then-steps-gt-MAX_STEPS
 returns-then-steps-gt-MAX_STEPS c =
-    c.refuse.ensures ∙ too_long c.args.file.now c.args.steps.now (as_sizes c.args.z) c.requires (search rules)
+    rw c.at.ensures (too_long c.args.file.now c.args.steps.now (as_sizes c.args.z) c.requires (search rules))
 
 pub overflow_mul-actions : goal.overflow_mul-actions
 overflow_mul-actions c = let h = parts (goal.at.overflow_mul-actions c).Else-steps-gt-MAX_STEPS in search rules
@@ -39,10 +39,9 @@ overflow_add-actions-2 c = let h = parts (goal.at.overflow_add-actions-2 c).Else
 
 pub returns-then-known-steps : goal.returns-then-known-steps
 returns-then-known-steps c =
-    c.refuse-then-known-steps.ensures
-    ∙ ap (refused 11) c.steps_known-known.ensures
+    rw c.at-then-known-steps.ensures (ap (refused 11) c.steps_known-known.ensures
     ∙ unknown c.args.file.now c.args.steps.now (as_sizes c.args.z) c.requires (search rules)
-    (omega (arith, c.if-known-steps.true, c.steps_known-known.ensures))
+    (omega (arith, c.if-known-steps.true, c.steps_known-known.ensures)))
 
 pub overflow_add-middle : goal.overflow_add-middle
 overflow_add-middle c = let h = parts (goal.at.overflow_add-middle c).Else-steps-gt-MAX_STEPS in search rules
