@@ -1,6 +1,8 @@
 -- What the answers of `find` stand for, and what the areas then hold.
-use Rattle.std.specs.Prelude.{◌≡◌, List, [], ◌++◌, ℕ, ◌≤◌, T, length, take, drop}
+use Rattle.std.specs.Prelude.{◌≡◌, List, [], ◌++◌, ℕ, ◌≤◌, T, length, take, drop, Result, Ok, Err}
 use Rattle.meaning.specs.Task.{Task, well_formed}
+use Rattle.task.specs.Answers.{number_of, cause_of}
+use Rattle.task.specs.declared.Refusal.{Refusal}
 use Rattle.searching.specs.Limits.{MAX_NODES, MAX_FOUND, NodeLimit}
 use Rattle.searching.specs.Search.{explore}
 use Rattle.searched.specs.Searched.{Answer, Searched, found, no_plan, full, refused, refusal}
@@ -8,23 +10,23 @@ use Rattle.node_words.specs.Words.{LIST_WORDS, nodes_of}
 use Rattle.exploring.specs.Exploring.{as_answer}
 use Rattle.exploring.specs.declared.Ended.{Ended}
 use Rattle.finding.specs.declared.Sought.{Sought}
-use Rattle.finding.specs.declared.Sought.TheVariants.{Found, NoPlan, Full, Refused}
+use Rattle.finding.specs.declared.Sought.TheVariants.{Found, NoPlan, Full}
 
 -- the plan stands in an area, and the nodes in words
-abbrev pub as_searched : List ℕ → List ℕ → Sought → Searched
-as_searched plan words (Found r n) = record { answer = found (take r.steps plan) r.cost; kept = nodes_of words n }
-as_searched plan words (NoPlan n) = record { answer = no_plan; kept = nodes_of words n }
-as_searched plan words (Full n) = record { answer = full; kept = nodes_of words n }
-as_searched plan words (Refused r) = refusal r.number r.place
+abbrev pub as_searched : List ℕ → List ℕ → Result Sought Refusal → Searched
+as_searched plan words (Ok (Found r n)) = record { answer = found (take r.steps plan) r.cost; kept = nodes_of words n }
+as_searched plan words (Ok (NoPlan n)) = record { answer = no_plan; kept = nodes_of words n }
+as_searched plan words (Ok (Full n)) = record { answer = full; kept = nodes_of words n }
+as_searched plan words (Err r) = refusal (number_of r.cause) r.place
 
 -- the answer of a search that keeps so many nodes, and of a whole search
-abbrev pub sought_by : Answer → ℕ → Sought
-sought_by (found p c) n = Found (record { steps = length p; cost = c }) n
-sought_by no_plan n = NoPlan n
-sought_by full n = Full n
-sought_by (refused k i) n = Refused (record { number = k; place = i })
+abbrev pub sought_by : Answer → ℕ → Result Sought Refusal
+sought_by (found p c) n = Ok (Found (record { steps = length p; cost = c }) n)
+sought_by no_plan n = Ok (NoPlan n)
+sought_by full n = Ok (Full n)
+sought_by (refused k i) n = Err (record { cause = cause_of k; place = i })
 
-abbrev pub as_sought : Searched → Sought
+abbrev pub as_sought : Searched → Result Sought Refusal
 as_sought x = sought_by x.answer (length x.kept)
 
 -- an area for the plan, after the search: its rest is as it was
@@ -35,18 +37,16 @@ plan_after full area = area
 plan_after (refused n i) area = area
 
 -- steps and nodes that have room
-abbrev pub Bounded : Sought → Type 0
-Bounded (Found r n) = (r.steps ≤ MAX_FOUND) × (n ≤ MAX_NODES)
-Bounded (NoPlan n) = n ≤ MAX_NODES
-Bounded (Full n) = n ≤ MAX_NODES
-Bounded (Refused r) = Unit {0}
+abbrev pub Bounded : Result Sought Refusal → Type 0
+Bounded (Ok (Found r n)) = (r.steps ≤ MAX_FOUND) × (n ≤ MAX_NODES)
+Bounded (Ok (NoPlan n)) = n ≤ MAX_NODES
+Bounded (Ok (Full n)) = n ≤ MAX_NODES
+Bounded (Err r) = Unit {0}
 
 -- a refusal leaves the words as they were
-abbrev pub Kept : Sought → List ℕ → List ℕ → Type 0
-Kept (Found r n) before after = Unit {0}
-Kept (NoPlan n) before after = Unit {0}
-Kept (Full n) before after = Unit {0}
-Kept (Refused r) before after = after ≡ before
+abbrev pub Kept : Result Sought Refusal → List ℕ → List ℕ → Type 0
+Kept (Ok s) before after = Unit {0}
+Kept (Err r) before after = after ≡ before
 
 -- e is how the search of t ended, which has no preferences
 pub record Ending (words : List ℕ) (e : Ended) (t : Task) (limit : ℕ) : Type 0 where

@@ -3,20 +3,20 @@
 
 mod run;
 
-ghost use Rattle.std.specs.Prelude.{◌≡◌, ℕ, length};
+ghost use Rattle.std.specs.Prelude.{◌≡◌, ℕ, length, Ok};
 ghost use Rattle.meaning.specs.Task.{Task};
 ghost use Rattle.searching.specs.Limits.{MAX_FOUND};
 ghost use Rattle.searching.specs.Search.{explore};
 ghost use Rattle.node_words.specs.Words.{LIST_WORDS};
 ghost use Rattle.searched.specs.Searched.{searched, search_file};
-ghost use Rattle.finding.specs.declared.Sought.TheVariants.{Refused};
 ghost use Rattle.finding.specs.Finding.{as_searched, as_sought, plan_after, Bounded, Kept, Ending};
 
 use exploring::Ended;
 use node_words;
 use node_words::limits;
 use origins;
-use task::{Checked, Refusal, refused};
+use task::Refusal;
+use task::refused::Cause;
 
 // How many steps a plan has, and what it costs.
 #[derive(Clone, Copy)]
@@ -25,27 +25,20 @@ pub struct Route {
     pub cost: u64,
 }
 
-// What a search comes to; each but a refusal has the number of nodes kept.
+// How a search ended; each has the number of nodes kept.
 #[derive(Clone, Copy)]
 pub enum Sought {
     Found(Route, usize),
     NoPlan(usize),
     Full(usize),
-    Refused(Refusal),
-}
-
-fn refuse(number: u8) -> Sought
-    ensures { result ≡ Refused (record { number = number; place = 0 }) }
-{
-    Sought::Refused(Refusal { number, place: 0 })
 }
 
 // The answer of a search that has ended, its plan written out.
 fn deliver(words: &[u64], e: Ended, plan: &mut [u8]) -> Sought
     requires { (length plan.old ≡ MAX_FOUND) × ((t : Task) × (limit : ℕ) × Ending words.now e t limit) }
-    ensures bounded { Bounded result }
+    ensures bounded { Bounded (Ok result) }
     ensures result_after { (t : Task) (limit : ℕ) → Ending words.now e t limit
-        → (as_searched plan.new words.now result ≡ searched (explore t limit))
+        → (as_searched plan.new words.now (Ok result) ≡ searched (explore t limit))
         × (plan.new ≡ plan_after (searched (explore t limit)).answer plan.old) }
 {
     match e {
@@ -61,24 +54,27 @@ fn deliver(words: &[u64], e: Ended, plan: &mut [u8]) -> Sought
 
 // Searches the task in a file, for a list with so much room: the nodes kept stand in the words, the plan found in `plan`. What the words
 // hold after the nodes is left free, but for a refusal.
-pub fn find(file: &[u8], limit: usize, room: usize, words: &mut [u64], plan: &mut [u8]) -> Sought
+pub fn find(
+    file: &[u8],
+    limit: usize,
+    room: usize,
+    words: &mut [u64],
+    plan: &mut [u8],
+) -> Result<Sought, Refusal>
     requires { (length words.old ≡ LIST_WORDS) × (length plan.old ≡ MAX_FOUND) }
     ensures result_after { as_searched plan.new words.new result ≡ search_file file.now limit room }
     ensures value { result ≡ as_sought (search_file file.now limit room) }
     ensures plan_after { plan.new ≡ plan_after (search_file file.now limit room).answer plan.old }
     ensures bounded { Bounded result × Kept result words.old words.new }
 {
-    let c = task::check(file);
-    let Checked::Accepted(z) = c else {
-        return Sought::Refused(task::refusal_of(c));
-    };
+    let z = task::check(file)?;
     if z.preferences != 0 {
-        return refuse(refused::PREFERENCES);
+        return Err(Cause::Preferences.at(0));
     }
     if !((1 <= limit) & (limit <= limits::MAX_NODES) & (limit <= room)) {
-        return refuse(refused::LIMIT);
+        return Err(Cause::Limit.at(0));
     }
     let middle = 8 + z.rows;
     let e = run::on_rows(&file[8..middle], &file[middle..], limit, &mut *words);
-    deliver(&*words, e, &mut *plan)
+    Ok(deliver(&*words, e, &mut *plan))
 }

@@ -1,6 +1,6 @@
 -- The answer is that of `search_file`: a refusal or the search on the two parts of the file, by `Answered`.
 use borrow.Author.Rules.{rules}
-use mathlib.Core.Path.{◌≡◌, refl, ◌∙◌}
+use mathlib.Core.Path.{◌≡◌, refl, ap, ◌∙◌, subst⁻¹}
 use mathlib.Core.Bool.{true}
 use mathlib.Core.List.{List}
 use Prim.Native.Nat.{ℕ}
@@ -9,6 +9,10 @@ use Rattle.lists.proofs.Tests.{as_t}
 use Rattle.task.specs.File.{task_of}
 use Rattle.task.specs.Check
 use Rattle.task.specs.Check.{check}
+use Rattle.std.specs.Prelude.{Result, Ok, Err}
+use Rattle.std.proofs.lemmas.Result.{err_from_is_err_and}
+use Rattle.task.specs.declared.Refusal.{Refusal}
+use Rattle.task.specs.declared.refused.Cause.TheVariants.{Preferences, Limit}
 use Rattle.task.specs.declared.Sizes.{Sizes}
 use Rattle.task.specs.Answers.{as_sizes}
 use Rattle.task.proofs.Answered.{Limited, answered}
@@ -17,51 +21,54 @@ use Rattle.layout.proofs.Parts.{marks_of, values_of, parts_rows, parts_spelled}
 use Rattle.searching.specs.Search.{explore}
 use Rattle.searched.specs.Searched.{limit_allowed, search_file}
 use Rattle.searched.proofs.Made.{Made, made}
-use Rattle.finding.specs.declared.Sought.TheVariants.{Refused}
+use Rattle.finding.specs.declared.Sought.{Sought}
 use Rattle.finding.specs.Finding.{Ending}
 use Rattle.finding.proofs.Answered.{refused_answers, made_answers, turned_down, accepted, preferred, limited, searches, few_actions}
 use Rattle.finding.proofs.find.Goals as goal
-use Rattle.finding.proofs.find.Goals.{After-on_rows-e, Else-not-limit-room, In-Accepted}
+use Rattle.finding.proofs.find.Goals.{After-on_rows-e, Else-not-limit-room, In_ok-z}
 
-parts : (c : In-Accepted) → Limited c.args.file.now (as_sizes c.in-Accepted.z)
-parts c = answered c.args.file.now c.check-c.result c.check-c.ensures c.in-Accepted.z c.in-Accepted.is
+parts : (c : In_ok-z) → Limited c.args.file.now (as_sizes c.in_ok-z.z)
+parts c = answered c.args.file.now c.check.result c.check.ensures c.in_ok-z.z c.in_ok-z.was
 
-pub returns-in_default : goal.returns-in_default
-returns-in_default c =
+pub returns-in_err-z : goal.returns-in_err-z
+returns-in_err-z c =
     let a = c.args in
-    let parts = refused_answers (search_file a.file.now a.limit a.room) c.refusal_of.result (Refused c.refusal_of.result) refl
-    (turned_down a.file.now a.limit a.room c.check-c.result c.check-c.ensures c.in_default.field-0 c.in_default.is
-    c.refusal_of.result c.refusal_of.ensures) a.plan.now a.words.now in
+    let r = err_from_is_err_and c.from_residual.result c.from_residual.ensures.1 in
+    let S = search_file a.file.now a.limit a.room in
+    let f = c.in_err-z.field-0.0 in
+    let parts = refused_answers S f c.from_residual.result (r.1 ∙ ap Err r.2)
+    (turned_down a.file.now a.limit a.room c.check.result c.check.ensures f c.in_err-z.was) a.plan.now a.words.now in
     record { result_after = parts.0; value = parts.1.0; plan_after = parts.1.1.0; bounded = parts.1.1.1 }
 
 pub returns-then-z-ne0 : goal.returns-then-z-ne0
 returns-then-z-ne0 c =
     let a = c.args in
-    let parts = refused_answers (search_file a.file.now a.limit a.room) (record { number = 13; place = 0 }) c.refuse.result c.refuse.ensures
-    (preferred a.file.now a.limit a.room c.check-c.result c.check-c.ensures c.in-Accepted.z c.in-Accepted.is c.if-z-ne0.true)
+    let parts = refused_answers (search_file a.file.now a.limit a.room) (record { cause = Preferences; place = 0 }) (Err c.at.result) (ap Err c.at.ensures)
+    (preferred a.file.now a.limit a.room c.check.result c.check.ensures c.in_ok-z.z c.in_ok-z.was c.if-z-ne0.true)
     a.plan.now a.words.now in
     record { result_after = parts.0; value = parts.1.0; plan_after = parts.1.1.0; bounded = parts.1.1.1 }
 
 pub returns-then-not-limit-room : goal.returns-then-not-limit-room
 returns-then-not-limit-room c =
     let a = c.args in
-    let parts = refused_answers (search_file a.file.now a.limit a.room) (record { number = 16; place = 0 }) c.refuse-then-not-limit-room.result c.refuse-then-not-limit-room.ensures
-    (limited a.file.now a.limit a.room c.check-c.result c.check-c.ensures c.in-Accepted.z c.in-Accepted.is
+    let parts = refused_answers (search_file a.file.now a.limit a.room) (record { cause = Limit; place = 0 })
+    (Err c.at-then-not-limit-room.result) (ap Err c.at-then-not-limit-room.ensures)
+    (limited a.file.now a.limit a.room c.check.result c.check.ensures c.in_ok-z.z c.in_ok-z.was
     c.if-z-ne0.false (not-true (limit_allowed a.limit a.room) c.if-not-limit-room.true-raw))
     a.plan.now a.words.now in
     record { result_after = parts.0; value = parts.1.0; plan_after = parts.1.1.0; bounded = parts.1.1.1 }
 
 pub overflow_add-middle : goal.overflow_add-middle
-overflow_add-middle c = let h = parts (goal.at.overflow_add-middle c).In-Accepted in search rules
+overflow_add-middle c = let h = parts (goal.at.overflow_add-middle c).In_ok-z in search rules
 
 pub slice_bounds-on_rows-end : goal.slice_bounds-on_rows-end
-slice_bounds-on_rows-end c = let h = parts (goal.at.slice_bounds-on_rows-end c).In-Accepted in search rules
+slice_bounds-on_rows-end c = let h = parts (goal.at.slice_bounds-on_rows-end c).In_ok-z in search rules
 
 pub slice_bounds-on_rows-count-2 : goal.slice_bounds-on_rows-count-2
-slice_bounds-on_rows-count-2 c = let h = parts (goal.at.slice_bounds-on_rows-count-2 c).In-Accepted in search rules
+slice_bounds-on_rows-count-2 c = let h = parts (goal.at.slice_bounds-on_rows-count-2 c).In_ok-z in search rules
 
 pub slice_bounds-on_rows-start-2 : goal.slice_bounds-on_rows-start-2
-slice_bounds-on_rows-start-2 c = let h = parts (goal.at.slice_bounds-on_rows-start-2 c).In-Accepted in search rules
+slice_bounds-on_rows-start-2 c = let h = parts (goal.at.slice_bounds-on_rows-start-2 c).In_ok-z in search rules
 
 -- the task in the file is searched
 module _ (c : Else-not-limit-room) where
@@ -69,10 +76,10 @@ module _ (c : Else-not-limit-room) where
   file = c.args.file.now
 
   abbrev sizes : Sizes
-  sizes = c.in-Accepted.z
+  sizes = c.in_ok-z.z
 
   is_accepted : check file ≡ Check.accepted (as_sizes sizes)
-  is_accepted = accepted file c.args.limit c.args.room c.check-c.result c.check-c.ensures sizes c.in-Accepted.is
+  is_accepted = accepted file c.args.limit c.args.room c.check.result c.check.ensures sizes c.in_ok-z.was
 
   is_allowed : limit_allowed c.args.limit c.args.room ≡ true
   is_allowed = not-false (limit_allowed c.args.limit c.args.room) c.if-not-limit-room.false-raw
@@ -89,15 +96,15 @@ on_rows-e-requires c =
     let a = c.args in
     record {
       rows = (
-        parts_rows a.file.now (as_sizes c.in-Accepted.z) (is_accepted d),
+        parts_rows a.file.now (as_sizes c.in_ok-z.z) (is_accepted d),
         (task_of a.file.now, spells d),
-        few_actions a.file.now a.limit a.room c.check-c.result c.check-c.ensures c.in-Accepted.z c.in-Accepted.is,
+        few_actions a.file.now a.limit a.room c.check.result c.check.ensures c.in_ok-z.z c.in_ok-z.was,
       );
       node_limit = ((known d).allowed, c.requires.0);
     }
 
 -- the search has ended
-ending : (c : After-on_rows-e) → let a = c.args in let z = as_sizes c.in-Accepted.z in
+ending : (c : After-on_rows-e) → let a = c.args in let z = as_sizes c.in_ok-z.z in
     Made a.file.now a.limit a.room → Spells (marks_of a.file.now z) (values_of a.file.now z) (task_of a.file.now)
     → Ending c.on_rows-e.new.words c.on_rows-e.result (task_of a.file.now) a.limit
 ending c m s =
@@ -122,9 +129,9 @@ returns c =
     let a = c.args in
     let t = task_of a.file.now in
     let parts =
-    made_answers (search_file a.file.now a.limit a.room) (explore t a.limit) c.deliver.result
+    made_answers (search_file a.file.now a.limit a.room) (explore t a.limit) (Ok c.deliver.result)
     a.plan.now c.deliver.new.plan a.words.now c.on_rows-e.new.words
-    (searches a.file.now a.limit a.room c.check-c.result c.check-c.ensures c.in-Accepted.z c.in-Accepted.is c.if-z-ne0.false (is_allowed d))
+    (searches a.file.now a.limit a.room c.check.result c.check.ensures c.in_ok-z.z c.in_ok-z.was c.if-z-ne0.false (is_allowed d))
     (c.deliver.auto.plan ∙ c.requires.1) c.deliver.ensures.bounded
     (c.deliver.ensures.result_after t a.limit (ending at.After-on_rows-e (known d) (spells d))) in
     record { result_after = parts.0; value = parts.1.0; plan_after = parts.1.1.0; bounded = parts.1.1.1 }
