@@ -1,21 +1,29 @@
 -- Nodes copied to a lent list of words.
 use mathlib.Core.Path.{◌≡◌, refl, sym, ◌∙◌, ap}
-use mathlib.Core.List.{List}
-use Prim.Native.Nat.{ℕ, ◌+◌, ◌*◌, ◌<◌}
+use mathlib.Core.List.{List, [], ◌∷◌, ◌++◌}
+use Prim.Native.Nat.{ℕ, zero, suc, ◌+◌, ◌*◌, ◌<◌, ◌≤◌}
 use native.Mathlib.Omega.{arith}
-use lib.ListN.{length, drop, get_or}
-use lib.Seq.{drop_at}
+use lib.ListN.{length, take, drop, get_or}
+use lib.Seq.{take-suc, drop_at}
+use Rattle.std.specs.Prelude.{Result, Ok, Err}
+use Rattle.task.specs.declared.Refusal.{Refusal}
 use Rattle.searching.specs.Search.{Node}
 use Rattle.node_words.specs.Words.{packed_at, nodes_of}
 use Rattle.node_words.proofs.Lists.{nodes_same}
 use Rattle.searched.specs.Searched.{search_file}
 use Rattle.finding.specs.Finding.{as_searched}
 use Rattle.finding.specs.declared.Sought.{Sought}
-use Rattle.finding.specs.declared.Sought.TheVariants.{Found, NoPlan, Full, Refused}
+use Rattle.finding.specs.declared.Sought.TheVariants.{Found, NoPlan, Full}
 use Rattle.nodes.specs.Nodes.{up_to}
 use Rattle.nodes.proofs.Filling.{filled, filled_at, length-up_to}
 use Rattle.cheapest.specs.LentWords.{nodes_in, LentWords}
 use Rattle.cheapest.proofs.Handed.{many}
+
+-- the first n words
+pub first_words : (ws : List ℕ) (n : ℕ) → n ≤ length ws → take n ws ≡ up_to (λ (i : ℕ). get_or ws i 0) n
+first_words ws zero h = refl
+first_words ws (suc n) h =
+    take-suc ws n 0 (omega arith) ∙ ap (λ (l : List ℕ). l ++ get_or ws n 0 ∷ []) (first_words ws n (omega arith))
 
 -- the first 4 × n words stand in the list, and its rest is as it was
 module _ (words list : List ℕ) (n : ℕ) where
@@ -38,15 +46,15 @@ module _ (words list : List ℕ) (n : ℕ) where
   copied = nodes_same words left n packed_same
 
 -- so an answer that speaks of the words speaks of the list
-pub answer_copied : (plan words list after : List ℕ) (s : Sought) → after ≡ filled (λ (i : ℕ). get_or words i 0) list (4 * nodes_in s)
+pub answer_copied : (plan words list after : List ℕ) (s : Result Sought Refusal) → after ≡ filled (λ (i : ℕ). get_or words i 0) list (4 * nodes_in s)
     → as_searched plan after s ≡ as_searched plan words s
-answer_copied plan words list after (Found r n) e =
-    ap (λ (l : List ℕ). as_searched plan l (Found r n)) e ∙ ap (λ (ns : List Node). record { answer = (as_searched plan words (Found r n)).answer; kept = ns }) (copied words list n)
-answer_copied plan words list after (NoPlan n) e =
-    ap (λ (l : List ℕ). as_searched plan l (NoPlan n)) e ∙ ap (λ (ns : List Node). record { answer = (as_searched plan words (NoPlan n)).answer; kept = ns }) (copied words list n)
-answer_copied plan words list after (Full n) e =
-    ap (λ (l : List ℕ). as_searched plan l (Full n)) e ∙ ap (λ (ns : List Node). record { answer = (as_searched plan words (Full n)).answer; kept = ns }) (copied words list n)
-answer_copied plan words list after (Refused r) e = refl
+answer_copied plan words list after (Ok (Found r n)) e =
+    ap (λ (l : List ℕ). as_searched plan l (Ok (Found r n))) e ∙ ap (λ (ns : List Node). record { answer = (as_searched plan words (Ok (Found r n))).answer; kept = ns }) (copied words list n)
+answer_copied plan words list after (Ok (NoPlan n)) e =
+    ap (λ (l : List ℕ). as_searched plan l (Ok (NoPlan n))) e ∙ ap (λ (ns : List Node). record { answer = (as_searched plan words (Ok (NoPlan n))).answer; kept = ns }) (copied words list n)
+answer_copied plan words list after (Ok (Full n)) e =
+    ap (λ (l : List ℕ). as_searched plan l (Ok (Full n))) e ∙ ap (λ (ns : List Node). record { answer = (as_searched plan words (Ok (Full n))).answer; kept = ns }) (copied words list n)
+answer_copied plan words list after (Err r) e = refl
 
 pub lent_words : (b : List ℕ) (limit room : ℕ) (words list after : List ℕ) (n : ℕ) → nodes_of words n ≡ (search_file b limit room).kept
     → after ≡ filled (λ (i : ℕ). get_or words i 0) list (4 * n) → LentWords (search_file b limit room).kept list after

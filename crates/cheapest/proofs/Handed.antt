@@ -6,6 +6,8 @@ use native.Mathlib.Nat.{mod-eq_of_lt}
 use native.Mathlib.Omega.{arith}
 use lib.ListN.{length, take, drop, replicate}
 use lib.Seq.{take_at, drop_at}
+use Rattle.std.specs.Prelude.{Result, Ok, Err}
+use Rattle.task.specs.declared.Refusal.{Refusal}
 use Rattle.lists.specs.Lists.{singleton}
 use Rattle.searching.specs.Search
 use Rattle.searching.specs.Search.{node_at}
@@ -18,7 +20,7 @@ use Rattle.searched.proofs.Claimed.{search_claim}
 use Rattle.searched.proofs.Small.{Small, kept_small}
 use Rattle.finding.specs.Finding.{as_searched, sought_by, as_sought, plan_after}
 use Rattle.finding.specs.declared.Sought.{Sought}
-use Rattle.finding.specs.declared.Sought.TheVariants.{Found, NoPlan, Full, Refused}
+use Rattle.finding.specs.declared.Sought.TheVariants.{Found, NoPlan, Full}
 use Rattle.nodes.specs.declared.Node.{Node}
 use Rattle.nodes.specs.Nodes.{as_node, node_read, up_to}
 use Rattle.nodes.proofs.Filling.{filled, length-up_to}
@@ -28,19 +30,19 @@ use Rattle.cheapest.specs.Kept.{answer, by_value, KeptAs}
 
 -- What stands in words is what is kept
 
-pub kept_is : (plan words : List ℕ) (s : Sought) → nodes_of words (nodes_in s) ≡ (as_searched plan words s).kept
-kept_is plan words (Found r n) = refl
-kept_is plan words (NoPlan n) = refl
-kept_is plan words (Full n) = refl
-kept_is plan words (Refused r) = refl
+pub kept_is : (plan words : List ℕ) (s : Result Sought Refusal) → nodes_of words (nodes_in s) ≡ (as_searched plan words s).kept
+kept_is plan words (Ok (Found r n)) = refl
+kept_is plan words (Ok (NoPlan n)) = refl
+kept_is plan words (Ok (Full n)) = refl
+kept_is plan words (Err r) = refl
 
--- The whole value stands for the answer of its search
+-- The answer is the same over any words
 
-answer_is : (x : Answer) (n : ℕ) (area : List ℕ) → (as_searched (plan_after x area) [] (sought_by x n)).answer ≡ x
-answer_is (found p c) n area = ap (λ (l : List ℕ). found l c) (take_at p (drop (length p) area) (length p) refl)
-answer_is no_plan n area = refl
-answer_is full n area = refl
-answer_is (refused k i) n area = refl
+any_words : (plan words ws : List ℕ) (s : Result Sought Refusal) → (as_searched plan ws s).answer ≡ (as_searched plan words s).answer
+any_words plan words ws (Ok (Found r n)) = refl
+any_words plan words ws (Ok (NoPlan n)) = refl
+any_words plan words ws (Ok (Full n)) = refl
+any_words plan words ws (Err r) = refl
 
 module _ (b : List ℕ) (limit room : ℕ) (words : List ℕ) (n : ℕ) (e : nodes_of words n ≡ (search_file b limit room).kept) where
   abbrev kept : List Search.Node
@@ -91,16 +93,15 @@ pub handed : (b : List ℕ) (limit : ℕ) (ys zs : List Node) (k : Kept) → Kep
     → (k.searched ≡ by_value (search_file b limit (length ys))) × (answer k.searched ≡ (search_file b limit (length ys)).answer)
     × Lent as_node (search_file b limit (length ys)).kept ys zs × Claim b limit (answer k.searched)
 handed b limit ys zs k K z =
-    let S = search_file b limit (length ys) in
-    let e : answer k.searched ≡ S.answer = ap answer K.answers ∙ answer_is S.answer (length S.kept) (replicate 1023 0) in (
+    let S = search_file b limit (length ys) in (
       K.answers,
-      e,
+      K.says,
       lent b limit (length ys) k.words k.nodes K.holds ys zs z,
-      subst (Claim b limit) (sym e) (search_claim b limit (length ys)),
+      subst (Claim b limit) (sym K.says) (search_claim b limit (length ys)),
     )
 
 -- what `find` has left in words of its own
-pub kept_words : (b : List ℕ) (limit room : ℕ) (words plan : List ℕ) (s : Sought) (n : ℕ) → length words ≡ 4096 → n ≡ nodes_in s
+pub kept_words : (b : List ℕ) (limit room : ℕ) (words plan : List ℕ) (s : Result Sought Refusal) (n : ℕ) → length words ≡ 4096 → n ≡ nodes_in s
     → as_searched plan words s ≡ search_file b limit room → s ≡ as_sought (search_file b limit room)
     → plan ≡ plan_after (search_file b limit room).answer (replicate 1023 0)
     → KeptAs b limit room (record { searched = record { sought = s; steps = plan }; nodes = n; words = words })
@@ -109,6 +110,7 @@ kept_words b limit room words plan s n long number e sought steps =
       long = long;
       fits = fits b limit room words n holds;
       few = few b limit room words n holds;
+      says = any_words plan words [] s ∙ ap (λ (x : Searched). x.answer) e;
       answers = λ z. record { sought = sought z; steps = steps z };
       holds = holds;
     }

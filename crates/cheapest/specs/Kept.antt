@@ -20,5 +20,6 @@ pub record KeptAs (b : List ℕ) (limit room : ℕ) (k : Kept) : Type 0 where
   pub long : length k.words ≡ LIST_WORDS
   pub fits : k.nodes ≤ room
   pub few : k.nodes ≤ MAX_NODES
+  pub says : answer k.searched ≡ (search_file b limit room).answer
   pub answers : k.searched ≡ by_value (search_file b limit room)
   pub holds : nodes_of k.words k.nodes ≡ (search_file b limit room).kept

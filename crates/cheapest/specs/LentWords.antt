@@ -1,16 +1,17 @@
 -- A list of words after a search.
-use Rattle.std.specs.Prelude.{◌≡◌, List, ℕ, ◌*◌, length, drop}
+use Rattle.std.specs.Prelude.{◌≡◌, List, ℕ, ◌*◌, length, drop, Result, Ok, Err}
+use Rattle.task.specs.declared.Refusal.{Refusal}
 use Rattle.searching.specs.Search.{Node}
 use Rattle.node_words.specs.Words.{nodes_of}
 use Rattle.finding.specs.declared.Sought.{Sought}
-use Rattle.finding.specs.declared.Sought.TheVariants.{Found, NoPlan, Full, Refused}
+use Rattle.finding.specs.declared.Sought.TheVariants.{Found, NoPlan, Full}
 
 -- how many nodes are kept
-abbrev pub nodes_in : Sought → ℕ
-nodes_in (Found r n) = n
-nodes_in (NoPlan n) = n
-nodes_in (Full n) = n
-nodes_in (Refused r) = 0
+abbrev pub nodes_in : Result Sought Refusal → ℕ
+nodes_in (Ok (Found r n)) = n
+nodes_in (Ok (NoPlan n)) = n
+nodes_in (Ok (Full n)) = n
+nodes_in (Err r) = 0
 
 -- it begins with the nodes kept, four words for each, and its rest is as it was
 pub record LentWords (kept : List Node) (before after : List ℕ) : Type 0 where

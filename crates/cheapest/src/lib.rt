@@ -13,12 +13,13 @@ use finding::Sought;
 use node_words::limits;
 use nodes;
 use nodes::Node;
+use task::Refusal;
 
 // What the search comes to, and the steps of a plan found, as many as that says. The array is 0 after them, and all of it where none is
 // found.
 #[derive(Clone, Copy)]
 pub struct Searched {
-    pub sought: Sought,
+    pub sought: Result<Sought, Refusal>,
     pub steps: [u8; limits::MAX_FOUND],
 }
 
@@ -31,7 +32,7 @@ struct Kept {
 }
 
 // Searches over words of its own, for a list with so much room.
-fn searched_words<'a>(file: &'a [u8], limit: usize, room: usize) -> Kept
+fn searched_words(file: &[u8], limit: usize, room: usize) -> Kept
     ensures { KeptAs file.now limit room result }
 {
     let mut words: [u64; limits::LIST_WORDS] = [0; limits::LIST_WORDS];
@@ -47,7 +48,7 @@ fn searched_words<'a>(file: &'a [u8], limit: usize, room: usize) -> Kept
 }
 
 // Searches the task in a file, keeping at most so many nodes. The list then begins with the nodes kept; a refusal leaves it as it was.
-pub fn search<'a, 'b>(file: &'a [u8], limit: usize, nodes: &'b mut [Node]) -> Searched
+pub fn search(file: &[u8], limit: usize, nodes: &mut [Node]) -> Searched
     ensures { (result ≡ by_value (search_file file.now limit (length nodes.old)))
         × (answer result ≡ (search_file file.now limit (length nodes.old)).answer)
         × Lent as_node (search_file file.now limit (length nodes.old)).kept nodes.old nodes.new

@@ -9,16 +9,17 @@ ghost use Rattle.cheapest.specs.LentWords.{nodes_in, LentWords};
 
 use finding::Sought;
 use node_words::limits;
+use task::Refusal;
 
 // How many nodes are kept.
-pub fn nodes_in(s: Sought) -> usize
-    ensures { result ≡ nodes_in s }
+pub fn nodes_in(sought: Result<Sought, Refusal>) -> usize
+    ensures { result ≡ nodes_in sought }
 {
-    match s {
-        Sought::Found(_, n) => n,
-        Sought::NoPlan(n) => n,
-        Sought::Full(n) => n,
-        Sought::Refused(_) => 0,
+    match sought {
+        Ok(Sought::Found(_, n)) => n,
+        Ok(Sought::NoPlan(n)) => n,
+        Ok(Sought::Full(n)) => n,
+        Err(_) => 0,
     }
 }
 
@@ -27,11 +28,7 @@ fn copy_words(words: &[u64], n: usize, out: &mut [u64])
     requires { (n ≤ length words.now) × (n ≤ length out.old) }
     ensures { out.new ≡ up_to (λ i. get_or words.now i 0) n ++ drop n out.old }
 {
-    let mut i = 0;
-    while i < n {
-        out[i] = words[i];
-        i += 1;
-    }
+    out[..n].copy_from_slice(&words[..n]);
 }
 
 // Searches the task in a file, keeping at most so many nodes. The list then begins with the nodes kept, and the area with the plan found;
@@ -41,7 +38,7 @@ pub fn search(
     limit: usize,
     nodes: &mut [u64],
     plan: &mut [u8; limits::MAX_FOUND],
-) -> Sought
+) -> Result<Sought, Refusal>
     ensures result_after { as_searched plan.new nodes.new result ≡ search_file file.now limit (length nodes.old / 4) }
     ensures value { result ≡ as_sought (search_file file.now limit (length nodes.old / 4)) }
     ensures lent_words { LentWords (search_file file.now limit (length nodes.old / 4)).kept nodes.old nodes.new }

@@ -1,5 +1,7 @@
 -- The file `planned`, by document 02, request 11: the plan that a search finds, as planners print it, and a last comment line with its cost.
-use Rattle.std.specs.Prelude.{List, ◌++◌, ℕ, length}
+use Rattle.std.specs.Prelude.{List, ◌++◌, ℕ, length, Result, Ok, Err}
+use Rattle.task.specs.Answers.{number_of}
+use Rattle.task.specs.declared.Refusal.{Refusal}
 use Rattle.text.specs.Ascii.{ascii}
 use Rattle.text.specs.Text.{decimal}
 use Rattle.text.specs.Area
@@ -33,8 +35,8 @@ area_after Searched.full area = area
 area_after (Searched.refused n i) area = area
 
 -- what the answers of `write` stand for
-abbrev pub as_outcome : Planned.Planned → Outcome
-as_outcome (TheVariants.Written n) = written n
-as_outcome TheVariants.NoPlan = no_plan
-as_outcome TheVariants.Full = full
-as_outcome (TheVariants.Refused r) = refused r.number r.place
+abbrev pub as_outcome : Result Planned.Planned Refusal → Outcome
+as_outcome (Ok (TheVariants.Written n)) = written n
+as_outcome (Ok TheVariants.NoPlan) = no_plan
+as_outcome (Ok TheVariants.Full) = full
+as_outcome (Err r) = refused (number_of r.cause) r.place

@@ -12,13 +12,12 @@ use node_words::limits;
 use plan_lines::print;
 use task::Refusal;
 
-// The length of the text, or why there is none.
+// The length of the text, or how the search ended without one.
 #[derive(Clone, Copy)]
 pub enum Planned {
     Written(usize),
     NoPlan,
     Full,
-    Refused(Refusal),
 }
 
 // Writes a plan, and its cost in a comment. What does not fit into the area is dropped, and the answer is the whole text's length.
@@ -31,15 +30,15 @@ fn put(plan: &[u8], cost: u64, out: &mut [u8]) -> usize
 }
 
 // Searches the task in a file, keeping as many nodes as a search may, and writes the plan found.
-pub fn write(file: &[u8], out: &mut [u8]) -> Planned
+pub fn write(file: &[u8], out: &mut [u8]) -> Result<Planned, Refusal>
     ensures result_value { as_outcome result ≡ outcome_of (search_file file.now MAX_NODES MAX_NODES).answer }
     ensures out_after { out.new ≡ area_after (search_file file.now MAX_NODES MAX_NODES).answer out.old }
 {
     let mut words: [u64; limits::LIST_WORDS] = [0; limits::LIST_WORDS];
     let mut steps: [u8; limits::MAX_FOUND] = [0; limits::MAX_FOUND];
     let most = limits::MAX_NODES;
-    let s = finding::find(file, most, most, &mut words, &mut steps);
-    match s {
+    let s = finding::find(file, most, most, &mut words, &mut steps)?;
+    Ok(match s {
         Sought::Found(route, _) => Planned::Written(put(
             text::front(&steps, route.steps),
             route.cost,
@@ -47,6 +46,5 @@ pub fn write(file: &[u8], out: &mut [u8]) -> Planned
         )),
         Sought::NoPlan(_) => Planned::NoPlan,
         Sought::Full(_) => Planned::Full,
-        Sought::Refused(f) => Planned::Refused(f),
-    }
+    })
 }
