@@ -25,10 +25,8 @@ pub fn count(marks: &[u8], values: &[u8], at: usize) -> u32
     ensures { (result ≡ further_rows (drop at (paired marks.now values.now))) × (result ≤ DEADLINES * MAX_ROWS) }
 {
     let mut d = 0;
-    let mut i = at;
-    while i < marks.len() {
+    for i in at..marks.len() {
         d += count_row(marks[i], rows::value_at(values, i));
-        i += 1;
     }
     d
 }

@@ -15,27 +15,29 @@ ghost use Rattle.translated_rows.specs.Parts.{translated_rows};
 use layout::sides;
 use layout::sides::Span;
 use places::Places;
-use task::{limits, marks};
+use task::{Sizes, limits, marks};
 use writer::Cursor;
 
-// The opening and the goal: GOAL stands at row `goal`, and the goal's clauses before row `from`.
+// The opening and the goal.
 fn put_opening(
     out: &mut [u8],
     c: Cursor,
     marks: &[u8],
     values: &[u8],
-    goal: usize,
-    from: usize,
+    p: Places,
     facts: u32,
     normal: u32,
 ) -> Cursor
-    requires { Room c out.old × Rows marks.now values.now × GoalInside marks.now goal from × (facts ≤ MAX_FACTS) × (normal ≤ MAX_FACTS) }
-    ensures { Wrote out.old c (opening_at marks.now values.now goal from facts normal) result out.new }
+    requires { Room c out.old × Rows marks.now values.now × GoalInside marks.now p.goal p.from × (facts ≤ MAX_FACTS) × (normal ≤ MAX_FACTS) }
+    ensures { Wrote out.old c (opening_at marks.now values.now p.goal p.from facts normal) result out.new }
 {
-    let opening = Span { from: 0, to: goal };
+    let opening = Span {
+        from: 0,
+        to: p.goal,
+    };
     let clauses = Span {
-        from: goal,
-        to: from,
+        from: p.goal,
+        to: p.from,
     };
     let ended = normal + 1;
     let k = writer::copy_rows(&mut *out, c, marks, values, opening);
@@ -72,39 +74,30 @@ pub fn put_task(
     marks: &[u8],
     values: &[u8],
     p: Places,
-    facts: u32,
-    preferences: u32,
+    z: Sizes,
 ) -> Cursor
-    requires { Room c out.old × Rows marks.now values.now × Found marks.now p × Source marks.now values.now facts preferences }
-    ensures { Wrote out.old c (translated_rows marks.now values.now facts) result out.new }
+    requires { Room c out.old × Rows marks.now values.now × Found marks.now p × Source marks.now values.now z.facts z.preferences }
+    ensures { Wrote out.old c (translated_rows marks.now values.now z.facts) result out.new }
 {
-    let normal = facts + 3 * preferences;
-    let from = p.from;
-    let to = p.to;
-    let mut table: [usize; limits::MAX_PREFERENCES] = [0; limits::MAX_PREFERENCES];
-    let many = preferences as usize;
-    sides::note_starts(marks, to, many, &mut table);
-    let s = Span { from, to };
-    let k = put_opening(&mut *out, c, marks, values, p.goal, from, facts, normal);
-    put_all_actions(
-        &mut *out,
-        k,
-        marks,
-        values,
-        s,
-        &table[0..many],
-        facts,
-        normal,
-    )
+    let facts = z.facts as u32;
+    let normal = facts + 3 * (z.preferences as u32);
+    let mut table = [0; limits::MAX_PREFERENCES];
+    sides::note_starts(marks, p.to, z.preferences, &mut table);
+    let starts = &table[..z.preferences];
+    let k = put_opening(&mut *out, c, marks, values, p, facts, normal);
+    let s = Span {
+        from: p.from,
+        to: p.to,
+    };
+    put_all_actions(&mut *out, k, marks, values, s, starts, facts, normal)
 }
 
 // How many rows that translation has, up to 12,001: it is written into a file of no rows.
-pub fn count_rows(marks: &[u8], values: &[u8], p: Places, facts: u32, preferences: u32) -> usize
-    requires { Rows marks.now values.now × Found marks.now p × Source marks.now values.now facts preferences }
-    ensures { result ≡ row_after 0 (length (translated_rows marks.now values.now facts)) }
+pub fn count_rows(marks: &[u8], values: &[u8], p: Places, z: Sizes) -> usize
+    requires { Rows marks.now values.now × Found marks.now p × Source marks.now values.now z.facts z.preferences }
+    ensures { result ≡ row_after 0 (length (translated_rows marks.now values.now z.facts)) }
 {
-    let mut nothing: [u8; 8] = [0; 8];
+    let mut nothing = [0; 8];
     let c = Cursor { rows: 0, next: 0 };
-    let k = put_task(&mut nothing, c, marks, values, p, facts, preferences);
-    k.next
+    put_task(&mut nothing, c, marks, values, p, z).next
 }

@@ -25,13 +25,12 @@ fn put_own(out: &mut [u8], c: Cursor, marks: &[u8], values: &[u8], a: Body, norm
     requires { Room c out.old × Rows marks.now values.now × BodyInside marks.now a }
     ensures { Wrote out.old c (own_rows marks.now values.now a normal) result out.new }
 {
-    let mid = a.mid;
     let head = Span {
         from: a.from,
-        to: mid,
+        to: a.mid,
     };
     let tail = Span {
-        from: mid,
+        from: a.mid,
         to: a.next,
     };
     let k = writer::copy_rows(&mut *out, c, marks, values, head);
@@ -123,13 +122,11 @@ pub fn put_all_closed(out: &mut [u8], c: Cursor, facts: u32, ended: u32) -> Curs
     ensures { Wrote out.old c (closed_rows facts 0 (preferences_to facts ended)) result out.new }
 {
     let mut k = c;
-    let mut fact = facts + 2;
-    while fact < ended {
+    for fact in (facts + 2..ended).step_by(3) {
         if writer::OVERFULL <= k.next {
             return k;
         }
         k = writer::put_single(&mut *out, k, marks::HOLDS, fact);
-        fact += 3;
     }
     k
 }

@@ -25,8 +25,8 @@ use Rattle.outcome.specs.Outcome.{Outcome, fitted}
 use Rattle.translated_rows.specs.Parts.{translated_rows}
 use Rattle.translated_rows.specs.declared.places.Places.{Places}
 use Rattle.translation.specs.Translated.{small_enough, rows_fitted, outcome_by, outcome}
-use Rattle.translation.specs.Measured.{Measured, within, refused, measured_by, measured}
-use Rattle.translation.proofs.Translating.{Counted, accepted, test_is, reads, ms, vs}
+use Rattle.translation.specs.Measured.{Measured, within, refused, measured_by, measured, measured_as}
+use Rattle.translation.proofs.Translating.{Promised, promised, Counted, accepted, test_is, reads, ms, vs}
 
 -- What measure answers, by what check did
 
@@ -125,3 +125,7 @@ refused_alike b n i e room = by_answer (check b) e
     by_answer : (a : Answer) → by b a ≡ refused n i → outcome_by b room a ≡ Outcome.refused n i
     by_answer (Check.refused m j) e = cc
     by_answer (Check.accepted z) e = by_sizes (small_enough z (further (task_of b).preferences)) e
+
+-- so what a task is measured to be refused by, translate answers, and leaves the area as it was
+pub not_translated : (b area : List ℕ) (r : Refusal) → measured_as (Err r) ≡ measured b → Promised b area (Err r) area
+not_translated b area r e = promised b area (Err r) area (sym (refused_alike b (number_of r.cause) r.place (sym e) (length area))) refl

@@ -2,13 +2,13 @@
 use mathlib.Core.Path.{◌≡◌, refl, sym, ap, ap₂, ◌∙◌, subst, subst⁻¹}
 use mathlib.Core.Bool.{Bool, true, false, cond, ◌&&◌, ◌||◌, true≢false}
 use mathlib.Core.List.{List, ◌++◌}
-use Rattle.std.specs.Prelude.{Result, Ok, Err}
-use Prim.Native.Nat.{ℕ, ◌+◌, ◌*◌, ◌≤◌, ◌<◌}
+use Rattle.std.specs.Prelude.{Result, Ok}
+use Prim.Native.Nat.{ℕ, ◌+◌, ◌*◌, ◌≤◌}
 use native.Mathlib.Omega.{arith}
 use lib.Dec.{T, leb, leb→le}
 use lib.ListN.{length, take, drop}
 use lib.Seq.{sets, sets-eq, length-sets, take_at, drop-append-add, drop-drop}
-use borrow.Author.Tests.{le-leb, lt-leb, leb-true}
+use borrow.Author.Tests.{le-leb, leb-true}
 use Rattle.layout.proofs.Parts.{marks_of, values_of}
 use Rattle.lists.specs.Lists.{all, is_empty}
 use Rattle.meaning.specs.Task.{Preference, Task, two_sided}
@@ -18,7 +18,7 @@ use Rattle.task.specs.File
 use Rattle.task.specs.File.{paired, sizes, sizes_of, task_of_rows, task_of, bytes16, file_of}
 use Rattle.task.specs.Check
 use Rattle.task.specs.Check.{check}
-use Rattle.task.specs.Answers.{number_of, answer as checked, as_sizes}
+use Rattle.task.specs.Answers.{answer as checked, as_sizes}
 use Rattle.task.specs.declared.Sizes.{Sizes}
 use Rattle.task.specs.declared.Refusal.{Refusal}
 use Rattle.lists.proofs.Tests.{tests, all_implies}
@@ -52,22 +52,12 @@ headed b h e l =
 
 -- The area
 
-module _ (m n room : ℕ) (e : n ≡ row_after 0 m) where
-  pub too_many : 12000 < n → refused 8 0 ≡ rows_fitted m room
-  too_many h = let l : 12000 < m = omega arith in rw (lt-leb m 12000 l)
-
-  pub no_room : n ≤ 12000 → room < 8 + 5 * n → refused 9 0 ≡ rows_fitted m room
-  no_room f h =
-      let l : m ≤ 12000 = omega arith in
-      let g : room < 8 + 5 * m = omega arith in
-      rw (le-leb m 12000 l, lt-leb (8 + 5 * m) room g)
-
-  pub room_enough : n ≤ 12000 → 8 + 5 * n ≤ room → written (8 + 5 * n) ≡ rows_fitted m room
-  room_enough f h =
-      let l : m ≤ 12000 = omega arith in
-      let g : 8 + 5 * m ≤ room = omega arith in
-      let same : n ≡ m = omega arith in
-      rw (le-leb m 12000 l, le-leb (8 + 5 * m) room g) (ap (λ (k : ℕ). written (8 + 5 * k)) same)
+pub room_enough : (m n room : ℕ) → n ≡ row_after 0 m → n ≤ 12000 → 8 + 5 * n ≤ room → written (8 + 5 * n) ≡ rows_fitted m room
+room_enough m n room e f h =
+    let l : m ≤ 12000 = omega arith in
+    let g : 8 + 5 * m ≤ room = omega arith in
+    let same : n ≡ m = omega arith in
+    rw (le-leb m 12000 l, le-leb (8 + 5 * m) room g) (ap (λ (k : ℕ). written (8 + 5 * k)) same)
 
 -- what is written has the length that was asked for, and fits
 pub fits_is : (bytes room n : ℕ) → written n ≡ fitted bytes room → (n ≡ bytes) × (bytes ≤ room)
@@ -76,10 +66,6 @@ fits_is bytes room n e = go (leb bytes room) refl e
     go : (u : Bool) → leb bytes room ≡ u → written n ≡ cond u (written bytes) (refused 9 0) → (n ≡ bytes) × (bytes ≤ room)
     go true p q = (cc, leb-true bytes room p)
     go false p q = absurd (true≢false (cc))
-
--- refused: the area is as it was
-pub stays : (t : Task) (b : List ℕ) (r : Result ℕ Refusal) (k : ℕ) → answer r ≡ refused k 0 → refused k 0 ≡ rows_fitted (length (task_rows (translated t))) (length b) → Fitted t b r b
-stays t b r k e f = record { answering = e ∙ f; area = sym (ap (area_after (file_of (translated t)) b) e) }
 
 -- written: the file, and then what stood after it
 module _ (t : Task) (F A P D : ℕ) (facts : F ≡ t.facts) (acts : A ≡ length t.actions) (prefs : P ≡ length t.preferences) (more : D ≡ further t.preferences)
@@ -187,7 +173,7 @@ Promised b area r out =
     × ((out ≡ area_after (compiled b) area (outcome b (length area)))
     × ((n : ℕ) → answer r ≡ written n → Delivered b out n))
 
-promised : (b area : List ℕ) (r : Result ℕ Refusal) (out : List ℕ) → answer r ≡ outcome b (length area) → out ≡ area_after (compiled b) area (answer r) → Promised b area r out
+pub promised : (b area : List ℕ) (r : Result ℕ Refusal) (out : List ℕ) → answer r ≡ outcome b (length area) → out ≡ area_after (compiled b) area (answer r) → Promised b area r out
 promised b area r out e f = (
   e,
   (
@@ -197,14 +183,6 @@ promised b area r out e f = (
 )
 
 module _ (b area : List ℕ) (x : Result Sizes Refusal) (e : checked x ≡ check b) where
-  -- a refusal leaves the area as it was
-  refuses : (r : Result ℕ Refusal) (k i : ℕ) → answer r ≡ refused k i → refused k i ≡ outcome b (length area) → Promised b area r area
-  refuses r k i p q = promised b area r area (p ∙ q) (sym (ap (area_after (compiled b) area) p))
-
-  pub turned_down : (f : Refusal) → x ≡ Err f → Promised b area (Err f) area
-  unfolding outcome
-  turned_down f q = refuses (Err f) (number_of f.cause) f.place refl (ap (outcome_by b (length area)) (sym (ap checked q) ∙ e))
-
   module _ (z : Sizes) (q : x ≡ Ok z) where
     pub accepted : check b ≡ Check.accepted (as_sizes z)
     accepted = sym e ∙ ap checked q
@@ -237,9 +215,6 @@ module _ (b area : List ℕ) (x : Result Sizes Refusal) (e : checked x ≡ check
 
     pub test_is : (p : Places) (d : ℕ) → Counted p d → (x : Bool) → small_enough (as_sizes z) d ≡ x → small_enough (as_sizes z) (further (task_of b).preferences) ≡ x
     test_is p d e x h = ap (small_enough (as_sizes z)) (sym (counted_is p d e)) ∙ h
-
-    pub too_large : (p : Places) (d : ℕ) → Counted p d → small_enough (as_sizes z) d ≡ false → (r : Result ℕ Refusal) → answer r ≡ refused 7 0 → Promised b area r area
-    too_large p d e h r q = refuses r 7 0 q (rw (test_is p d e false h) at on_task)
 
     pub small : (d : ℕ) → small_enough (as_sizes z) d ≡ true → (z.facts + 3 * z.preferences + 2 + d ≤ 128) × (z.actions + 2 * z.preferences + 1 ≤ 128)
     small d h =

@@ -2,4 +2,4 @@
 use Rattle.translated_rows.proofs.count_rows.Goals as goal
 
 pub returns : goal.returns
-returns c = c.put_task-k.ensures.next
+returns c = c.put_task.ensures.next

@@ -1,6 +1,4 @@
 -- The preferences are noted (`placed`); the opening and the actions in turn make the task (`task_wrote`).
-use mathlib.Core.Path.{◌≡◌, ap, ◌∙◌}
-use Prim.Native.Nat.{ℕ, ◌-◌}
 use native.Mathlib.Omega.{arith}
 use lib.ListN.{take}
 use lib.Seq.{length-take-le}
@@ -11,17 +9,15 @@ pub put_all_actions-requires : goal.put_all_actions-requires
 put_all_actions-requires c =
     let a = c.args in
     let table = c.note_starts.new.starts in
-    let P = a.preferences in
-    let same : P - 0 ≡ P = omega arith in
-    let long = length-take-le (P - 0) table (omega (arith, c.requires.3.few_preferences, c.note_starts.auto.starts)) ∙ same in (
+    let P = a.z.preferences in
+    let long = length-take-le P table (omega (arith, c.requires.3.few_preferences, c.note_starts.auto.starts)) in (
       c.put_opening-k.ensures.room,
       c.requires.1,
-      placed a.marks.now a.values.now a.facts a.preferences a.p c.requires.3 c.requires.2
-          (take (P - 0) table) (ap (λ (k : ℕ). take k table) same ∙ c.note_starts.ensures) long,
+      placed a.marks.now a.values.now a.z.facts a.z.preferences a.p c.requires.3 c.requires.2 (take P table) c.note_starts.ensures long,
     )
 
 pub returns : goal.returns
 returns c =
     let a = c.args in
-    task_wrote a.marks.now a.values.now a.facts a.preferences a.p c.requires.3 c.requires.2
+    task_wrote a.marks.now a.values.now a.z.facts a.z.preferences a.p c.requires.3 c.requires.2
     c.put_opening-k.ensures c.put_all_actions.ensures

@@ -1,5 +1,5 @@
 use mathlib.Core.Path.{ap, ◌∙◌}
-use Prim.Native.Nat.{ℕ, ◌-◌}
+use Prim.Native.Nat.{ℕ}
 use lib.ListN.{get_or, drop}
 use Rattle.task.specs.TaskRows.{row}
 use Rattle.translated_rows.specs.Further.{further_row, further_rows}

@@ -1,11 +1,6 @@
 -- A loop over the rows, by `one_more`.
-use Prim.Native.Nat.{◌-◌}
-use lib.ListN.{length}
 use Rattle.translated_rows.proofs.FurtherRows.{Counting}
 use Rattle.translated_rows.proofs.further.count.Given as goal
 
 abbrev pub invariant-loop-i : goal.invariant-loop-i
 invariant-loop-i l = Counting l.marks l.values l.at l.d l.i
-
-abbrev pub decreases-loop-i : goal.decreases-loop-i
-decreases-loop-i l = length l.marks - l.i

@@ -1,4 +1,3 @@
-use Prim.Native.Nat.{◌-◌}
 use Rattle.translated_rows.proofs.PartRows.{acting_none, before_own, acted_on, acted_all, acted_full}
 use borrow.Author.Rules.{rules}
 use Rattle.translated_rows.proofs.parts.put_actions.Goals as goal

@@ -1,4 +1,3 @@
-use Prim.Native.Nat.{◌-◌}
 use native.Mathlib.Omega.{arith}
 use Rattle.writer.proofs.Putting.{kept_none, kept_on}
 use Rattle.translated_rows.specs.Parts.{preferences_to}
@@ -37,3 +36,8 @@ pub returns : goal.returns
 returns c =
     let a = c.args in
     ending_all a.facts a.ended c.loop-fact.invariant.kept.room (search rules) c.loop-fact.invariant.so_far
+
+pub returns-else-k-ge-OVERFULL : goal.returns-else-k-ge-OVERFULL
+returns-else-k-ge-OVERFULL c =
+    let a = c.args in
+    ending_all a.facts a.ended c.put_single-k.ensures.room (search rules) (ending_on a.facts a.ended (search rules) c.put_single-k.ensures c.loop-fact.invariant.so_far)
