@@ -2,9 +2,8 @@
 use mathlib.Core.Path.{◌≡◌, refl, ap, ◌∙◌, subst}
 use mathlib.Core.Bool.{true≢false}
 use mathlib.Core.List.{List}
-use Prim.Native.Nat.{ℕ, ◌≤◌, ◌<◌}
+use Prim.Native.Nat.{ℕ}
 use lib.ListN.{length}
-use borrow.Author.Tests.{le-leb, lt-leb}
 use Rattle.meaning.specs.Task.{Task}
 use Rattle.task.specs.TaskRows.{Row, task_rows}
 use Rattle.task.specs.File.{Sizes, task_of}
@@ -12,16 +11,14 @@ use Rattle.task.specs.Check.{check, accepted}
 use Rattle.task.specs.Check
 use Rattle.task.proofs.Checking.{parts_of}
 use Rattle.task.proofs.Answered.{parts_spell}
-use Rattle.plan.specs.Judged
 use Rattle.plan.specs.Judged.{Judged, judged}
-use Rattle.plan.specs.Walked
 use Rattle.plan.specs.Walked.{Walk, Walked, given, without_worth, walked}
 use Rattle.plan.specs.ThenSettled.{with_amounts, then_settle}
 use Rattle.meaning.specs.Literals.{literals}
 use Rattle.plan.proofs.ThenSettled.{walk_then_settle}
 use Rattle.text.specs.Area.{Filled}
 use Rattle.text.proofs.Writing.{from_start, no_bytes}
-use Rattle.outcome.specs.Outcome.{written, refused, fitted}
+use Rattle.outcome.specs.Outcome.{refused, fitted}
 use Rattle.report.specs.Report.{report_of, report_on, report_by, report_outcome, WalkedTo}
 use Rattle.report.specs.Rows.{report_of_rows}
 use Rattle.report.proofs.Spelled.{task_report}
@@ -57,15 +54,9 @@ module _ (b p : List ℕ) where
         (spelled_report (task_of b) _ (parts_spell b z h) (length p) (with_amounts b w)
         ∙ ap (report_of (task_of b) (length p)) (ap (then_settle b) q.1 ∙ walk_then_settle b p))
 
-    by_length : (room : ℕ) → report_outcome b p room ≡ fitted (length (report_on b p)) room
+    pub by_length : (room : ℕ) → report_outcome b p room ≡ fitted (length (report_on b p)) room
     unfolding walked report_outcome
     by_length room = as_given (length (report_on b p)) room (judged b p) w q.0 (literals (task_of b) p) q.1
-
-    pub too_short : (room : ℕ) → room < length (report_on b p) → report_outcome b p room ≡ refused 9 0
-    too_short room h = by_length room ∙ rw (lt-leb (length (report_on b p)) room h)
-
-    pub roomy : (room : ℕ) → length (report_on b p) ≤ room → report_outcome b p room ≡ written (length (report_on b p))
-    roomy room h = by_length room ∙ rw (le-leb (length (report_on b p)) room h)
 
   -- a refused file has no text
   pub on_refused : (n i : ℕ) → check b ≡ Check.refused n i → (out : List ℕ) → Filled out (report_on b p) 0 out

@@ -8,7 +8,6 @@ use Rattle.plan.specs.Judged.{Judged, given, refused, judged}
 use Rattle.plan.specs.Walked
 use Rattle.plan.specs.Walked.{Walk, walked}
 use Rattle.text.specs.Ascii.{ascii}
-use Rattle.outcome.specs.Outcome
 use Rattle.outcome.specs.Outcome.{Outcome, fitted}
 use Rattle.report_lines.specs.Lines.{solved_line, preference_line, amounts_line, stopped_line, rule_missed_line}
 

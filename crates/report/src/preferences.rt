@@ -42,10 +42,8 @@ pub fn put_rows(out: &mut [u8], at: usize, met: u64, marks: &[u8], values: &[u8]
     ensures upper_bound { result ≤ at + 70 * length marks.now }
 {
     let mut next = Next { at, number: 0 };
-    let mut i = 0;
-    while i < marks.len() {
+    for i in 0..marks.len() {
         next = put_row(&mut *out, next, marks[i], rows::value_at(values, i), met);
-        i += 1;
     }
     next.at
 }

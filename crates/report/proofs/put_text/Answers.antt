@@ -9,39 +9,39 @@ use Rattle.text.proofs.Writing.{from_start}
 use Rattle.report.proofs.Answering.{on_accepted, on_refused}
 use borrow.Author.Rules.{rules}
 use Rattle.report.proofs.put_text.Goals as goal
-use Rattle.report.proofs.put_text.Goals.{In-Accepted}
+use Rattle.report.proofs.put_text.Goals.{In-Ok}
 
 -- where the file was accepted
-was_accepted : (c : In-Accepted) → check c.args.file.now ≡ accepted (as_sizes c.in-Accepted.z)
-was_accepted c = sym c.check-c.ensures ∙ ap checked c.in-Accepted.is
+was_accepted : (c : In-Ok) → check c.args.file.now ≡ accepted (as_sizes c.in-Ok.z)
+was_accepted c = sym c.check.ensures ∙ ap checked c.in-Ok.is
 
-parts : (c : In-Accepted) → Limited c.args.file.now (as_sizes c.in-Accepted.z)
-parts c = limited c.args.file.now (as_sizes c.in-Accepted.z) (was_accepted c)
+parts : (c : In-Ok) → Limited c.args.file.now (as_sizes c.in-Ok.z)
+parts c = limited c.args.file.now (as_sizes c.in-Ok.z) (was_accepted c)
 
 pub returns-in_default : goal.returns-in_default
 returns-in_default c =
     let a = c.args in
-    on_refused a.file.now a.plan.now _ _ (sym c.check-c.ensures ∙ ap checked c.in_default.is) a.out.now
+    on_refused a.file.now a.plan.now _ _ (sym c.check.ensures ∙ ap checked c.in_default.is) a.out.now
 
 pub overflow_add-middle : goal.overflow_add-middle
-overflow_add-middle c = let l = parts (goal.at.overflow_add-middle c).In-Accepted in search rules
+overflow_add-middle c = let l = parts (goal.at.overflow_add-middle c).In-Ok in search rules
 
 pub slice_bounds-put_verdict-end : goal.slice_bounds-put_verdict-end
-slice_bounds-put_verdict-end c = let l = parts (goal.at.slice_bounds-put_verdict-end c).In-Accepted in search rules
+slice_bounds-put_verdict-end c = let l = parts (goal.at.slice_bounds-put_verdict-end c).In-Ok in search rules
 
 pub slice_bounds-put_verdict-count-2 : goal.slice_bounds-put_verdict-count-2
-slice_bounds-put_verdict-count-2 c = let l = parts (goal.at.slice_bounds-put_verdict-count-2 c).In-Accepted in search rules
+slice_bounds-put_verdict-count-2 c = let l = parts (goal.at.slice_bounds-put_verdict-count-2 c).In-Ok in search rules
 
 pub slice_bounds-put_verdict-start-2 : goal.slice_bounds-put_verdict-start-2
-slice_bounds-put_verdict-start-2 c = let l = parts (goal.at.slice_bounds-put_verdict-start-2 c).In-Accepted in search rules
+slice_bounds-put_verdict-start-2 c = let l = parts (goal.at.slice_bounds-put_verdict-start-2 c).In-Ok in search rules
 
 pub put_verdict-requires : goal.put_verdict-requires
 put_verdict-requires c =
-    let l = parts (goal.at.put_verdict-requires c).In-Accepted in
+    let l = parts (goal.at.put_verdict-requires c).In-Ok in
     record { few = simp (length-take, length-drop) (omega arith); values = simp (length-take, length-drop) (omega arith) }
 
 pub returns : goal.returns
 returns c =
     let a = c.args in
-    on_accepted a.file.now a.plan.now _ c.requires (as_sizes c.in-Accepted.z) (was_accepted (goal.at.returns c).In-Accepted) a.out.now c.put_verdict.result
+    on_accepted a.file.now a.plan.now _ c.requires (as_sizes c.in-Ok.z) (was_accepted (goal.at.returns c).In-Ok) a.out.now c.put_verdict.result
     c.put_verdict.new.out (from_start c.put_verdict.ensures)

@@ -1,9 +1,12 @@
 -- For each verdict the function called writes its text, by its contract; a plan that solves is settled first.
+use Rattle.text.proofs.Writing.{no_bytes}
 use Rattle.report.proofs.put_verdict.Goals as goal
 
-pub returns-in-Solved : goal.returns-in-Solved
-returns-in-Solved c =
-    rw (c.in-Solved.is, ← c.settle-settled.ensures) c.put_settled.ensures
+pub returns-in-Ok : goal.returns-in-Ok
+returns-in-Ok c = rw (c.in-Solved.is, ← c.settle.ensures, c.in-Ok.is) c.put_worth.ensures
+
+pub returns-in-Err : goal.returns-in-Err
+returns-in-Err c = rw (c.in-Solved.is, ← c.settle.ensures, c.in-Err.is) (no_bytes c.args.out.now 0)
 
 pub returns-in-Stopped : goal.returns-in-Stopped
 returns-in-Stopped c =

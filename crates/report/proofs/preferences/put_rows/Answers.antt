@@ -1,6 +1,4 @@
-use Prim.Native.Nat.{◌-◌}
 use Rattle.state.specs.Member.{bit}
-use Rattle.text.proofs.Writing.{same_size}
 use Rattle.report.proofs.Listing.{no_rows, next_row, all_rows}
 use borrow.Author.Rules.{rules}
 use Rattle.report.proofs.preferences.put_rows.Goals as goal
@@ -14,9 +12,6 @@ loop-i-preserved c =
     next_row (bit a.met) a.marks.now a.values.now a.out.now a.at c.loop-i.out c.loop-i.next.at c.loop-i.next.number
     c.loop-i.i c.loop-i.invariant c.put_row-next.result.at c.put_row-next.result.number c.put_row-next.new.out (search rules)
     (rw c.value_at.ensures at c.put_row-next.ensures.wrote) c.put_row-next.ensures.number_value.0 (search rules) (search rules)
-
-pub shape_of-out : goal.shape_of-out
-shape_of-out c = same_size c.loop-i.invariant.wrote
 
 pub returns : goal.returns
 returns c =

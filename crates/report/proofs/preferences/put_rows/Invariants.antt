@@ -1,12 +1,7 @@
 -- The lines written and those of the rows from i on are all rows' lines: Listed of Listing, kept by next_row.
-use Prim.Native.Nat.{◌-◌}
-use lib.ListN.{length}
 use Rattle.state.specs.Member.{bit}
 use Rattle.report.proofs.Listing.{Listed}
 use Rattle.report.proofs.preferences.put_rows.Given as goal
 
 abbrev pub invariant-loop-i : goal.invariant-loop-i
 invariant-loop-i l = Listed (bit l.met) l.marks l.values l.initial.out l.at l.out l.next.at l.next.number l.i
-
-abbrev pub decreases-loop-i : goal.decreases-loop-i
-decreases-loop-i l = length l.marks - l.i
