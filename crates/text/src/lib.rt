@@ -118,15 +118,24 @@ pub fn put_integer(out: &mut [u8], at: usize, n: i64) -> usize
     }
 }
 
+// Writes a word, and a number in decimal after it.
+pub fn put_labelled(out: &mut [u8], at: usize, word: &[u8], n: u64) -> usize
+    requires { at + length word.now + 20 < 2 ^ 64 }
+    ensures wrote { Wrote out.old at (word.now ++ decimal n) result out.new }
+    ensures upper_bound { result ≤ at + length word.now + 20 }
+{
+    let a = put_bytes(&mut *out, at, word);
+    put_decimal(&mut *out, a, n)
+}
+
 // Writes a number in decimal, with a word before it and one after it.
 pub fn put_number(out: &mut [u8], at: usize, before: &[u8], n: u64, after: &[u8]) -> usize
     requires { at + length before.now + 20 + length after.now < 2 ^ 64 }
     ensures wrote { Wrote out.old at (before.now ++ (decimal n ++ after.now)) result out.new }
     ensures upper_bound { result ≤ at + length before.now + 20 + length after.now }
 {
-    let a = put_bytes(&mut *out, at, before);
-    let b = put_decimal(&mut *out, a, n);
-    put_bytes(&mut *out, b, after)
+    let a = put_labelled(&mut *out, at, before, n);
+    put_bytes(&mut *out, a, after)
 }
 
 // Writes the line of a refusal.

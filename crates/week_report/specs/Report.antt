@@ -1,7 +1,6 @@
 -- The text of a week, which program week prints.
 use Rattle.std.specs.Prelude.{List, [], ◌++◌, ℕ, length}
 use Rattle.lists.specs.Lists.{concat_from}
-use Rattle.outcome.specs.Outcome
 use Rattle.outcome.specs.Outcome.{Outcome, written}
 use Rattle.figures.specs.Plans.{count}
 use Rattle.figures.specs.Figures.{Figures, none_solves, solve}

@@ -11,11 +11,11 @@ use Rattle.week_report.proofs.put_figures.Goals as goal
 pub put_meetings-requires : goal.put_meetings-requires
 put_meetings-requires c =
     let a = c.args in
-    let sixteen : length a.meeting ≡ 16 = search rules in
-    (omega (arith, ap length c.first_counts.ensures, length-take a.m.preferences a.meeting, sixteen), search rules)
+    let sixteen : length a.m.meeting ≡ 16 = search rules in
+    (omega (arith, ap length c.front.ensures, length-take a.m.preferences a.m.meeting, sixteen), search rules)
 
 pub returns : goal.returns
 unfolding metric_line
 returns c =
     then (then c.put_counts-a.ensures.wrote c.put_metrics-b.ensures.wrote)
-    (same_counts _ _ c.first_counts.ensures c.put_meetings.ensures)
+    (same_counts _ _ c.front.ensures c.put_meetings.ensures)

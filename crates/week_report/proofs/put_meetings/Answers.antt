@@ -1,6 +1,4 @@
 use borrow.Author.Rules.{rules}
-use Prim.Native.Nat.{◌-◌}
-use Rattle.text.proofs.Writing.{same_size}
 use Rattle.week_report.proofs.Listing.{no_lines, next_line_lem, all_lines}
 use Rattle.week_report.proofs.put_meetings.Goals as goal
 
@@ -12,9 +10,6 @@ loop-k-preserved c =
     let a = c.args in
     next_line_lem a.counts.now a.out.now a.at c.loop-k.out c.loop-k.p c.loop-k.k c.loop-k.invariant c.put_meeting-p.result
     c.put_meeting-p.new.out (search rules) c.put_meeting-p.ensures.wrote (search rules)
-
-pub shape_of-out : goal.shape_of-out
-shape_of-out c = same_size c.loop-k.invariant.wrote
 
 pub returns : goal.returns
 returns c =

@@ -1,7 +1,7 @@
 -- The word, then the number: then of Writing.
 use native.Mathlib.Omega.{arith}
 use Rattle.text.proofs.Writing.{then}
-use Rattle.week_report.proofs.put_labelled.Goals as goal
+use Rattle.text.proofs.put_labelled.Goals as goal
 
 pub returns : goal.returns
 returns c = record {
