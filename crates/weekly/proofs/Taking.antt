@@ -22,18 +22,19 @@ use Rattle.plan.proofs.ThenSettled.{walk_then_settle}
 use Rattle.figures.specs.Pass.{Tally, turned, MOST, Small}
 use Rattle.figures.proofs.Small.{metric_small}
 use Rattle.weekly.specs.Answers.{as_tally}
-use Rattle.weekly.specs.Turns.{Cheap, Counts, Room}
+use Rattle.weekly.specs.Turns.{Cheap, Room}
 use Rattle.weekly.specs.declared.tally.Totals.{Totals}
 
 -- fewer than 64 plans leave room for one more
-pub room_left : (k : ℕ) (t : Totals) (cs : List ℕ) → k < 64 → Small MOST k (as_tally t cs) → Room t × Counts cs
-room_left k t cs h s = (
-  record { few = omega (arith, s.few); sum = omega (arith, s.sum) },
-  record {
-    few = all_implies (λ (c : ℕ). leb c k) (λ (c : ℕ). leb c 64) (λ c t. le→leb c 64 (omega (arith, leb→le c k t))) cs s.counts;
+pub room_left : (k : ℕ) (t : Totals) → k < 64 → Small MOST k (as_tally t) → Room t
+room_left k t h s = record {
+  few = omega (arith, s.few);
+  sum = omega (arith, s.sum);
+  counts = record {
+    few = all_implies (λ (c : ℕ). leb c k) (λ (c : ℕ). leb c 64) (λ c t. le→leb c 64 (omega (arith, leb→le c k t))) t.meeting s.counts;
     sixteen = s.sixteen;
-  },
-)
+  };
+}
 
 -- the turn of a walked plan
 pub turn_walked : (b p : List ℕ) (w : Walked.Walked) → w ≡ walked b p → (k : ℕ) (a : Tally) → turned k a (then_settle b w) ≡ turned k a (judged b p)

@@ -26,7 +26,7 @@ use Rattle.figures.specs.Pass.{Tally, no_plans, closed, closing, pass_at, Counti
 use Rattle.figures.specs.Promised.{Promised}
 use Rattle.figures.proofs.Loop.{week_unreadable, week_pass}
 use Rattle.figures.proofs.Promised.{promised}
-use Rattle.weekly.specs.Answers.{as_tally, turn_as, figures_as, reckoned_as, padded, as_figures, as_reckoned}
+use Rattle.weekly.specs.Answers.{as_tally, pass_as, figures_as, reckoned_as, padded, as_figures, as_reckoned}
 use Rattle.weekly.specs.declared.tally.Totals.{Totals}
 use Rattle.weekly.specs.declared.Amounts.{Amounts}
 
@@ -74,7 +74,7 @@ pub none_solve : (P : ℕ) (a : Tally) → a.solving ≡ 0 → None ≡ as_figur
 none_solve P a e = rw (eq-eqb a.solving 0 e)
 
 -- and where one does: its counts are those of its figures, and zeros after them
-pub some_solve : (P : ℕ) (t : Totals) (cs : List ℕ) → P ≤ 16 → Counting P (as_tally t cs) → (t.solving ≡ 0 → ⊥)
+pub some_solve : (P : ℕ) (t : Totals) → P ≤ 16 → Counting P (as_tally t) → (t.solving ≡ 0 → ⊥)
     → Some (record {
       solving = t.solving;
       least = t.least;
@@ -83,9 +83,10 @@ pub some_solve : (P : ℕ) (t : Totals) (cs : List ℕ) → P ≤ 16 → Countin
       mean = t.sum / t.solving;
       remainder = t.sum % t.solving;
       preferences = P;
-      meeting = cs;
-    }) ≡ as_figures (closed P (as_tally t cs))
-some_solve P t cs few n some =
+      meeting = t.meeting;
+    }) ≡ as_figures (closed P (as_tally t))
+some_solve P t few n some =
+    let cs : List ℕ = t.meeting in
     let m : length (take P cs) ≡ P = length-take-le P cs (omega (arith, few, n.sixteen)) in
     let all : cs ≡ padded (take P cs) =
     sym (take-append-drop P cs) ∙ ap (λ (l : List ℕ). take P cs ++ l) (n.beyond ∙ ap (λ (k : ℕ). replicate (16 - k) 0) (sym m)) in
@@ -108,11 +109,10 @@ module _ (b f : List ℕ) (z : Files.Sizes) (h : check b ≡ Check.accepted z) w
   few = (within z (accepted_spelling b z h).allowed).4
 
   -- by what the pass came to
-  module _ (read : readable f ≡ true) (r : Result Totals Refusal) (cs : List ℕ)
-      (e : closing z.preferences (turn_as r cs) ≡ pass_at b f z.preferences no_plans 0) where
-    pub of_pass : (s : Result Totals Refusal) → r ≡ s → closing z.preferences (turn_as s cs) ≡ week_of b f
-    of_pass s q = ap (λ (x : Result Totals Refusal). closing z.preferences (turn_as x cs)) (sym q) ∙ e ∙ sym (week_pass b f z h read)
+  module _ (read : readable f ≡ true) (r : Result Totals Refusal) (e : closing z.preferences (pass_as r) ≡ pass_at b f z.preferences no_plans 0) where
+    pub of_pass : (s : Result Totals Refusal) → r ≡ s → closing z.preferences (pass_as s) ≡ week_of b f
+    of_pass s q = ap (λ (x : Result Totals Refusal). closing z.preferences (pass_as x)) (sym q) ∙ e ∙ sym (week_pass b f z h read)
 
     -- the counts, where it came to the totals of all plans
-    pub counted : CountingIn z.preferences (turn_as r cs) → (t : Totals) → r ≡ Ok t → Counting z.preferences (as_tally t cs)
-    counted n t q = subst (λ (y : Result Totals Refusal). CountingIn z.preferences (turn_as y cs)) q n
+    pub counted : CountingIn z.preferences (pass_as r) → (t : Totals) → r ≡ Ok t → Counting z.preferences (as_tally t)
+    counted n t q = subst (λ (y : Result Totals Refusal). CountingIn z.preferences (pass_as y)) q n

@@ -14,13 +14,18 @@ use Rattle.weekly.specs.declared.Amounts.{Amounts}
 abbrev pub as_entry : Entry → Plans.Entry
 as_entry e = record { start = e.start; steps = e.steps }
 
--- totals, with the counts beside them
-abbrev pub as_tally : Totals → List ℕ → Tally
-as_tally t counts = record { solving = t.solving; lowest = t.least; highest = t.greatest; total = t.sum; meetings = counts }
+abbrev pub as_tally : Totals → Tally
+as_tally t = record { solving = t.solving; lowest = t.least; highest = t.greatest; total = t.sum; meetings = t.meeting }
 
-abbrev pub turn_as : Result Totals Refusal → List ℕ → Turn
-turn_as (Ok t) counts = on (as_tally t counts)
-turn_as (Err r) counts = ends (number_of r.cause) r.place
+-- one plan that is taken in, which leaves the totals t
+abbrev pub turn_as : Result (Unit {0}) Refusal → Totals → Turn
+turn_as (Ok u) t = on (as_tally t)
+turn_as (Err r) t = ends (number_of r.cause) r.place
+
+-- all plans, with their totals
+abbrev pub pass_as : Result Totals Refusal → Turn
+pass_as (Ok t) = on (as_tally t)
+pass_as (Err r) = ends (number_of r.cause) r.place
 
 -- the counts are read where a plan solves, as many as there are preferences
 abbrev pub figures_as : Option Amounts → Figures

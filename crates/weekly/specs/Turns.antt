@@ -8,15 +8,16 @@ use Rattle.figures.specs.Pass.{AtMost, MOST}
 use Rattle.weekly.specs.declared.tally.Totals.{Totals}
 use Rattle.task.specs.Limits.{MAX_PLANS, MAX_PREFERENCES}
 
--- there is room for one plan more
-pub record Room (t : Totals) : Type 0 where
-  pub few : t.solving ≤ MAX_PLANS
-  pub sum : t.sum ≤ MAX_PLANS * MOST
-
--- and in its counts
+-- there is room for one more in each count
 pub record Counts (cs : List ℕ) : Type 0 where
   pub few : AtMost MAX_PLANS cs
   pub sixteen : length cs ≡ MAX_PREFERENCES
+
+-- and for one plan more in all
+pub record Room (t : Totals) : Type 0 where
+  pub few : t.solving ≤ MAX_PLANS
+  pub sum : t.sum ≤ MAX_PLANS * MOST
+  pub counts : Counts t.meeting
 
 -- settle's metric is one that a plan can have
 abbrev pub Cheap : Result Worth Refusal → Type 0

@@ -4,15 +4,15 @@
 pub mod plans;
 mod tally;
 
-ghost use Rattle.std.specs.Prelude.{◌≡◌, true, ◌≤◌, replicate, Ok};
+ghost use Rattle.std.specs.Prelude.{◌≡◌, true, ◌≤◌};
 ghost use Rattle.task.specs.Check.{accepted, check};
 ghost use Rattle.task.specs.Answers.{as_sizes};
 ghost use Rattle.task.specs.Limits.{MAX_PREFERENCES};
 ghost use Rattle.figures.specs.Plans.{readable};
-ghost use Rattle.figures.specs.Week.{given, week_of};
+ghost use Rattle.figures.specs.Week.{week_of};
 ghost use Rattle.figures.specs.Pass.{no_plans, closed, closing, pass_at, Counting, CountingIn};
 ghost use Rattle.figures.specs.Promised.{Promised};
-ghost use Rattle.weekly.specs.Answers.{as_tally, turn_as, as_figures, reckoned_as, as_reckoned};
+ghost use Rattle.weekly.specs.Answers.{as_tally, pass_as, as_figures, reckoned_as, as_reckoned};
 
 use tally::Totals;
 use task::refused::Cause;
@@ -33,14 +33,10 @@ pub struct Amounts {
     pub meeting: [u64; limits::MAX_PREFERENCES],
 }
 
-// The amounts, from the totals over all plans and the counts beside them, where a plan solves.
-fn amounts_of(
-    preferences: usize,
-    t: Totals,
-    meeting: [u64; limits::MAX_PREFERENCES],
-) -> Option<Amounts>
-    requires { (preferences ≤ MAX_PREFERENCES) × Counting preferences (as_tally t meeting) }
-    ensures { result ≡ as_figures (closed preferences (as_tally t meeting)) }
+// The amounts, from the totals over all plans, where a plan solves.
+fn amounts_of(preferences: usize, t: &Totals) -> Option<Amounts>
+    requires { (preferences ≤ MAX_PREFERENCES) × Counting preferences (as_tally t.now) }
+    ensures { result ≡ as_figures (closed preferences (as_tally t.now)) }
 {
     let n = t.solving;
     if n == 0 {
@@ -54,21 +50,15 @@ fn amounts_of(
         mean: t.sum / n,
         remainder: t.sum % n,
         preferences,
-        meeting,
+        meeting: t.meeting,
     })
 }
 
 // Takes in all plans of a file, from the first on: the first that is refused ends the pass.
-fn pass(
-    file: &[u8],
-    z: Sizes,
-    plans: &[u8],
-    meeting: &mut [u64; limits::MAX_PREFERENCES],
-) -> Result<Totals, Refusal>
-    requires { (check file.now ≡ accepted (as_sizes z)) × (readable plans.now ≡ true) × (meeting.old ≡ replicate MAX_PREFERENCES 0) }
-    ensures meeting_after { let passed = pass_at file.now plans.now z.preferences no_plans 0 in
-        closing z.preferences (turn_as result meeting.new) ≡ passed }
-    ensures counting_in { CountingIn z.preferences (turn_as result meeting.new) }
+fn pass(file: &[u8], z: Sizes, plans: &[u8]) -> Result<Totals, Refusal>
+    requires { (check file.now ≡ accepted (as_sizes z)) × (readable plans.now ≡ true) }
+    ensures passed { closing z.preferences (pass_as result) ≡ pass_at file.now plans.now z.preferences no_plans 0 }
+    ensures counting_in { CountingIn z.preferences (pass_as result) }
 {
     let n = plans::count(plans);
     let first = 2 + 4 * n;
@@ -77,12 +67,13 @@ fn pass(
         least: 0,
         greatest: 0,
         sum: 0,
+        meeting: [0; limits::MAX_PREFERENCES],
     };
     for i in 0..n {
         let e = plans::entry_at(plans, n, i);
         let from = first + e.start;
         let to = from + e.steps;
-        t = tally::take_plan(file, z, i as u16, &plans[from..to], t, &mut *meeting)?;
+        tally::take_plan(file, z, i as u16, &plans[from..to], &mut t)?;
     }
     Ok(t)
 }
@@ -98,7 +89,6 @@ pub fn week(file: &[u8], plans: &[u8]) -> Result<Option<Amounts>, Refusal>
     if !plans::is_readable(plans) {
         return Err(Cause::Plans.at(0));
     }
-    let mut meeting: [u64; limits::MAX_PREFERENCES] = [0; limits::MAX_PREFERENCES];
-    let t = pass(file, z, plans, &mut meeting)?;
-    Ok(amounts_of(z.preferences, t, meeting))
+    let t = pass(file, z, plans)?;
+    Ok(amounts_of(z.preferences, &t))
 }

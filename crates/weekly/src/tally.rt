@@ -16,13 +16,14 @@ use plan::Verdict;
 use settling::Worth;
 use task::{Refusal, Sizes, limits};
 
-// Of the plans so far: how many solve, and of their metrics the least, the greatest and the sum.
+// Of the plans so far: how many solve, of their metrics the least, the greatest and the sum, and how many of them meet each preference.
 #[derive(Clone, Copy)]
 pub struct Totals {
     pub solving: u64,
     pub least: u64,
     pub greatest: u64,
     pub sum: u64,
+    pub meeting: [u64; limits::MAX_PREFERENCES],
 }
 
 // A count, one more where preference k is met.
@@ -47,8 +48,8 @@ fn raise(met: u64, meeting: &mut [u64; limits::MAX_PREFERENCES])
 }
 
 // The least metric with one more.
-fn least(t: Totals, metric: u64) -> u64
-    ensures { result ≡ cond (eqb t.solving 0 || ltb metric t.least) metric t.least }
+fn least(t: &Totals, metric: u64) -> u64
+    ensures { result ≡ cond (eqb t.now.solving 0 || ltb metric t.now.least) metric t.now.least }
 {
     if t.solving == 0 {
         return metric;
@@ -56,81 +57,57 @@ fn least(t: Totals, metric: u64) -> u64
     t.least.min(metric)
 }
 
-// The totals with one plan more that solves.
-fn with_metric(t: Totals, metric: u64) -> Totals
-    requires { Room t × (metric ≤ MOST) }
-    ensures { (met : ℕ → Bool) (l : List ℕ) → as_tally result (raised met 0 l) ≡ counted (as_tally t l) metric met }
+// One plan more that solves, of a metric and met preferences.
+fn count(t: &mut Totals, metric: u64, met: u64)
+    requires { Room t.old × (metric ≤ MOST) }
+    ensures { as_tally t.new ≡ counted (as_tally t.old) metric (bit met) }
 {
-    Totals {
-        solving: t.solving + 1,
-        least: least(t, metric),
-        greatest: t.greatest.max(metric),
-        sum: t.sum + metric,
-    }
+    t.least = least(&*t, metric);
+    t.greatest = t.greatest.max(metric);
+    t.sum += metric;
+    t.solving += 1;
+    raise(met, &mut t.meeting);
 }
 
 // Takes in plan k, which solves, by what settle answers: it refuses nothing that walk gave.
-fn take_settled(
-    k: u16,
-    s: Result<Worth, Refusal>,
-    met: u64,
-    t: Totals,
-    meeting: &mut [u64; limits::MAX_PREFERENCES],
-) -> Result<Totals, Refusal>
-    requires { Room t × Counts meeting.old × Cheap s }
-    ensures { let before = as_tally t meeting.old in
-        ((cost : ℕ) → turn_as result meeting.new ≡ turned k before (priced cost (bit met) (settled_as s))) }
+fn take_settled(k: u16, s: Result<Worth, Refusal>, met: u64, t: &mut Totals) -> Result<(), Refusal>
+    requires { Room t.old × Cheap s }
+    ensures { (cost : ℕ) → turn_as result t.new ≡ turned k (as_tally t.old) (priced cost (bit met) (settled_as s)) }
 {
     match s {
         Ok(w) => {
-            raise(met, &mut *meeting);
-            Ok(with_metric(t, w.metric))
+            count(&mut *t, w.metric, met);
+            Ok(())
         }
         Err(f) => Err(f.cause.at(k)),
     }
 }
 
 // Takes in plan k by its verdict on the task in an accepted file: one that does not solve changes nothing.
-fn take_verdict(
-    file: &[u8],
-    z: Sizes,
-    k: u16,
-    v: Verdict,
-    t: Totals,
-    meeting: &mut [u64; limits::MAX_PREFERENCES],
-) -> Result<Totals, Refusal>
+fn take_verdict(file: &[u8], z: Sizes, k: u16, v: Verdict, t: &mut Totals) -> Result<(), Refusal>
     requires file_value { (check file.now ≡ accepted (as_sizes z)) × WalkedTo file.now (as_verdict v) }
-    requires room { Room t × Counts meeting.old }
-    ensures { let before = as_tally t meeting.old in
-        turn_as result meeting.new ≡ turned k before (with_amounts file.now (as_verdict v)) }
+    requires room { Room t.old }
+    ensures { turn_as result t.new ≡ turned k (as_tally t.old) (with_amounts file.now (as_verdict v)) }
 {
     match v {
         Verdict::Solved(s) => {
             let settled = settling::settle_on(file, z, s.cost, s.met);
-            take_settled(k, settled, s.met, t, &mut *meeting)
+            take_settled(k, settled, s.met, &mut *t)
         }
-        Verdict::Stopped(_) => Ok(t),
-        Verdict::GoalMissed => Ok(t),
-        Verdict::RuleMissed(_) => Ok(t),
+        Verdict::Stopped(_) => Ok(()),
+        Verdict::GoalMissed => Ok(()),
+        Verdict::RuleMissed(_) => Ok(()),
     }
 }
 
 // Takes in plan k, walked on the task in an accepted file.
-pub fn take_plan(
-    file: &[u8],
-    z: Sizes,
-    k: u16,
-    plan: &[u8],
-    t: Totals,
-    meeting: &mut [u64; limits::MAX_PREFERENCES],
-) -> Result<Totals, Refusal>
-    requires { (check file.now ≡ accepted (as_sizes z)) × (k < MAX_PLANS) × Small MOST k (as_tally t meeting.old) }
-    ensures { let before = as_tally t meeting.old in
-        turn_as result meeting.new ≡ turned k before (judged file.now plan.now) }
+pub fn take_plan(file: &[u8], z: Sizes, k: u16, plan: &[u8], t: &mut Totals) -> Result<(), Refusal>
+    requires { (check file.now ≡ accepted (as_sizes z)) × (k < MAX_PLANS) × Small MOST k (as_tally t.old) }
+    ensures { turn_as result t.new ≡ turned k (as_tally t.old) (judged file.now plan.now) }
 {
     let w = plan::walk_on(file, z, plan);
     match w {
-        Ok(given) => take_verdict(file, z, k, given.verdict, t, &mut *meeting),
+        Ok(given) => take_verdict(file, z, k, given.verdict, &mut *t),
         Err(r) => Err(r.cause.at(k)),
     }
 }

@@ -4,9 +4,9 @@ use Rattle.weekly.proofs.Weeks.{none_solve, some_solve}
 use Rattle.weekly.proofs.amounts_of.Goals as goal
 
 pub returns-then-n-eq0 : goal.returns-then-n-eq0
-returns-then-n-eq0 c = none_solve c.args.preferences (as_tally c.args.t c.args.meeting) c.if-n-eq0.true
+returns-then-n-eq0 c = none_solve c.args.preferences (as_tally c.args.t.now) c.if-n-eq0.true
 
 pub returns : goal.returns
 returns c =
     let a = c.args in
-    some_solve a.preferences a.t a.meeting c.requires.0 c.requires.1 c.if-n-eq0.false
+    some_solve a.preferences a.t.now c.requires.0 c.requires.1 c.if-n-eq0.false

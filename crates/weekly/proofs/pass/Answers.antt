@@ -11,7 +11,7 @@ use Rattle.figures.proofs.Loop.{plan_at, read_head, plan_within, plan_lent}
 use Rattle.task.specs.declared.Refusal.{Refusal}
 use Rattle.figures.specs.Pass.{closing, CountingIn}
 use Rattle.weekly.specs.declared.tally.Totals.{Totals}
-use Rattle.weekly.specs.Answers.{as_tally, turn_as}
+use Rattle.weekly.specs.Answers.{as_tally, pass_as}
 use Rattle.weekly.proofs.Reading.{head_fits}
 use Rattle.weekly.proofs.Passing.{begun, passed, refused_at, taken_on}
 use Rattle.weekly.proofs.pass.Goals as goal
@@ -40,7 +40,7 @@ within c =
 pub loop-i-init : goal.loop-i-init
 loop-i-init c =
     let a = c.args in
-    begun a.file.now a.plans.now a.z.preferences a.meeting.now c.requires.2
+    begun a.file.now a.plans.now a.z.preferences
 
 pub entry_at-e-requires : goal.entry_at-e-requires
 entry_at-e-requires c = ((few (goal.at.entry_at-e-requires c).After-count-n).0, omega (arith, few (goal.at.entry_at-e-requires c).After-count-n), search rules)
@@ -58,10 +58,10 @@ pub take_plan-requires : goal.take_plan-requires
 take_plan-requires c =
     (c.requires.0, omega (arith, c.loop-i-test.true, few (goal.at.take_plan-requires c).After-count-n), c.loop-i.invariant.small)
 
-pub returns-in_err-t : goal.returns-in_err-t
-returns-in_err-t c =
+pub returns-in_err-take_plan : goal.returns-in_err-take_plan
+returns-in_err-take_plan c =
     let a = c.args in
-    let at = goal.at.returns-in_err-t c in
+    let at = goal.at.returns-in_err-take_plan c in
     let few' = few at.After-count-n in
     let f = a.plans.now in
     let e = c.entry_at-e.ensures.0 in
@@ -72,11 +72,11 @@ returns-in_err-t c =
     let r = err_from_is_err_and c.from_residual.result c.from_residual.ensures.1 in
     let told = r.1 ∙ ap Err r.2 in
     record {
-      meeting_after = ap (λ (x : Result Totals Refusal). closing a.z.preferences (turn_as x c.take_plan.new.meeting)) told
-          ∙ refused_at a.file.now a.plans.now a.z.preferences (as_tally c.loop-i.t c.loop-i.meeting) c.loop-i.i c.loop-i.invariant
-          (omega (arith, c.loop-i-test.true, few')) _ lent c.take_plan.result c.take_plan.new.meeting c.take_plan.ensures c.in_err-t.field-0.0
-          c.in_err-t.was;
-      counting_in = subst⁻¹ (λ (x : Result Totals Refusal). CountingIn a.z.preferences (turn_as x c.take_plan.new.meeting)) told tt;
+      passed = ap (λ (x : Result Totals Refusal). closing a.z.preferences (pass_as x)) told
+          ∙ refused_at a.file.now a.plans.now a.z.preferences (as_tally c.loop-i.t) c.loop-i.i c.loop-i.invariant
+          (omega (arith, c.loop-i-test.true, few')) _ lent c.take_plan.result c.take_plan.new.t c.take_plan.ensures c.in_err-take_plan.field-0.0
+          c.in_err-take_plan.was;
+      counting_in = subst⁻¹ (λ (x : Result Totals Refusal). CountingIn a.z.preferences (pass_as x)) told tt;
     }
 
 pub loop-i-preserved : goal.loop-i-preserved
@@ -90,14 +90,14 @@ loop-i-preserved c =
     let lent : take (from + c.entry_at-e.result.steps - from) (drop from f) ≡ plan_at f c.loop-i.i =
     plan_lent f c.requires.1 c.loop-i.i from (from + c.entry_at-e.result.steps)
     (omega (arith, few', ap (λ (x : Entry). x.start) e)) (omega (arith, ap (λ (x : Entry). x.steps) e)) in
-    taken_on a.file.now a.plans.now a.z.preferences (as_tally c.loop-i.t c.loop-i.meeting) c.loop-i.i c.loop-i.invariant
+    taken_on a.file.now a.plans.now a.z.preferences (as_tally c.loop-i.t) c.loop-i.i c.loop-i.invariant
     (omega (arith, c.loop-i-test.true, few')) _ lent (as_sizes a.z) c.requires.0 refl c.take_plan.result _ c.take_plan.ensures
-    c.in_ok-t.t c.in_ok-t.was
+    _ c.in_ok-take_plan.was
 
 pub returns : goal.returns
 returns c =
     let a = c.args in record {
-      meeting_after = passed a.file.now a.plans.now a.z.preferences (as_tally c.loop-i.t c.loop-i.meeting) c.loop-i.i c.loop-i.invariant
+      passed = passed a.file.now a.plans.now a.z.preferences (as_tally c.loop-i.t) c.loop-i.i c.loop-i.invariant
           (omega (arith, c.loop-i-test.false, few (goal.at.returns c).After-count-n));
       counting_in = c.loop-i.invariant.counting;
     }

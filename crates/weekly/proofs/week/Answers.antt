@@ -1,6 +1,6 @@
 -- The answer is that of `week_of`, by `Weeks`.
 use borrow.Author.Tests.{not-true, not-false}
-use mathlib.Core.Path.{◌≡◌, refl, sym, ap, subst⁻¹, ◌∙◌}
+use mathlib.Core.Path.{◌≡◌, sym, ap, subst⁻¹, ◌∙◌}
 use mathlib.Core.Bool.{true}
 use Rattle.std.specs.Prelude.{Ok, Err}
 use Rattle.std.proofs.lemmas.Result.{err_from_is_err_and}
@@ -38,7 +38,7 @@ returns-then-not-is_readable c =
     record { result_value = k.result_value; value = k.value; promised = k.promises }
 
 pub pass-requires : goal.pass-requires
-pass-requires c = (accepted (goal.at.pass-requires c).In_ok-z, read (goal.at.pass-requires c).Else-not-is_readable, refl)
+pass-requires c = (accepted (goal.at.pass-requires c).In_ok-z, read (goal.at.pass-requires c).Else-not-is_readable)
 
 pub returns-in_err-t : goal.returns-in_err-t
 returns-in_err-t c =
@@ -47,8 +47,8 @@ returns-in_err-t c =
     let r = err_from_is_err_and c.from_residual-in_err-t.result c.from_residual-in_err-t.ensures.1 in
     let k = subst⁻¹ (Kept a.file.now a.plans.now) (r.1 ∙ ap Err r.2)
     (refused_kept a.file.now a.plans.now c.in_err-t.field-0.0
-    (of_pass a.file.now a.plans.now (as_sizes c.in_ok-z.z) (accepted at.In_ok-z) (read at.Else-not-is_readable) c.pass.result c.pass.new.meeting
-    c.pass.ensures.meeting_after (Err c.in_err-t.field-0.0) c.in_err-t.was)) in
+    (of_pass a.file.now a.plans.now (as_sizes c.in_ok-z.z) (accepted at.In_ok-z) (read at.Else-not-is_readable) c.pass.result
+    c.pass.ensures.passed (Err c.in_err-t.field-0.0) c.in_err-t.was)) in
     record { result_value = k.result_value; value = k.value; promised = k.promises }
 
 pub amounts_of-requires : goal.amounts_of-requires
@@ -56,15 +56,15 @@ amounts_of-requires c =
     let a = c.args in
     let at = goal.at.amounts_of-requires c in (
       few a.file.now a.plans.now (as_sizes c.in_ok-z.z) (accepted at.In_ok-z),
-      counted a.file.now a.plans.now (as_sizes c.in_ok-z.z) (accepted at.In_ok-z) (read at.Else-not-is_readable) c.pass.result c.pass.new.meeting
-          c.pass.ensures.meeting_after c.pass.ensures.counting_in c.in_ok-t.t c.in_ok-t.was,
+      counted a.file.now a.plans.now (as_sizes c.in_ok-z.z) (accepted at.In_ok-z) (read at.Else-not-is_readable) c.pass.result
+          c.pass.ensures.passed c.pass.ensures.counting_in c.in_ok-t.t c.in_ok-t.was,
     )
 
 pub returns : goal.returns
 returns c =
     let a = c.args in
     let at = goal.at.returns c in
-    let k = given_kept a.file.now a.plans.now c.amounts_of.result (closed c.in_ok-z.z.preferences (as_tally c.in_ok-t.t c.pass.new.meeting)) c.amounts_of.ensures
-    (of_pass a.file.now a.plans.now (as_sizes c.in_ok-z.z) (accepted at.In_ok-z) (read at.Else-not-is_readable) c.pass.result c.pass.new.meeting
-    c.pass.ensures.meeting_after (Ok c.in_ok-t.t) c.in_ok-t.was) in
+    let k = given_kept a.file.now a.plans.now c.amounts_of.result (closed c.in_ok-z.z.preferences (as_tally c.in_ok-t.t)) c.amounts_of.ensures
+    (of_pass a.file.now a.plans.now (as_sizes c.in_ok-z.z) (accepted at.In_ok-z) (read at.Else-not-is_readable) c.pass.result
+    c.pass.ensures.passed (Ok c.in_ok-t.t) c.in_ok-t.was) in
     record { result_value = k.result_value; value = k.value; promised = k.promises }

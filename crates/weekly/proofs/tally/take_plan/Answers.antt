@@ -9,16 +9,16 @@ pub take_verdict-requires : goal.take_verdict-requires
 take_verdict-requires c =
     let a = c.args in record {
       file_value = (c.requires.0, (a.plan.now, _, sym (ap walked_as c.in-Ok.is) ∙ c.walk_on-w.ensures));
-      room = room_left a.k a.t a.meeting.now c.requires.1 c.requires.2;
+      room = room_left a.k a.t.now c.requires.1 c.requires.2;
     }
 
 pub returns-in-Ok : goal.returns-in-Ok
 returns-in-Ok c =
     let a = c.args in
     c.take_verdict.ensures
-    ∙ turn_walked a.file.now a.plan.now _ (sym (ap walked_as c.in-Ok.is) ∙ c.walk_on-w.ensures) a.k (as_tally a.t a.meeting.now)
+    ∙ turn_walked a.file.now a.plan.now _ (sym (ap walked_as c.in-Ok.is) ∙ c.walk_on-w.ensures) a.k (as_tally a.t.now)
 
 pub returns-in-Err : goal.returns-in-Err
 returns-in-Err c =
     let a = c.args in
-    rw c.at.ensures (turn_walked a.file.now a.plan.now _ (sym (ap walked_as c.in-Err.is) ∙ c.walk_on-w.ensures) a.k (as_tally a.t a.meeting.now))
+    rw c.at.ensures (turn_walked a.file.now a.plan.now _ (sym (ap walked_as c.in-Err.is) ∙ c.walk_on-w.ensures) a.k (as_tally a.t.now))
