@@ -65,12 +65,6 @@ as_figures (solve n a) =
       meeting = padded a.meetings;
     })
 
--- none where no plan solves, and none in a refusal
-abbrev pub counts_in : Answer → List ℕ
-counts_in (given none_solves) = []
-counts_in (given (solve n a)) = a.meetings
-counts_in (refused n i) = []
-
 abbrev pub as_reckoned : Answer → Result (Option Amounts) Refusal
 as_reckoned (given x) = Ok (as_figures x)
 as_reckoned (refused n i) = Err (record { cause = cause_of n; place = i })
