@@ -1,8 +1,6 @@
 // Program pddl: writes the task in the file `compiled` as PDDL, to the files `domain.pddl` and `problem.pddl`.
 #![tactic(auto)]
 
-use files::Content;
-use pddl_text::Outcome;
 use std::io;
 use std::rt::Files;
 
@@ -26,19 +24,17 @@ fn main(rt: HostRuntime) -> io::Result<()> {
     // The first buffer has room for more than any accepted file, so a longer one gets the answer of the whole file; the
     // others for every domain and every problem.
     let mut task = [0u8; files::LARGE];
-    let of_task = files::read(&rt, b"compiled", &mut task);
-    let Content::Bytes(n) = of_task else {
+    let Some(n) = files::read(&rt, b"compiled", &mut task) else {
         return files::say_missing(&rt);
     };
     let mut domain = [0u8; pddl_text::MAX_PDDL];
     let mut problem = [0u8; pddl_text::MAX_PDDL];
-    let answer = pddl_text::write(text::front(&task, n), &mut domain, &mut problem);
-    match answer {
-        Outcome::Written(m) => write_texts(
+    match pddl_text::write(text::front(&task, n), &mut domain, &mut problem) {
+        Ok(m) => write_texts(
             &rt,
             text::front(&domain, m.domain),
             text::front(&problem, m.problem),
         ),
-        Outcome::Refused(f) => files::say_refused(&rt, f),
+        Err(f) => files::say_refused(&rt, f),
     }
 }
