@@ -1,10 +1,9 @@
 // Checks each record as a task file, and writes a line with the answer: `accepted` and the four sizes, or `refused`,
 // number and place.
 use super::{ROOM, lines};
-use records::Next;
 use std::io;
 use std::io::Read;
-use task::{Checked, Sizes};
+use task::Sizes;
 
 fn write_accepted(rt: &impl Print, z: Sizes) -> io::Result<()> {
     lines::write_amount(rt, "accepted ", z.facts as u64)?;
@@ -17,14 +16,12 @@ fn write_accepted(rt: &impl Print, z: Sizes) -> io::Result<()> {
 // Checks the next record, and answers whether there was one.
 pub fn check_next(rt: &impl Print, vectors: &mut impl Read) -> io::Result<bool> {
     let mut buf = [0u8; ROOM];
-    let next = records::next_record(vectors, &mut buf);
-    let Next::Record(n) = next else {
+    let Some(n) = records::next_record(vectors, &mut buf) else {
         return Ok(false);
     };
-    let answer = task::check(text::front(&buf, n));
-    match answer {
-        Checked::Accepted(z) => write_accepted(rt, z)?,
-        Checked::Refused(f) => lines::write_refused(rt, f)?,
+    match task::check(text::front(&buf, n)) {
+        Ok(z) => write_accepted(rt, z)?,
+        Err(f) => files::say_refused(rt, f)?,
     }
     Ok(true)
 }

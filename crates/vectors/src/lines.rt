@@ -1,7 +1,6 @@
 // Parts of the lines that are written about vectors.
 use settling::Worth;
 use std::io;
-use task::Refusal;
 
 // Writes words and a number after them.
 pub fn write_amount(rt: &impl Print, words: &str, n: u64) -> io::Result<()> {
@@ -16,11 +15,4 @@ pub fn write_worth(rt: &impl Print, w: Worth) -> io::Result<()> {
     let k = text::put_integer(&mut utility, 0, w.utility);
     rt.write_all(text::front(&utility, k))?;
     rt.write_all(b"\n")
-}
-
-// Writes the line of a refusal.
-pub fn write_refused(rt: &impl Print, f: Refusal) -> io::Result<()> {
-    let mut line = [0u8; 64];
-    let k = text::put_refused(&mut line, 0, f.number as u64, f.place as u64);
-    rt.write_all(text::front(&line, k))
 }

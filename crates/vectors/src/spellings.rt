@@ -1,25 +1,18 @@
 // Spells tasks, where a task's record comes before the area that is lent for its spelling. Of each it writes a line, `spelled` and
 // the length, or `refused`, number and place; then the bytes of the area, as they are after the call, and a newline.
 use super::{ROOM, lines};
-use outcome::Outcome;
-use records::Next;
 use std::io;
 use std::io::Read;
 
-fn write_outcome(rt: &impl Print, answer: Outcome) -> io::Result<()> {
-    match answer {
-        Outcome::Written(k) => {
-            lines::write_amount(rt, "spelled ", k as u64)?;
-            rt.write_all(b"\n")
-        }
-        Outcome::Refused(f) => lines::write_refused(rt, f),
-    }
-}
-
 // Spells a task, and writes the answer and the area.
 fn spell_into(rt: &impl Print, file: &[u8], area: &mut [u8]) -> io::Result<()> {
-    let answer = spelling::spell(file, &mut *area);
-    write_outcome(rt, answer)?;
+    match spelling::spell(file, &mut *area) {
+        Ok(k) => {
+            lines::write_amount(rt, "spelled ", k as u64)?;
+            rt.write_all(b"\n")?;
+        }
+        Err(f) => files::say_refused(rt, f)?,
+    }
     rt.write_all(&*area)?;
     rt.write_all(b"\n")
 }
@@ -37,12 +30,10 @@ fn spell_front(rt: &impl Print, file: &[u8], buf: &mut [u8], room: usize) -> io:
 pub fn spell_next(rt: &impl Print, vectors: &mut impl Read) -> io::Result<bool> {
     let mut task = [0u8; ROOM];
     let mut area = [0u8; ROOM];
-    let of_task = records::next_record(&mut *vectors, &mut task);
-    let Next::Record(n) = of_task else {
+    let Some(n) = records::next_record(&mut *vectors, &mut task) else {
         return Ok(false);
     };
-    let of_area = records::next_record(vectors, &mut area);
-    let Next::Record(room) = of_area else {
+    let Some(room) = records::next_record(vectors, &mut area) else {
         return Ok(false);
     };
     spell_front(rt, text::front(&task, n), &mut area, room)

@@ -2,9 +2,9 @@
 // cost and the met preferences, and the literals looked at; or `refused`, number and place.
 use super::{ROOM, lines};
 use plan::{Verdict, Walked};
-use records::Next;
 use std::io;
 use std::io::Read;
+use task::Refusal;
 
 fn write_verdict(rt: &impl Print, v: Verdict) -> io::Result<()> {
     match v {
@@ -18,14 +18,14 @@ fn write_verdict(rt: &impl Print, v: Verdict) -> io::Result<()> {
     }
 }
 
-fn write_walked(rt: &impl Print, walked: Walked) -> io::Result<()> {
+fn write_walked(rt: &impl Print, walked: Result<Walked, Refusal>) -> io::Result<()> {
     match walked {
-        Walked::Given(v, looked) => {
-            write_verdict(rt, v)?;
-            lines::write_amount(rt, " literals ", looked)?;
+        Ok(w) => {
+            write_verdict(rt, w.verdict)?;
+            lines::write_amount(rt, " literals ", w.looked)?;
             rt.write_all(b"\n")
         }
-        Walked::Refused(f) => lines::write_refused(rt, f),
+        Err(f) => files::say_refused(rt, f),
     }
 }
 
@@ -33,12 +33,10 @@ fn write_walked(rt: &impl Print, walked: Walked) -> io::Result<()> {
 pub fn walk_next(rt: &impl Print, vectors: &mut impl Read) -> io::Result<bool> {
     let mut task = [0u8; ROOM];
     let mut plan = [0u8; ROOM];
-    let of_task = records::next_record(&mut *vectors, &mut task);
-    let Next::Record(n) = of_task else {
+    let Some(n) = records::next_record(&mut *vectors, &mut task) else {
         return Ok(false);
     };
-    let of_plan = records::next_record(vectors, &mut plan);
-    let Next::Record(m) = of_plan else {
+    let Some(m) = records::next_record(vectors, &mut plan) else {
         return Ok(false);
     };
     write_walked(rt, plan::walk(text::front(&task, n), text::front(&plan, m)))?;
