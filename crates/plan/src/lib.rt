@@ -69,6 +69,10 @@ pub fn walk_on(file: &[u8], z: Sizes, plan: &[u8]) -> Result<Walked, Refusal>
 pub fn walk(file: &[u8], plan: &[u8]) -> Result<Walked, Refusal>
     ensures { walked_as result ≡ walked file.now plan.now }
 {
-    let z = task::check(file)?;
+    // Document 01 names let .. else, and not ?, as the form of this place.
+    let checked = task::check(file);
+    let Ok(z) = checked else {
+        return Err(checked.unwrap_err());
+    };
     walk_on(file, z, plan)
 }
