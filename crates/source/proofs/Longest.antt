@@ -14,7 +14,6 @@ use Rattle.outcome.specs.Outcome.{refused, fitted}
 use Rattle.outcome.proofs.Outcomes.{has_room}
 use Rattle.plan.specs.Judged.{steps_known}
 use Rattle.plan_lines.specs.PlanText.{Read, plan, faulty, read_plan}
-use Rattle.translation.specs.Measured
 use Rattle.translation.specs.Measured.{Measured, within, measured}
 use Rattle.translation.proofs.Measuring.{refused_alike}
 use Rattle.translation.proofs.Longest.{never_too_short as translation_fits}

@@ -25,7 +25,6 @@ use Rattle.plan.proofs.Walking.{not-all_known}
 use Rattle.plan_lines.specs.PlanText.{NEWLINE, step_line, Lines, rest, ended, lines_of, Line, comment, step, other, line_of, read_plan, faulty}
 use Rattle.plan_text.specs.Outcomes.{read_outcome}
 use Rattle.translation.specs.Translated
-use Rattle.translation.specs.Measured
 use Rattle.translation.specs.Measured.{Measured, within, measured}
 use Rattle.source.specs.Source.{below, outcome}
 

@@ -5,12 +5,12 @@ use mathlib.Core.List.{List}
 use Prim.Native.Nat.{ℕ, ◌≤◌, ◌<◌}
 use lib.Dec.{leb, ltb}
 use lib.ListN.{length}
-use borrow.Author.Tests.{le-leb, lt-leb, leb-true}
+use borrow.Author.Tests.{leb-true}
 use Rattle.classical.specs.Translation.{translated_actions}
 use Rattle.lists.specs.Lists.{all}
 use Rattle.lists.proofs.Tests.{as_true}
 use Rattle.task.specs.File.{Sizes}
-use Rattle.outcome.specs.Outcome.{written, refused}
+use Rattle.outcome.specs.Outcome.{written, refused, fitted}
 use Rattle.plan.specs.Judged.{steps_known}
 use Rattle.plan.proofs.Walking.{all_known, not-all_known}
 use Rattle.plan_lines.specs.PlanText.{Read, plan, faulty, read_plan}
@@ -27,11 +27,8 @@ module _ (z : Sizes) (room : ℕ) (p : List ℕ) where
     known : all (λ (k : ℕ). ltb k (translated_actions z)) p ≡ true
     known = as_true (all (λ (k : ℕ). ltb k (translated_actions z)) p) (all_known (translated_actions z) p h)
 
-    pub too_short : room < length (below z.actions p) → of_known z room p ≡ refused 9 0
-    too_short l = rw (known, lt-leb (length (below z.actions p)) room l)
-
-    pub roomy : length (below z.actions p) ≤ room → of_known z room p ≡ written (length (below z.actions p))
-    roomy l = rw (known, le-leb (length (below z.actions p)) room l)
+    pub by_size : of_known z room p ≡ fitted (length (below z.actions p)) room
+    by_size = rw known
 
 -- A text
 

@@ -11,7 +11,6 @@ use Rattle.plan.specs.Judged.{steps_known}
 use Rattle.plan_lines.specs.PlanText.{Read, plan, faulty, read_plan}
 use Rattle.plan_text.specs.Outcomes.{steps_in}
 use Rattle.translation.specs.Translated.{Delivered}
-use Rattle.translation.specs.Measured
 use Rattle.translation.specs.Measured.{Measured, within, measured}
 use Rattle.paid.specs.CostIsMetric.{SettledAt}
 

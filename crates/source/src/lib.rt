@@ -12,13 +12,12 @@ ghost use Rattle.plan_lines.specs.PlanText.{read_plan};
 ghost use Rattle.plan_text.specs.Outcomes.{steps_in};
 ghost use Rattle.source.specs.Source.{below, of_known, of_text, outcome, part_in, Returned};
 
-use outcome::Outcome;
-use task::{Sizes, limits, refused};
+use task::refused::Cause;
+use task::{Refusal, Sizes, limits};
 use translation::measures;
-use translation::measures::Measured;
 
 // Writes the source steps of a list of translated actions at the start of the area.
-fn put_known(z: Sizes, steps: &[u8], out: &mut [u8]) -> Outcome
+fn put_known(z: Sizes, steps: &[u8], out: &mut [u8]) -> Result<usize, Refusal>
     requires { (length steps.now ≤ MAX_STEPS) × (z.actions + 2 * z.preferences + 1 ≤ MAX_ACTIONS) }
     ensures result_value { answer result ≡ of_known (as_sizes z) (length out.old) steps.now }
     ensures out_after { let answered = of_known (as_sizes z) (length out.old) steps.now in
@@ -27,42 +26,32 @@ fn put_known(z: Sizes, steps: &[u8], out: &mut [u8]) -> Outcome
     let actions = z.actions + 2 * z.preferences + 1;
     let known = plan::steps_known(actions, steps);
     if known < steps.len() {
-        return outcome::refuse(refused::STEP, known as u16);
+        return Err(Cause::Step.at(known as u16));
     }
     let mut nothing: [u8; 1] = [0; 1];
-    let n = parts::put_source(steps, z.actions, &mut nothing);
-    if out.len() < n {
-        return outcome::refuse(refused::SHORT_OUTPUT, 0);
-    }
-    parts::put_source(steps, z.actions, &mut *out);
-    Outcome::Written(n)
+    outcome::fitted(parts::put_source(steps, z.actions, &mut nothing), out.len())?;
+    Ok(parts::put_source(steps, z.actions, &mut *out))
 }
 
 // Reads a planner's text, and writes the source steps in it at the start of the area.
-fn put_text(z: Sizes, text: &[u8], out: &mut [u8]) -> Outcome
+fn put_text(z: Sizes, text: &[u8], out: &mut [u8]) -> Result<usize, Refusal>
     requires { z.actions + 2 * z.preferences + 1 ≤ MAX_ACTIONS }
     ensures result_value { answer result ≡ of_text (as_sizes z) (length out.old) (read_plan text.now) }
     ensures out_after { let answered = of_text (as_sizes z) (length out.old) (read_plan text.now) in
         out.new ≡ area_after (below z.actions (steps_in text.now)) out.old answered }
 {
     let mut steps: [u8; limits::MAX_STEPS] = [0; limits::MAX_STEPS];
-    let l = plan_text::read(text, &mut steps);
-    match l {
-        Outcome::Written(n) => put_known(z, text::front(&steps, n), &mut *out),
-        Outcome::Refused(f) => Outcome::Refused(f),
-    }
+    let n = plan_text::read(text, &mut steps)?;
+    put_known(z, text::front(&steps, n), &mut *out)
 }
 
 // The source part of what a planner prints for the translation of the task in a file, one byte a step, at the start of the area.
-pub fn source(file: &[u8], text: &[u8], out: &mut [u8]) -> Outcome
+pub fn source(file: &[u8], text: &[u8], out: &mut [u8]) -> Result<usize, Refusal>
     ensures result_value { answer result ≡ outcome file.now text.now (length out.old) }
     ensures out_after { let answered = outcome file.now text.now (length out.old) in
         out.new ≡ area_after (part_in file.now text.now) out.old answered }
     ensures by_index { (m : ℕ) → answer result ≡ written m → Returned file.now text.now out.new m }
 {
-    let m = measures::measure(file);
-    match m {
-        Measured::Within(z) => put_text(z, text, &mut *out),
-        Measured::Refused(f) => Outcome::Refused(f),
-    }
+    let z = measures::measure(file)?;
+    put_text(z, text, &mut *out)
 }

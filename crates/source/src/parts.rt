@@ -23,10 +23,8 @@ pub fn put_source(steps: &[u8], actions: usize, out: &mut [u8]) -> usize
     ensures { Filled out.old (below actions steps.now) result out.new }
 {
     let mut k = 0;
-    let mut i = 0;
-    while i < steps.len() {
-        k = put_below(&mut *out, k, actions, steps[i]);
-        i += 1;
+    for step in steps {
+        k = put_below(&mut *out, k, actions, *step);
     }
     k
 }
