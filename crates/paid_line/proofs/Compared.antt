@@ -4,10 +4,8 @@ use mathlib.Core.Bool.{Bool, true≢false}
 use mathlib.Core.Logic.{◌↔◌}
 use mathlib.Core.List.{List}
 use Prim.Native.Nat.{ℕ}
-use Rattle.plan.specs.Walked
 use Rattle.plan.specs.Walked.{solved, stopped, goal_missed, rule_missed, Walked, given, walked}
 use Rattle.plan.specs.ThenSettled.{priced, then_settle}
-use Rattle.settling.specs.Settled
 use Rattle.settling.specs.Settled.{Settled, worth, settled}
 use Rattle.paid.specs.CostIsMetric.{SettledAt}
 use Rattle.paid_line.specs.Paid.{Metric, metric, metric_in, metric_of, paid_line, held_to, line_on}

@@ -1,8 +1,7 @@
 -- What the code's metric stands for.
+use Rattle.std.specs.Prelude.{ℕ, Option, Some, None}
 use Rattle.paid_line.specs.Paid
-use Rattle.paid_line.specs.declared.Metric.{Metric}
-use Rattle.paid_line.specs.declared.Metric.TheVariants.{Of, Unsolved}
 
-abbrev pub metric_as : Metric → Paid.Metric
-metric_as (Of m) = Paid.metric m
-metric_as Unsolved = Paid.unsolved
+abbrev pub metric_as : Option ℕ → Paid.Metric
+metric_as (Some m) = Paid.metric m
+metric_as None = Paid.unsolved

@@ -8,45 +8,31 @@ ghost use Rattle.text.specs.Area.{Wrote};
 ghost use Rattle.paid_line.specs.Paid.{LONGEST, metric, metric_in, metric_of, held_to, line_on};
 ghost use Rattle.paid_line.specs.Answers.{metric_as};
 
-use plan::{Verdict, Walked};
-use settling::Settled;
+use plan::Verdict;
 
 // An area of this length holds every such line.
 pub const MAX_LINE: usize = 64;
 
-// The metric of a plan, where it solves.
-#[derive(Clone, Copy)]
-enum Metric {
-    Of(u64),
-    Unsolved,
-}
-
-// The metric of a plan with this verdict on the task in a file.
-fn metric_in(file: &[u8], v: Verdict) -> Metric
+// The metric of a plan with this verdict on the task in a file, where it solves.
+fn metric_in(file: &[u8], v: Verdict) -> Option<u64>
     ensures { metric_as result ≡ metric_in (with_amounts file.now (as_verdict v)) }
 {
     match v {
-        Verdict::Solved(s) => {
-            let settled = settling::settle(file, s.cost, s.met);
-            match settled {
-                Settled::Given(w) => Metric::Of(w.metric),
-                Settled::Refused(_) => Metric::Unsolved,
-            }
-        }
-        Verdict::Stopped(_) => Metric::Unsolved,
-        Verdict::GoalMissed => Metric::Unsolved,
-        Verdict::RuleMissed(_) => Metric::Unsolved,
+        Verdict::Solved(s) => match settling::settle(file, s.cost, s.met) {
+            Ok(w) => Some(w.metric),
+            Err(_) => None,
+        },
+        Verdict::Stopped(_) | Verdict::GoalMissed | Verdict::RuleMissed(_) => None,
     }
 }
 
-// The metric of a plan on the task in a file.
-fn metric_of(file: &[u8], plan: &[u8]) -> Metric
+// The metric of a plan on the task in a file, where it solves.
+fn metric_of(file: &[u8], plan: &[u8]) -> Option<u64>
     ensures { metric_as result ≡ metric_of file.now plan.now }
 {
-    let w = plan::walk(file, plan);
-    match w {
-        Walked::Given(v, _) => metric_in(file, v),
-        Walked::Refused(_) => Metric::Unsolved,
+    match plan::walk(file, plan) {
+        Ok(w) => metric_in(file, w.verdict),
+        Err(_) => None,
     }
 }
 
@@ -64,13 +50,13 @@ fn put_solved(out: &mut [u8], worth: u64, cost: u64) -> usize
 }
 
 // Writes the line of a plan of this metric.
-fn put_held(out: &mut [u8], m: Metric, cost: u64) -> usize
+fn put_held(out: &mut [u8], m: Option<u64>, cost: u64) -> usize
     ensures wrote { Wrote out.old 0 (held_to (metric_as m) cost) result out.new }
     ensures upper_bound { result ≤ LONGEST }
 {
     match m {
-        Metric::Of(worth) => put_solved(out, worth, cost),
-        Metric::Unsolved => text::put_number(out, 0, b"paid ", cost, b" but not solved\n"),
+        Some(worth) => put_solved(out, worth, cost),
+        None => text::put_number(out, 0, b"paid ", cost, b" but not solved\n"),
     }
 }
 

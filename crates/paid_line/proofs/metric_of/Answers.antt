@@ -2,11 +2,10 @@
 use Rattle.paid_line.specs.Paid.{metric_of}
 use Rattle.paid_line.proofs.metric_of.Goals as goal
 
-pub returns-in-Given : goal.returns-in-Given
+pub returns-in-Ok : goal.returns-in-Ok
 unfolding metric_of
-returns-in-Given c =
-    rw (← c.walk-w.ensures, c.in-Given.is) c.metric_in.ensures
+returns-in-Ok c = rw (← c.walk.ensures, c.in-Ok.is) c.metric_in.ensures
 
-pub returns-in-Refused : goal.returns-in-Refused
+pub returns-in-Err : goal.returns-in-Err
 unfolding metric_of
-returns-in-Refused c = rw (← c.walk-w.ensures, c.in-Refused.is)
+returns-in-Err c = rw (← c.walk.ensures, c.in-Err.is)

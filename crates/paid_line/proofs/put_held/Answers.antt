@@ -3,13 +3,13 @@ use borrow.Author.Rules.{rules}
 use Rattle.paid_line.specs.Paid.{unsolved_line}
 use Rattle.paid_line.proofs.put_held.Goals as goal
 
-pub returns-in-Of : goal.returns-in-Of
-returns-in-Of c =
-    record { wrote = rw c.in-Of.is c.put_solved.ensures.wrote; upper_bound = c.put_solved.ensures.upper_bound }
+pub returns-in-Some : goal.returns-in-Some
+returns-in-Some c =
+    record { wrote = rw c.in-Some.is c.put_solved.ensures.wrote; upper_bound = c.put_solved.ensures.upper_bound }
 
-pub returns-in-Unsolved : goal.returns-in-Unsolved
+pub returns-in-None : goal.returns-in-None
 unfolding unsolved_line
-returns-in-Unsolved c = record {
-  wrote = rw c.in-Unsolved.is c.put_number.ensures.wrote;
+returns-in-None c = record {
+  wrote = rw c.in-None.is c.put_number.ensures.wrote;
   upper_bound = search rules;
 }
