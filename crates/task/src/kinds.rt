@@ -2,11 +2,12 @@
 ghost use Rattle.std.specs.Prelude.{◌≡◌, ◌<◌, ◌≤◌, T, length, get_or};
 ghost use Rattle.task.specs.File.{soft_mark, kind_of};
 ghost use Rattle.task.specs.Spelling.{kind_spellable};
-ghost use Rattle.task.specs.Rows.{Rows, steps_at};
+ghost use Rattle.task.specs.Rows.{steps_at};
 ghost use Rattle.task.specs.Answers.{as_kind};
 ghost use Rattle.task.specs.Limits.{MAX_DEADLINE};
 
-use super::{marks, rows};
+use super::marks;
+use super::rows::Rows;
 
 // The last two have so many steps' time; no other kind has steps to read.
 #[derive(Clone, Copy)]
@@ -40,11 +41,11 @@ pub fn kind_of(mark: u8, steps: u8) -> Kind
 }
 
 // The kind of the preference that row i opens, hard or soft.
-pub fn kind_at(marks: &[u8], values: &[u8], i: usize) -> Kind
-    requires { Rows marks.now values.now × (i < length marks.now) }
-    ensures result_value { as_kind result ≡ kind_of (soft_mark (get_or marks.now i 0)) (steps_at marks.now values.now i) }
+pub fn kind_at(rows: &Rows, i: usize) -> Kind
+    requires { i < length rows.now.marks.now }
+    ensures result_value { as_kind result ≡ kind_of (soft_mark (get_or rows.now.marks.now i 0)) (steps_at rows.now.marks.now rows.now.values.now i) }
     ensures t { T (kind_spellable (as_kind result)) }
 {
-    let mark = super::soft_mark(marks[i]);
-    kind_of(mark, rows::steps_at(marks, values, i))
+    let mark = super::soft_mark(rows.marks[i]);
+    kind_of(mark, rows.steps(i))
 }

@@ -19,10 +19,10 @@ pub loop-i-init : goal.loop-i-init
 loop-i-init c = record { rows_left = search rules; begun = search rules; numbered_below = search rules; same = refl }
 
 pub is_plain-requires : goal.is_plain-requires
-is_plain-requires c = (c.requires.1, search rules, search rules)
+is_plain-requires c = (c.requires.0, search rules, search rules)
 
 pub next-context-requires : goal.next-context-requires
-next-context-requires c = (c.requires.1, search rules)
+next-context-requires c = (c.requires.0, search rules)
 
 pub returns-then-not-is_plain : goal.returns-then-not-is_plain
 returns-then-not-is_plain c =
@@ -35,10 +35,10 @@ returns-then-not-is_plain c =
 -- what is_plain answered of the row read
 plain : (c : Else-not-is_plain)
     → let a = c.args in
-    let m = get_or a.marks.now c.loop-i.i 0 in
+    let m = get_or a.rows.now.marks.now c.loop-i.i 0 in
     T (between EFFECT DELETE m && leads_alike c.widest_from-widest.result c.loop-i.context m
-    && value_allowed a.z.facts a.w.floor (row m (value_at a.values.now c.loop-i.i)))
-plain c = as_t (sym (rw c.value_at-value.ensures at c.is_plain.ensures) ∙ not-false _ c.if-not-is_plain.false-raw)
+    && value_allowed a.z.facts a.w.floor (row m (value_at a.rows.now.values.now c.loop-i.i)))
+plain c = as_t (sym (rw c.value-value.ensures at c.is_plain.ensures) ∙ not-false _ c.if-not-is_plain.false-raw)
 
 pub loop-i-preserved : goal.loop-i-preserved
 loop-i-preserved c =
@@ -49,10 +49,10 @@ loop-i-preserved c =
       rows_left = search rules;
       begun = search rules;
       numbered_below =
-          part_below a.z a.marks.now a.values.now a.w i n c.widest_from-widest.result c.next-context.result (search rules)
+          part_below a.z a.rows.now.marks.now a.rows.now.values.now a.w i n c.widest_from-widest.result c.next-context.result (search rules)
           c.next-context.ensures (plain (goal.at.loop-i-preserved c).Else-not-is_plain);
       same =
-          sym (one_part a.z a.marks.now a.values.now a.w i n c.widest_from-widest.result c.next-context.result (search rules)
+          sym (one_part a.z a.rows.now.marks.now a.rows.now.values.now a.w i n c.widest_from-widest.result c.next-context.result (search rules)
           c.next-context.ensures (plain (goal.at.loop-i-preserved c).Else-not-is_plain))
           ∙ c.loop-i.invariant.same;
     }
@@ -60,7 +60,7 @@ loop-i-preserved c =
 pub returns : goal.returns
 returns c =
     let k = c.loop-i.invariant in
-    let e : c.loop-i.i ≡ length c.args.marks.now = omega arith in
+    let e : c.loop-i.i ≡ length c.args.rows.now.marks.now = omega arith in
     record {
       w_value = rw (← e) k.same;
       context_bound = (k.numbered_below, search rules, omega arith);

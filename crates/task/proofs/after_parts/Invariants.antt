@@ -3,4 +3,4 @@ use Rattle.task.proofs.CheckSteps.{Kept}
 use Rattle.task.proofs.after_parts.Given as goal
 
 abbrev pub invariant-loop-i : goal.invariant-loop-i
-invariant-loop-i l = Kept l.z l.marks l.values l.w l.from l.i l.context
+invariant-loop-i l = Kept l.z l.rows.marks.now l.rows.values.now l.w l.from l.i l.context

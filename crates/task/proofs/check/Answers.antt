@@ -27,28 +27,17 @@ returns-then-not-sizes_allowed c = rw c.at-then-not-sizes_allowed.ensures
     (sym (wrong_sizes c.args.file.now (as_sizes c.sizes_of-z.result) c.sizes_of-z.ensures (search rules)
     (sym c.sizes_allowed.ensures ∙ not-true _ c.if-not-sizes_allowed.true-raw)))
 
-pub overflow_add-middle : goal.overflow_add-middle
-overflow_add-middle c = omega (arith, few c)
+pub overflow_mul-z : goal.overflow_mul-z
+overflow_mul-z c = omega (arith, few (goal.at.overflow_mul-z c).Else-not-sizes_allowed)
 
-pub overflow_mul-n : goal.overflow_mul-n
-overflow_mul-n c = omega (arith, few c)
-
-pub overflow_add-middle-2 : goal.overflow_add-middle-2
-overflow_add-middle-2 c = omega (arith, few c)
-
-pub returns-then-file-middle : goal.returns-then-file-middle
-returns-then-file-middle c =
-    rw c.at-then-file-middle.ensures
+pub returns-then-file-z : goal.returns-then-file-z
+returns-then-file-z c =
+    rw c.at-then-file-z.ensures
     (sym (wrong_length c.args.file.now (as_sizes c.sizes_of-z.result) c.sizes_of-z.ensures (search rules)
-    (allowed (goal.at.returns-then-file-middle c).Else-not-sizes_allowed) c.if-file-middle.true))
-
-pub walk_rows-requires : goal.walk_rows-requires
-walk_rows-requires c =
-    let f = few (goal.at.walk_rows-requires c).Else-not-sizes_allowed in
-    record { few = simp (length-take, length-drop) (omega arith); values = simp (length-take, length-drop) (omega arith) }
+    (allowed (goal.at.returns-then-file-z c).Else-not-sizes_allowed) c.if-file-z.true))
 
 pub returns : goal.returns
 returns c =
-    c.walk_rows.ensures
+    rw (c.rows_of.ensures.marks, c.rows_of.ensures.values) at c.walk_rows.ensures
     ∙ sym (walked c.args.file.now (as_sizes c.sizes_of-z.result) c.sizes_of-z.ensures (search rules)
-    (allowed (goal.at.returns c).Else-not-sizes_allowed) c.if-file-middle.false)
+    (allowed (goal.at.returns c).Else-not-sizes_allowed) c.if-file-z.false)

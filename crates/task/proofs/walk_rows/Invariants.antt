@@ -6,7 +6,7 @@ use Rattle.task.proofs.CheckSteps.{Reached}
 use Rattle.task.proofs.walk_rows.Given as goal
 
 abbrev pub invariant-loop-i : goal.invariant-loop-i
-invariant-loop-i l = Reached l.z l.marks l.values l.w l.i
+invariant-loop-i l = Reached l.z l.rows.marks.now l.rows.values.now l.w l.i
 
 abbrev pub decreases-loop-i : goal.decreases-loop-i
-decreases-loop-i l = length l.marks - l.i
+decreases-loop-i l = length l.rows.marks.now - l.i

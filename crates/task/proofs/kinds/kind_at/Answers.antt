@@ -5,6 +5,6 @@ use Rattle.task.proofs.kinds.kind_at.Goals as goal
 
 pub returns : goal.returns
 returns c = record {
-  result_value = c.kind_of.ensures.result_value ∙ (λ i. kind_of (c.soft_mark-mark.ensures i) (c.steps_at.ensures.0 i));
+  result_value = c.kind_of.ensures.result_value ∙ (λ i. kind_of (c.soft_mark-mark.ensures i) (c.steps.ensures.0 i));
   t = c.kind_of.ensures.t;
 }

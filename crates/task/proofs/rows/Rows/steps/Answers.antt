@@ -3,16 +3,16 @@ use borrow.Author.Tests.{le-leb, lt-leb}
 use Prim.Native.Nat.{◌+◌}
 use lib.ListN.{length}
 use borrow.Author.Rules.{rules}
-use Rattle.task.proofs.rows.steps_at.Goals as goal
+use Rattle.task.proofs.rows.Rows.steps.Goals as goal
 
-pub returns-then-marks-i : goal.returns-then-marks-i
-returns-then-marks-i c =
+pub returns-then-self-i : goal.returns-then-self-i
+returns-then-self-i c =
     let a = c.args in
-    (rw (le-leb (length a.marks.now) (a.i + 1) (search rules)), search rules)
+    (rw (le-leb (length a.self.now.marks.now) (a.i + 1) (search rules)), search rules)
 
 pub returns : goal.returns
 returns c =
     let a = c.args in (
-      rw (lt-leb (length a.marks.now) (a.i + 1) (search rules), ← c.value_at.ensures),
+      rw (lt-leb (length a.self.now.marks.now) (a.i + 1) (search rules), ← c.value.ensures),
       search rules,
     )
