@@ -1,6 +1,5 @@
 // Conditions, read from their rows.
 ghost use Rattle.std.specs.Prelude.{◌≡◌, ◌+◌, ◌≤◌, length};
-ghost use Rattle.task.specs.Rows.{Rows};
 ghost use Rattle.state.specs.Member.{member};
 ghost use Rattle.task.specs.Marks.{HOLDS, LACKS};
 ghost use Rattle.task.specs.Rows.{between};
@@ -8,7 +7,8 @@ ghost use Rattle.reading.specs.Conditions.{false_mark, PastFalse, begin, evaluat
 
 use layout::sides;
 use state::State;
-use task::{marks, rows};
+use task::marks;
+use task::rows::Rows;
 
 // A condition's value, how many literals were looked at, and the row after it.
 #[derive(Clone, Copy)]
@@ -30,17 +30,17 @@ fn false_mark(low: u64, high: u64, fact: u32) -> u8
 }
 
 // The first row from `at` on that is no false literal.
-fn past_false(marks: &[u8], values: &[u8], at: usize, low: u64, high: u64) -> usize
-    requires { Rows marks.now values.now × (at ≤ length marks.now) }
-    ensures lower_bound { (at ≤ result) × (result ≤ length marks.now) }
-    ensures past_false { PastFalse (member (record { low = low; high = high })) marks.now values.now at result }
+fn past_false(rows: &Rows, at: usize, low: u64, high: u64) -> usize
+    requires { at ≤ length rows.now.marks.now }
+    ensures lower_bound { (at ≤ result) × (result ≤ length rows.now.marks.now) }
+    ensures past_false { PastFalse (member (record { low = low; high = high })) rows.now.marks.now rows.now.values.now at result }
 {
-    for i in at..marks.len() {
-        if marks[i] != false_mark(low, high, rows::value_at(values, i)) {
+    for i in at..rows.marks.len() {
+        if rows.marks[i] != false_mark(low, high, rows.value(i)) {
             return i;
         }
     }
-    marks.len()
+    rows.marks.len()
 }
 
 fn is_literal(mark: u8) -> bool
@@ -61,28 +61,27 @@ fn outcome(holds: bool, looked: usize, next: usize) -> Evaluated
 
 // The condition that stands from row `at` on, read in s: a clause up to its first true literal, and nothing after the first
 // false clause.
-pub fn condition(marks: &[u8], values: &[u8], at: usize, s: State) -> Evaluated
-    requires { Rows marks.now values.now }
-    ensures value { result ≡ evaluate_at (member s) begin marks.now values.now at }
-    ensures looked_bound { (at + result.looked ≤ result.next) × (result.looked ≤ length marks.now) }
+pub fn condition(rows: &Rows, at: usize, s: State) -> Evaluated
+    ensures value { result ≡ evaluate_at (member s) begin rows.now.marks.now rows.now.values.now at }
+    ensures looked_bound { (at + result.looked ≤ result.next) × (result.looked ≤ length rows.now.marks.now) }
 {
     let low = s.low;
     let high = s.high;
     let mut looked = 0;
     let mut i = at;
-    while i < marks.len() {
-        let mark = marks[i];
+    while i < rows.marks.len() {
+        let mark = rows.marks[i];
         if mark == marks::CLAUSE {
-            let k = past_false(marks, values, i + 1, low, high);
+            let k = past_false(rows, i + 1, low, high);
             let n = looked + (k - (i + 1));
-            if marks.len() <= k {
+            if rows.marks.len() <= k {
                 return outcome(false, n, k);
             }
-            if !is_literal(marks[k]) {
+            if !is_literal(rows.marks[k]) {
                 return outcome(
                     false,
                     n,
-                    sides::skip_marks(marks, k, marks::CLAUSE, marks::LACKS),
+                    sides::skip_marks(rows.marks, k, marks::CLAUSE, marks::LACKS),
                 );
             }
             looked = n + 1;

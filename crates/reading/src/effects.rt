@@ -1,12 +1,12 @@
 // An action's effects, read one after the other, and applied.
 ghost use Rattle.std.specs.Prelude.{◌≡◌, ◌≤◌, ◌<◌, length};
-ghost use Rattle.task.specs.Rows.{Rows};
 ghost use Rattle.state.specs.Member.{member, union, difference};
 ghost use Rattle.reading.specs.Effects.{marked, mark_at, result_of, SomeEffect, Gathers, SomeEffects, state_of, Changes};
 
 use super::conditions;
 use state::State;
-use task::{marks, rows};
+use task::marks;
+use task::rows::Rows;
 
 // The facts that some rows make, and the row after them.
 #[derive(Clone, Copy)]
@@ -41,36 +41,36 @@ fn with_if(fires: bool, t: State, n: u32) -> State
 }
 
 // The facts t, and where the effect fires those of the rows of one mark from `at` on.
-fn mark_all(marks: &[u8], values: &[u8], at: usize, mark: u8, fires: bool, t: State) -> Applied
-    requires { Rows marks.now values.now × (at ≤ length marks.now) }
-    ensures result_value { result_of result ≡ mark_at mark fires (member t) marks.now values.now at }
-    ensures at_le_next { (at ≤ result.next) × (result.next ≤ length marks.now) }
+fn mark_all(rows: &Rows, at: usize, mark: u8, fires: bool, t: State) -> Applied
+    requires { at ≤ length rows.now.marks.now }
+    ensures result_value { result_of result ≡ mark_at mark fires (member t) rows.now.marks.now rows.now.values.now at }
+    ensures at_le_next { (at ≤ result.next) × (result.next ≤ length rows.now.marks.now) }
 {
     let mut f = t;
-    for i in at..marks.len() {
-        if marks[i] != mark {
+    for i in at..rows.marks.len() {
+        if rows.marks[i] != mark {
             return Applied { state: f, next: i };
         }
-        f = with_if(fires, f, rows::value_at(values, i));
+        f = with_if(fires, f, rows.value(i));
     }
     Applied {
         state: f,
-        next: marks.len(),
+        next: rows.marks.len(),
     }
 }
 
 // One effect more: the one that row i opens.
-fn one_effect(marks: &[u8], values: &[u8], i: usize, s: State, g: Gathered) -> Gathered
-    requires rows { Rows marks.now values.now × (i < length marks.now) × (g.looked ≤ i) }
-    requires some_effect { SomeEffect marks.now values.now i }
-    ensures i_lt_next { (i < result.next) × (result.looked ≤ result.next) × (result.next ≤ length marks.now) }
-    ensures gathers { Gathers (member s) marks.now values.now i g result }
+fn one_effect(rows: &Rows, i: usize, s: State, g: Gathered) -> Gathered
+    requires rows { (i < length rows.now.marks.now) × (g.looked ≤ i) }
+    requires some_effect { SomeEffect rows.now.marks.now rows.now.values.now i }
+    ensures i_lt_next { (i < result.next) × (result.looked ≤ result.next) × (result.next ≤ length rows.now.marks.now) }
+    ensures gathers { Gathers (member s) rows.now.marks.now rows.now.values.now i g result }
 {
     let adds = g.adds;
     let deletes = g.deletes;
-    let c = conditions::condition(marks, values, i + 1, s);
-    let a = mark_all(marks, values, c.next, marks::ADD, c.holds, adds);
-    let d = mark_all(marks, values, a.next, marks::DELETE, c.holds, deletes);
+    let c = conditions::condition(rows, i + 1, s);
+    let a = mark_all(rows, c.next, marks::ADD, c.holds, adds);
+    let d = mark_all(rows, a.next, marks::DELETE, c.holds, deletes);
     let more = a.state;
     let less = d.state;
     let looked = g.looked + c.looked;
@@ -96,9 +96,9 @@ fn finished(g: Gathered, s: State) -> Changed
 }
 
 // The effects that stand from row `at` on, all read in s, and applied to it.
-pub fn after(marks: &[u8], values: &[u8], at: usize, s: State) -> Changed
-    requires { Rows marks.now values.now × SomeEffects marks.now values.now at }
-    ensures { Changes (member s) marks.now values.now at result × (result.looked ≤ length marks.now) }
+pub fn after(rows: &Rows, at: usize, s: State) -> Changed
+    requires { SomeEffects rows.now.marks.now rows.now.values.now at }
+    ensures { Changes (member s) rows.now.marks.now rows.now.values.now at result × (result.looked ≤ length rows.now.marks.now) }
 {
     let mut g = Gathered {
         adds: state::none(),
@@ -107,11 +107,11 @@ pub fn after(marks: &[u8], values: &[u8], at: usize, s: State) -> Changed
         next: at,
     };
     let mut i = at;
-    while i < marks.len() {
-        if marks[i] != marks::EFFECT {
+    while i < rows.marks.len() {
+        if rows.marks[i] != marks::EFFECT {
             return finished(g, s);
         }
-        let h = one_effect(marks, values, i, s, g);
+        let h = one_effect(rows, i, s, g);
         g = h;
         i = h.next;
     }

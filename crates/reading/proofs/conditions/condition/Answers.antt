@@ -16,19 +16,19 @@ loop-i-init c = (search rules, search rules, refl)
 -- the clause that row i opens, read up to its first row that is no false literal
 opened : (c : After-past_false-k)
     → let a = c.args in
-    evaluate_at (member a.s) (reading true false (c.loop-i.looked + (c.past_false-k.result - (c.loop-i.i + 1)))) a.marks.now a.values.now c.past_false-k.result
-    ≡ evaluate_at (member a.s) begin a.marks.now a.values.now a.at
+    evaluate_at (member a.s) (reading true false (c.loop-i.looked + (c.past_false-k.result - (c.loop-i.i + 1)))) a.rows.now.marks.now a.rows.now.values.now c.past_false-k.result
+    ≡ evaluate_at (member a.s) begin a.rows.now.marks.now a.rows.now.values.now a.at
 opened c =
     let a = c.args in
     sym (c.past_false-k.ensures.past_false.looks c.loop-i.looked)
-    ∙ sym (opens (member a.s) a.marks.now a.values.now c.loop-i.i c.loop-i.looked (search rules) c.if-mark-eq-CLAUSE.true)
+    ∙ sym (opens (member a.s) a.rows.now.marks.now a.rows.now.values.now c.loop-i.i c.loop-i.looked (search rules) c.if-mark-eq-CLAUSE.true)
     ∙ c.loop-i.invariant.2
 
-pub returns-then-marks-k : goal.returns-then-marks-k
-returns-then-marks-k c =
+pub returns-then-rows-k : goal.returns-then-rows-k
+returns-then-rows-k c =
     let a = c.args in record {
       value = c.outcome.ensures.0
-          ∙ sym (gives_up_last (member a.s) a.marks.now a.values.now c.past_false-k.result _ (search rules)) ∙ opened (goal.at.returns-then-marks-k c).After-past_false-k;
+          ∙ sym (gives_up_last (member a.s) a.rows.now.marks.now a.rows.now.values.now c.past_false-k.result _ (search rules)) ∙ opened (goal.at.returns-then-rows-k c).After-past_false-k;
       looked_bound = search rules;
     }
 
@@ -37,8 +37,8 @@ returns-then-not-is_literal c =
     let a = c.args in
     let n : ℕ = c.loop-i.looked + (c.past_false-k.result - (c.loop-i.i + 1)) in record {
       value = c.outcome-then-not-is_literal.ensures.0
-          ∙ ap (λ (j : ℕ). record { holds = false; looked = n; next = j }) (c.skip_marks.ensures.value ∙ ended a.marks.now a.values.now c.past_false-k.result)
-          ∙ sym (gives_up (member a.s) a.marks.now a.values.now c.past_false-k.result n (search rules)
+          ∙ ap (λ (j : ℕ). record { holds = false; looked = n; next = j }) (c.skip_marks.ensures.value ∙ ended a.rows.now.marks.now a.rows.now.values.now c.past_false-k.result)
+          ∙ sym (gives_up (member a.s) a.rows.now.marks.now a.rows.now.values.now c.past_false-k.result n (search rules)
           (sym c.is_literal.ensures ∙ not-true _ c.if-not-is_literal.true-raw))
           ∙ opened (goal.at.returns-then-not-is_literal c).After-past_false-k;
       looked_bound = search rules;
@@ -51,8 +51,8 @@ loop-i-preserved-then-mark-eq-CLAUSE c =
     let e : n + 1 ≡ suc n = omega arith in (
       search rules,
       search rules,
-      ap (λ (j : ℕ). evaluate_at (member a.s) (reading true true j) a.marks.now a.values.now (c.past_false-k.result + 1)) e
-          ∙ sym (finds (member a.s) a.marks.now a.values.now c.past_false-k.result n (search rules)
+      ap (λ (j : ℕ). evaluate_at (member a.s) (reading true true j) a.rows.now.marks.now a.rows.now.values.now (c.past_false-k.result + 1)) e
+          ∙ sym (finds (member a.s) a.rows.now.marks.now a.rows.now.values.now c.past_false-k.result n (search rules)
           (sym c.is_literal.ensures ∙ not-false _ c.if-not-is_literal.false-raw) (c.past_false-k.ensures.past_false.stops (search rules)))
           ∙ opened (goal.at.loop-i-preserved-then-mark-eq-CLAUSE c).After-past_false-k,
     )
@@ -61,7 +61,7 @@ pub returns-then-not-is_literal-2 : goal.returns-then-not-is_literal-2
 returns-then-not-is_literal-2 c =
     let a = c.args in record {
       value = c.outcome-then-not-is_literal-2.ensures.0
-          ∙ sym (is_read (member a.s) a.marks.now a.values.now c.loop-i.i c.loop-i.looked (search rules) c.if-mark-eq-CLAUSE.false
+          ∙ sym (is_read (member a.s) a.rows.now.marks.now a.rows.now.values.now c.loop-i.i c.loop-i.looked (search rules) c.if-mark-eq-CLAUSE.false
           (sym c.is_literal-else-mark-eq-CLAUSE.ensures ∙ not-true _ c.if-not-is_literal-2.true-raw))
           ∙ c.loop-i.invariant.2;
       looked_bound = search rules;
@@ -72,7 +72,7 @@ loop-i-preserved c =
     let a = c.args in (
       search rules,
       search rules,
-      sym (passes_by (member a.s) a.marks.now a.values.now c.loop-i.i c.loop-i.looked (search rules)
+      sym (passes_by (member a.s) a.rows.now.marks.now a.rows.now.values.now c.loop-i.i c.loop-i.looked (search rules)
           (sym c.is_literal-else-mark-eq-CLAUSE.ensures ∙ not-false _ c.if-not-is_literal-2.false-raw))
           ∙ c.loop-i.invariant.2,
     )
@@ -81,6 +81,6 @@ pub returns : goal.returns
 returns c =
     let a = c.args in record {
       value = c.outcome-2.ensures.0
-          ∙ sym (is_read_last (member a.s) a.marks.now a.values.now c.loop-i.i c.loop-i.looked (search rules)) ∙ c.loop-i.invariant.2;
+          ∙ sym (is_read_last (member a.s) a.rows.now.marks.now a.rows.now.values.now c.loop-i.i c.loop-i.looked (search rules)) ∙ c.loop-i.invariant.2;
       looked_bound = search rules;
     }

@@ -9,9 +9,9 @@ use Rattle.reading.proofs.conditions.condition.Given as goal
 
 abbrev pub invariant-loop-i : goal.invariant-loop-i
 invariant-loop-i l =
-    (l.at + l.looked ≤ l.i) × (l.looked ≤ length l.marks)
-    × (evaluate_at (member (record { low = l.low; high = l.high })) (reading true true l.looked) l.marks l.values l.i
-    ≡ evaluate_at (member (record { low = l.low; high = l.high })) begin l.marks l.values l.at)
+    (l.at + l.looked ≤ l.i) × (l.looked ≤ length l.rows.marks.now)
+    × (evaluate_at (member (record { low = l.low; high = l.high })) (reading true true l.looked) l.rows.marks.now l.rows.values.now l.i
+    ≡ evaluate_at (member (record { low = l.low; high = l.high })) begin l.rows.marks.now l.rows.values.now l.at)
 
 abbrev pub decreases-loop-i : goal.decreases-loop-i
-decreases-loop-i l = length l.marks - l.i
+decreases-loop-i l = length l.rows.marks.now - l.i

@@ -9,14 +9,14 @@ use Rattle.reading.proofs.conditions.past_false.Goals as goal
 pub loop-i-init : goal.loop-i-init
 loop-i-init c =
     let a = c.args in
-    (search rules, search rules, λ n. none_past (member (record { low = a.low; high = a.high })) a.marks.now a.values.now a.at n)
+    (search rules, search rules, λ n. none_past (member (record { low = a.low; high = a.high })) a.rows.now.marks.now a.rows.now.values.now a.at n)
 
-pub returns-then-marks-i : goal.returns-then-marks-i
-returns-then-marks-i c = record {
+pub returns-then-rows-i : goal.returns-then-rows-i
+returns-then-rows-i c = record {
   lower_bound = (search rules, search rules);
   past_false = record {
     looks = c.loop-i.invariant.2;
-    stops = λ h e. c.if-marks-i.true (e ∙ sym (c.false_mark.ensures ∙ rw c.value_at.ensures));
+    stops = λ h e. c.if-rows-i.true (e ∙ sym (c.false_mark.ensures ∙ rw c.value.ensures));
   };
 }
 
@@ -25,13 +25,13 @@ loop-i-preserved c =
     let a = c.args in (
       search rules,
       search rules,
-      λ n. one_past (member (record { low = a.low; high = a.high })) a.marks.now a.values.now a.at c.loop-i.i n (search rules)
-          (c.loop-i.invariant.2 n) (search rules) (c.if-marks-i.false ∙ c.false_mark.ensures ∙ rw c.value_at.ensures),
+      λ n. one_past (member (record { low = a.low; high = a.high })) a.rows.now.marks.now a.rows.now.values.now a.at c.loop-i.i n (search rules)
+          (c.loop-i.invariant.2 n) (search rules) (c.if-rows-i.false ∙ c.false_mark.ensures ∙ rw c.value.ensures),
     )
 
 pub returns : goal.returns
 returns c =
-    let at_end : length c.args.marks.now ≡ c.loop-i.i = omega arith in record {
+    let at_end : length c.args.rows.now.marks.now ≡ c.loop-i.i = omega arith in record {
       lower_bound = (search rules, search rules);
       past_false = record { looks = rw at_end c.loop-i.invariant.2; stops = λ h e. absurd (omega (arith, h)) };
     }

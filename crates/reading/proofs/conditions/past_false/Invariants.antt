@@ -9,7 +9,7 @@ use Rattle.reading.proofs.conditions.past_false.Given as goal
 
 abbrev pub invariant-loop-i : goal.invariant-loop-i
 invariant-loop-i l =
-    (l.at ≤ l.i) × (l.i ≤ length l.marks)
+    (l.at ≤ l.i) × (l.i ≤ length l.rows.marks.now)
     × ((n : ℕ)
-    → evaluate_at (member (record { low = l.low; high = l.high })) (reading true false n) l.marks l.values l.at
-    ≡ evaluate_at (member (record { low = l.low; high = l.high })) (reading true false (n + (l.i - l.at))) l.marks l.values l.i)
+    → evaluate_at (member (record { low = l.low; high = l.high })) (reading true false n) l.rows.marks.now l.rows.values.now l.at
+    ≡ evaluate_at (member (record { low = l.low; high = l.high })) (reading true false (n + (l.i - l.at))) l.rows.marks.now l.rows.values.now l.i)

@@ -6,7 +6,7 @@ use Rattle.reading.proofs.EffectRows.{Gathering}
 use Rattle.reading.proofs.effects.after.Given as goal
 
 abbrev pub invariant-loop-i : goal.invariant-loop-i
-invariant-loop-i l = Gathering (member l.s) l.marks l.values l.at l.g l.i
+invariant-loop-i l = Gathering (member l.s) l.rows.marks.now l.rows.values.now l.at l.g l.i
 
 abbrev pub decreases-loop-i : goal.decreases-loop-i
-decreases-loop-i l = length l.marks - l.i
+decreases-loop-i l = length l.rows.marks.now - l.i

@@ -8,4 +8,4 @@ use Rattle.reading.proofs.effects.mark_all.Given as goal
 
 abbrev pub invariant-loop-i : goal.invariant-loop-i
 invariant-loop-i l =
-    (l.at ≤ l.i) × (l.i ≤ length l.marks) × (mark_at l.mark l.fires (member l.f) l.marks l.values l.i ≡ mark_at l.mark l.fires (member l.initial.f) l.marks l.values l.at)
+    (l.at ≤ l.i) × (l.i ≤ length l.rows.marks.now) × (mark_at l.mark l.fires (member l.f) l.rows.marks.now l.rows.values.now l.i ≡ mark_at l.mark l.fires (member l.initial.f) l.rows.marks.now l.rows.values.now l.at)

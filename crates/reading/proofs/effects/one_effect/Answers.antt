@@ -13,9 +13,9 @@ use Rattle.reading.proofs.effects.one_effect.Goals as goal
 use Rattle.reading.proofs.effects.one_effect.Goals.{After-condition-c, After-mark_all-d}
 
 -- the condition ends within the rows
-ends : (c : After-condition-c) → c.condition-c.result.next ≤ length c.args.marks.now
+ends : (c : After-condition-c) → c.condition-c.result.next ≤ length c.args.rows.now.marks.now
 ends c =
-    condition_within (member c.args.s) c.args.marks.now c.args.values.now (c.args.i + 1) (search rules)
+    condition_within (member c.args.s) c.args.rows.now.marks.now c.args.rows.now.values.now (c.args.i + 1) (search rules)
     c.condition-c.result c.condition-c.ensures.value
 
 pub mark_all-a-requires : goal.mark_all-a-requires
@@ -26,7 +26,7 @@ few : (c : After-mark_all-d) → c.args.g.looked + c.condition-c.result.looked �
 few c =
     omega (
       arith,
-      c.requires.rows.2,
+      c.requires.rows.1,
       c.condition-c.ensures.looked_bound,
       c.mark_all-a.ensures.at_le_next,
       c.mark_all-d.ensures.at_le_next,
@@ -40,7 +40,7 @@ gathered : (c : After-mark_all-d)
     → let b = c.args in
     (r : Gathered) → r.adds ≡ c.mark_all-a.result.state → r.deletes ≡ c.mark_all-d.result.state
     → r.looked ≡ b.g.looked + c.condition-c.result.looked → r.next ≡ c.mark_all-d.result.next
-    → ((b.i < r.next) × (r.looked ≤ r.next) × (r.next ≤ length b.marks.now)) × Gathers (member b.s) b.marks.now b.values.now b.i b.g r
+    → ((b.i < r.next) × (r.looked ≤ r.next) × (r.next ≤ length b.rows.now.marks.now)) × Gathers (member b.s) b.rows.now.marks.now b.rows.now.values.now b.i b.g r
 gathered c r added deleted looks next =
     let b = c.args in (
       (
@@ -48,7 +48,7 @@ gathered c r added deleted looks next =
         omega (arith, looks, next, few c),
         omega (arith, next, c.mark_all-d.ensures.at_le_next),
       ),
-      λ e E. gathered_with (member b.s) b.marks.now b.values.now b.i b.g c.condition-c.result c.condition-c.ensures.value
+      λ e E. gathered_with (member b.s) b.rows.now.marks.now b.rows.now.values.now b.i b.g c.condition-c.result c.condition-c.ensures.value
           c.mark_all-a.result c.mark_all-d.result c.mark_all-a.ensures.result_value c.mark_all-d.ensures.result_value e E.rest E.spelled E.stops r added deleted looks next,
     )
 

@@ -13,27 +13,27 @@ use Rattle.reading.proofs.OpeningRows.{is_start}
 use Rattle.reading.proofs.opening.opening.Goals as goal
 
 pub loop-i-init : goal.loop-i-init
-loop-i-init c = let a = c.args in ap (λ (f : Facts). open_at f a.marks.now a.values.now 0) c.none-s.ensures
+loop-i-init c = let a = c.args in ap (λ (f : Facts). open_at f a.rows.now.marks.now a.rows.now.values.now 0) c.none-s.ensures
 
-pub returns-then-marks-i-ne-START : goal.returns-then-marks-i-ne-START
-returns-then-marks-i-ne-START c =
+pub returns-then-rows-i-ne-START : goal.returns-then-rows-i-ne-START
+returns-then-rows-i-ne-START c =
     let a = c.args in
-    sym (stops_at open_row is_start opened (member c.loop-i.s) a.marks.now a.values.now c.loop-i.i (search rules)
-    (ne_eqb (get_or a.marks.now c.loop-i.i 0) START c.if-marks-i-ne-START.true))
+    sym (stops_at open_row is_start opened (member c.loop-i.s) a.rows.now.marks.now a.rows.now.values.now c.loop-i.i (search rules)
+    (ne_eqb (get_or a.rows.now.marks.now c.loop-i.i 0) START c.if-rows-i-ne-START.true))
     ∙ c.loop-i.invariant
 
 pub loop-i-preserved : goal.loop-i-preserved
 loop-i-preserved c =
     let a = c.args in
-    ap (λ (f : Facts). open_at f a.marks.now a.values.now (c.loop-i.i + 1)) (c.with-s.ensures ∙ rw c.value_at.ensures)
-    ∙ sym (goes_on open_row is_start opened (member c.loop-i.s) a.marks.now a.values.now c.loop-i.i (search rules)
-    (eq-eqb (get_or a.marks.now c.loop-i.i 0) START c.if-marks-i-ne-START.false))
+    ap (λ (f : Facts). open_at f a.rows.now.marks.now a.rows.now.values.now (c.loop-i.i + 1)) (c.with-s.ensures ∙ rw c.value.ensures)
+    ∙ sym (goes_on open_row is_start opened (member c.loop-i.s) a.rows.now.marks.now a.rows.now.values.now c.loop-i.i (search rules)
+    (eq-eqb (get_or a.rows.now.marks.now c.loop-i.i 0) START c.if-rows-i-ne-START.false))
     ∙ c.loop-i.invariant
 
 pub returns : goal.returns
 returns c =
     let a = c.args in
-    let at_end : length a.marks.now ≡ c.loop-i.i = omega arith in
+    let at_end : length a.rows.now.marks.now ≡ c.loop-i.i = omega arith in
     ap (opened (member c.loop-i.s)) at_end
-    ∙ sym (ends_at open_row is_start opened (member c.loop-i.s) a.marks.now a.values.now c.loop-i.i (search rules))
+    ∙ sym (ends_at open_row is_start opened (member c.loop-i.s) a.rows.now.marks.now a.rows.now.values.now c.loop-i.i (search rules))
     ∙ c.loop-i.invariant

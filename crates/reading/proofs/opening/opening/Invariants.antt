@@ -5,4 +5,4 @@ use Rattle.reading.specs.Opening.{open_at}
 use Rattle.reading.proofs.opening.opening.Given as goal
 
 abbrev pub invariant-loop-i : goal.invariant-loop-i
-invariant-loop-i l = open_at (member l.s) l.marks l.values l.i ≡ open_at empty l.marks l.values 0
+invariant-loop-i l = open_at (member l.s) l.rows.marks.now l.rows.values.now l.i ≡ open_at empty l.rows.marks.now l.rows.values.now 0
