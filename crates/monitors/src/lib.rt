@@ -5,7 +5,6 @@
 pub mod met;
 
 ghost use Rattle.std.specs.Prelude.{◌≡◌, ◌*◌, ◌≤◌, ◌<◌, length};
-ghost use Rattle.task.specs.Rows.{Rows};
 ghost use Rattle.task.specs.Limits.{MAX_PREFERENCES};
 ghost use Rattle.state.specs.Member.{member};
 ghost use Rattle.monitors.specs.Monitors.{head_rows, is_two_sided, sides_at, MOST_LOOKED, SomePreferences, ForPreferences, Watched};
@@ -13,6 +12,7 @@ ghost use Rattle.monitors.specs.Monitors.{head_rows, is_two_sided, sides_at, MOS
 use reading::conditions;
 use state::State;
 use task::{kinds, marks};
+use task::rows::Rows;
 
 // φ and ψ of a preference in a state, how many literals were looked at, and the row after the preference.
 #[derive(Clone, Copy)]
@@ -44,13 +44,13 @@ fn is_two_sided(mark: u8) -> bool
 }
 
 // The sides of the preference that row i opens, in state s. Both are read, whatever the first one gives.
-fn read_sides(marks: &[u8], values: &[u8], i: usize, s: State) -> Sides
-    requires { Rows marks.now values.now × (i < length marks.now) }
+fn read_sides(rows: &Rows, i: usize, s: State) -> Sides
+    requires { i < length rows.now.marks.now }
     ensures i_lt_next { (i < result.next) × (result.looked ≤ MOST_LOOKED) }
-    ensures value { result ≡ sides_at (member s) marks.now values.now i }
+    ensures value { result ≡ sides_at (member s) rows.now.marks.now rows.now.values.now i }
 {
-    let mark = task::soft_mark(marks[i]);
-    let first = conditions::condition(marks, values, i + head_rows(mark), s);
+    let mark = task::soft_mark(rows.marks[i]);
+    let first = conditions::condition(rows, i + head_rows(mark), s);
     if !is_two_sided(mark) {
         return Sides {
             phi: first.holds,
@@ -59,7 +59,7 @@ fn read_sides(marks: &[u8], values: &[u8], i: usize, s: State) -> Sides
             next: first.next,
         };
     }
-    let second = conditions::condition(marks, values, first.next + 1, s);
+    let second = conditions::condition(rows, first.next + 1, s);
     let looked = first.looked + second.looked;
     Sides {
         phi: first.holds,
@@ -70,21 +70,21 @@ fn read_sides(marks: &[u8], values: &[u8], i: usize, s: State) -> Sides
 }
 
 // The monitors of the preferences that stand from row `at` on see state s, and so many literals are looked at.
-pub fn watch(marks: &[u8], values: &[u8], at: usize, s: State, last: bool, ms: &mut [u8]) -> usize
-    requires rows { Rows marks.now values.now × (length ms.old ≡ MAX_PREFERENCES) }
-    requires some_preferences { SomePreferences marks.now values.now at }
+pub fn watch(rows: &Rows, at: usize, s: State, last: bool, ms: &mut [u8]) -> usize
+    requires rows { length ms.old ≡ MAX_PREFERENCES }
+    requires some_preferences { SomePreferences rows.now.marks.now rows.now.values.now at }
     ensures upper_bound { result ≤ MAX_PREFERENCES * MOST_LOOKED }
-    ensures for_preferences { ForPreferences marks.now values.now at (Watched last (member s) ms.old ms.new result) }
+    ensures for_preferences { ForPreferences rows.now.marks.now rows.now.values.now at (Watched last (member s) ms.old ms.new result) }
 {
     let mut looked = 0;
     let mut k = 0;
     let mut i = at;
-    while i < marks.len() {
+    while i < rows.marks.len() {
         if ms.len() <= k {
             return looked;
         }
-        let q = read_sides(marks, values, i, s);
-        let kind = kinds::kind_at(marks, values, i);
+        let q = read_sides(rows, i, s);
+        let kind = kinds::kind_at(rows, i);
         let m = monitor::stepped(kind, last, monitor::unpacked(ms[k]), q.phi, q.psi);
         ms[k] = monitor::packed(m);
         looked += q.looked;

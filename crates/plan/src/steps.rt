@@ -1,7 +1,6 @@
 // A plan's steps, one after the other.
 ghost use Rattle.std.specs.Prelude.{◌≡◌, ℕ, ◌+◌, ◌*◌, ◌≤◌, ◌<◌, length};
 ghost use Rattle.meaning.specs.Task.{Task};
-ghost use Rattle.task.specs.Rows.{Rows};
 ghost use Rattle.task.specs.Limits.{MAX_ACTIONS, MAX_PREFERENCES, MAX_STEPS};
 ghost use Rattle.layout.specs.Rows.{Spells, Spelled};
 ghost use Rattle.layout.specs.Actions.{actions_from, AllBelow, ActionAt, SomeAction};
@@ -15,7 +14,8 @@ use layout::actions;
 use monitors::met;
 use reading::{conditions, effects, opening};
 use state::State;
-use task::{limits, rows};
+use task::limits;
+use task::rows::Rows;
 
 // The rows at which the preferences begin, and the goal's condition.
 #[derive(Clone, Copy)]
@@ -43,42 +43,42 @@ pub fn step_index(k: u8) -> usize
 
 // One step by the action that row `from` opens. Where it doesn't apply, how many literals were looked at, those of its precondition
 // among them.
-pub fn step(marks: &[u8], values: &[u8], from: usize, p: Position) -> Result<Position, u64>
-    requires rows { Rows marks.now values.now × (from < length marks.now) × Roomy p }
-    requires some_action { SomeAction marks.now values.now from }
+pub fn step(rows: &Rows, from: usize, p: Position) -> Result<Position, u64>
+    requires rows { (from < length rows.now.marks.now) × Roomy p }
+    requires some_action { SomeAction rows.now.marks.now rows.now.values.now from }
     ensures little { Little p result }
-    ensures step_answer { (t : Task) (k : ℕ) → ActionAt marks.now values.now from t k → StepAnswer t k p result }
+    ensures step_answer { (t : Task) (k : ℕ) → ActionAt rows.now.marks.now rows.now.values.now from t k → StepAnswer t k p result }
 {
     let s = State {
         low: p.low,
         high: p.high,
     };
-    let pre = conditions::condition(marks, values, from + 1, s);
+    let pre = conditions::condition(rows, from + 1, s);
     let looked = p.looked + (pre.looked as u64);
     if !pre.holds {
         return Err(looked);
     }
-    let next = effects::after(marks, values, pre.next, s);
+    let next = effects::after(rows, pre.next, s);
     Ok(Position {
         low: next.low,
         high: next.high,
-        cost: p.cost + (rows::value_at(values, from) as u64),
+        cost: p.cost + (rows.value(from) as u64),
         looked: looked + (next.looked as u64),
     })
 }
 
 // The verdict after the last step, by monitors that have seen the states before it.
-fn finish(marks: &[u8], values: &[u8], places: Places, p: Position, ms: &mut [u8]) -> Walked
-    requires rows { Rows marks.now values.now × (places.preferences ≤ length marks.now) × Roomy p × (length ms.old ≡ MAX_PREFERENCES) }
-    requires end { (t : Task) × (μ : Monitors) × End marks.now values.now places ms.old t μ }
-    ensures { (t : Task) (μ : Monitors) → End marks.now values.now places ms.old t μ → EndAnswer t μ p result }
+fn finish(rows: &Rows, places: Places, p: Position, ms: &mut [u8]) -> Walked
+    requires rows { (places.preferences ≤ length rows.now.marks.now) × Roomy p × (length ms.old ≡ MAX_PREFERENCES) }
+    requires end { (t : Task) × (μ : Monitors) × End rows.now.marks.now rows.now.values.now places ms.old t μ }
+    ensures { (t : Task) (μ : Monitors) → End rows.now.marks.now rows.now.values.now places ms.old t μ → EndAnswer t μ p result }
 {
     let s = State {
         low: p.low,
         high: p.high,
     };
-    let seen = monitors::watch(marks, values, places.preferences, s, true, &mut *ms);
-    let g = conditions::condition(marks, values, places.goal, s);
+    let seen = monitors::watch(rows, places.preferences, s, true, &mut *ms);
+    let g = conditions::condition(rows, places.goal, s);
     let looked = p.looked + (seen as u64) + (g.looked as u64);
     if !g.holds {
         return Walked {
@@ -86,7 +86,7 @@ fn finish(marks: &[u8], values: &[u8], places: Places, p: Position, ms: &mut [u8
             looked,
         };
     }
-    let found = met::find(marks, places.preferences, &*ms);
+    let found = met::find(rows.marks, places.preferences, &*ms);
     if found.kept < found.number {
         return Walked {
             verdict: Verdict::RuleMissed(found.kept),
@@ -119,18 +119,17 @@ fn looked_on(p: Position, n: usize) -> Position
 
 // The verdict on a plan of known steps, from the opening state on, by fresh monitors. `starts` has the rows of the actions.
 fn follow(
-    marks: &[u8],
-    values: &[u8],
+    rows: &Rows,
     places: Places,
     starts: &[usize],
     s: State,
     plan: &[u8],
     ms: &mut [u8],
 ) -> Walked
-    requires rows { Rows marks.now values.now × (length plan.now ≤ MAX_STEPS) × (places.preferences ≤ length marks.now) }
-    requires all_below { AllBelow (length marks.now) starts.now × AllBelow (length starts.now) plan.now × AllFresh ms.old }
-    requires start { (t : Task) × Start marks.now values.now places starts.now s t }
-    ensures { (t : Task) → Start marks.now values.now places starts.now s t → PlanAnswer t plan.now result }
+    requires rows { (length plan.now ≤ MAX_STEPS) × (places.preferences ≤ length rows.now.marks.now) }
+    requires all_below { AllBelow (length rows.now.marks.now) starts.now × AllBelow (length starts.now) plan.now × AllFresh ms.old }
+    requires start { (t : Task) × Start rows.now.marks.now rows.now.values.now places starts.now s t }
+    ensures { (t : Task) → Start rows.now.marks.now rows.now.values.now places starts.now s t → PlanAnswer t plan.now result }
 {
     let mut p = Position {
         low: s.low,
@@ -143,10 +142,9 @@ fn follow(
             low: p.low,
             high: p.high,
         };
-        let seen = monitors::watch(marks, values, places.preferences, here, false, &mut *ms);
+        let seen = monitors::watch(rows, places.preferences, here, false, &mut *ms);
         let moved = step(
-            marks,
-            values,
+            rows,
             starts[step_index(plan[i])],
             looked_on(p, seen),
         );
@@ -162,24 +160,23 @@ fn follow(
             }
         }
     }
-    finish(marks, values, places, p, &mut *ms)
+    finish(rows, places, p, &mut *ms)
 }
 
 // The verdict on a plan of known steps.
-pub fn run(marks: &[u8], values: &[u8], plan: &[u8]) -> Walked
-    requires rows { Rows marks.now values.now × (length plan.now ≤ MAX_STEPS) × Spelled marks.now values.now }
-    requires marks_len_bound { (length (actions_from 0 marks.now) ≤ MAX_ACTIONS) × AllBelow (length (actions_from 0 marks.now)) plan.now }
-    ensures { (t : Task) → Spells marks.now values.now t → PlanAnswer t plan.now result }
+pub fn run(rows: &Rows, plan: &[u8]) -> Walked
+    requires rows { (length plan.now ≤ MAX_STEPS) × Spelled rows.now.marks.now rows.now.values.now }
+    requires marks_len_bound { (length (actions_from 0 rows.now.marks.now) ≤ MAX_ACTIONS) × AllBelow (length (actions_from 0 rows.now.marks.now)) plan.now }
+    ensures { (t : Task) → Spells rows.now.marks.now rows.now.values.now t → PlanAnswer t plan.now result }
 {
-    let start = opening::opening(marks, values);
+    let start = opening::opening(rows);
     let goal = start.next + 1;
-    let preferences = actions::first_preference(marks);
+    let preferences = actions::first_preference(rows.marks);
     let mut table: [usize; limits::MAX_ACTIONS] = [0; limits::MAX_ACTIONS];
-    let many = actions::note_actions(marks, &mut table);
+    let many = actions::note_actions(rows.marks, &mut table);
     let mut ms: [u8; limits::MAX_PREFERENCES] = [0; limits::MAX_PREFERENCES];
     follow(
-        marks,
-        values,
+        rows,
         Places { preferences, goal },
         &table[0..many],
         start.state,

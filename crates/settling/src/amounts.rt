@@ -3,14 +3,15 @@ ghost use Rattle.std.specs.Prelude.{◌≡◌, false, ℕ, ◌+◌, ◌≤◌, �
 ghost use Rattle.task.specs.TaskRows.{row};
 ghost use Rattle.task.specs.File.{opens_preference};
 ghost use Rattle.task.specs.Limits.{MAX_PREFERENCES};
-ghost use Rattle.task.specs.Rows.{Rows, MarksTo};
+ghost use Rattle.task.specs.Rows.{MarksTo};
 ghost use Rattle.state.specs.Member.{bit};
 ghost use Rattle.settling.specs.Settled.{arguments_allowed};
 ghost use Rattle.layout.specs.Counting.{counting, count_at, AMPLE};
 ghost use Rattle.settling.specs.Amounts.{Room, nothing, weighed, as_weights};
 
 use super::Worth;
-use task::{limits, marks, rows};
+use task::{limits, marks};
+use task::rows::Rows;
 
 // So many preferences: the weights of those that are met, and of the others.
 #[derive(Clone, Copy)]
@@ -89,9 +90,8 @@ fn past_others(marks: &[u8], from: usize) -> usize
 }
 
 // The preferences of a task, by the met ones.
-pub fn weigh(marks: &[u8], values: &[u8], met: u64) -> Weights
-    requires { Rows marks.now values.now }
-    ensures result_value { as_weights result ≡ count_at (weighed (bit met)) nothing marks.now values.now 0 }
+pub fn weigh(rows: &Rows, met: u64) -> Weights
+    ensures result_value { as_weights result ≡ count_at (weighed (bit met)) nothing rows.now.marks.now rows.now.values.now 0 }
     ensures met_bound { (result.met < AMPLE) × (result.missed < AMPLE) }
 {
     let mut t = Weights {
@@ -99,10 +99,10 @@ pub fn weigh(marks: &[u8], values: &[u8], met: u64) -> Weights
         met: 0,
         missed: 0,
     };
-    let mut i = past_others(marks, 0);
-    while i < marks.len() {
-        t = weigh_row(t, marks[i], rows::value_at(values, i), met);
-        i = past_others(marks, i + 1);
+    let mut i = past_others(rows.marks, 0);
+    while i < rows.marks.len() {
+        t = weigh_row(t, rows.marks[i], rows.value(i), met);
+        i = past_others(rows.marks, i + 1);
     }
     t
 }

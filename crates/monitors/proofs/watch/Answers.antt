@@ -13,17 +13,17 @@ use Rattle.monitors.proofs.watch.Goals.{After-packed}
 
 pub loop-i-init : goal.loop-i-init
 loop-i-init c =
-    begins c.args.marks.now c.args.values.now c.args.at c.args.last (member c.args.s) c.args.ms.now c.requires.rows.1
+    begins c.args.rows.now.marks.now c.args.rows.now.values.now c.args.at c.args.last (member c.args.s) c.args.ms.now c.requires.rows
 
 pub shape_of-ms-then-ms-k : goal.shape_of-ms-then-ms-k
 shape_of-ms-then-ms-k c =
-    c.loop-i.invariant.all_there ∙ sym c.requires.rows.1
+    c.loop-i.invariant.all_there ∙ sym c.requires.rows
 
 pub returns-then-ms-k : goal.returns-then-ms-k
 returns-then-ms-k c =
     let a = c.args in record {
       upper_bound = omega (arith, c.loop-i.invariant.few, c.loop-i.invariant.few_literals);
-      for_preferences = full a.marks.now a.values.now a.at a.last (member a.s) a.ms.now c.loop-i.ms c.loop-i.looked c.loop-i.k c.loop-i.i
+      for_preferences = full a.rows.now.marks.now a.rows.now.values.now a.at a.last (member a.s) a.ms.now c.loop-i.ms c.loop-i.looked c.loop-i.k c.loop-i.i
           c.loop-i.invariant (omega (arith, c.loop-i.invariant.all_there, c.if-ms-k.true));
     }
 
@@ -42,11 +42,11 @@ overflow_add-looked c = let h = (few (goal.at.overflow_add-looked c).After-packe
 seen_on : (c : After-packed)
     → let a = c.args in
     (looked : ℕ) → looked ≡ c.loop-i.looked + c.read_sides-q.result.looked
-    → Watching a.marks.now a.values.now a.at a.last (member a.s) a.ms.now (set c.loop-i.ms c.loop-i.k c.packed.result) looked (c.loop-i.k + 1)
+    → Watching a.rows.now.marks.now a.rows.now.values.now a.at a.last (member a.s) a.ms.now (set c.loop-i.ms c.loop-i.k c.packed.result) looked (c.loop-i.k + 1)
     c.read_sides-q.result.next
 seen_on c looked counted =
     let a = c.args in
-    goes_on a.marks.now a.values.now a.at a.last (member a.s) a.ms.now c.loop-i.ms _ c.loop-i.looked c.loop-i.k c.loop-i.i (search rules)
+    goes_on a.rows.now.marks.now a.rows.now.values.now a.at a.last (member a.s) a.ms.now c.loop-i.ms _ c.loop-i.looked c.loop-i.k c.loop-i.i (search rules)
     c.read_sides-q.result c.read_sides-q.ensures.value looked counted (as_kind c.kind_at-kind.result) c.kind_at-kind.ensures.result_value
     (monitor_put c.loop-i.ms c.loop-i.k (search rules) c.packed.result _
     (c.packed.ensures ∙ c.stepped-m.ensures.0
@@ -59,12 +59,12 @@ loop-i-preserved c = seen_on (goal.at.loop-i-preserved c).After-packed _ refl
 
 pub shape_of-ms : goal.shape_of-ms
 shape_of-ms c =
-    c.loop-i.invariant.all_there ∙ sym c.requires.rows.1
+    c.loop-i.invariant.all_there ∙ sym c.requires.rows
 
 pub returns : goal.returns
 returns c =
     let a = c.args in record {
       upper_bound = omega (arith, c.loop-i.invariant.few, c.loop-i.invariant.few_literals);
-      for_preferences = ends a.marks.now a.values.now a.at a.last (member a.s) a.ms.now c.loop-i.ms c.loop-i.looked c.loop-i.k c.loop-i.i
+      for_preferences = ends a.rows.now.marks.now a.rows.now.values.now a.at a.last (member a.s) a.ms.now c.loop-i.ms c.loop-i.looked c.loop-i.k c.loop-i.i
           c.loop-i.invariant (search rules);
     }

@@ -12,7 +12,7 @@ watch-seen-requires c =
     let E = c.requires.end.2 in
     record {
       rows = search rules;
-      some_preferences = (t.preferences, preferences_there t a.marks.now a.values.now E.placed.spells a.places.preferences E.placed.preferences);
+      some_preferences = (t.preferences, preferences_there t a.rows.now.marks.now a.rows.now.values.now E.placed.spells a.places.preferences E.placed.preferences);
     }
 
 pub shape_of-ms-then-not-g : goal.shape_of-ms-then-not-g
@@ -22,7 +22,7 @@ shape_of-ms-then-not-g c =
 pub returns-then-not-g : goal.returns-then-not-g
 returns-then-not-g c = λ t μ E.
     let a = c.args in
-    missed a.marks.now a.values.now a.places a.ms.now t μ E a.p c.condition-g.result c.condition-g.ensures.value
+    missed a.rows.now.marks.now a.rows.now.values.now a.places a.ms.now t μ E a.p c.condition-g.result c.condition-g.ensures.value
     c.watch-seen.new.ms c.watch-seen.result c.watch-seen.ensures.for_preferences (not-true _ c.if-not-g.true)
 
 pub shape_of-ms-then-found : goal.shape_of-ms-then-found
@@ -32,7 +32,7 @@ shape_of-ms-then-found c =
 pub returns-then-found : goal.returns-then-found
 returns-then-found c = λ t μ E.
     let a = c.args in
-    rule_is a.marks.now a.values.now a.places a.ms.now t μ E a.p c.condition-g.result c.condition-g.ensures.value
+    rule_is a.rows.now.marks.now a.rows.now.values.now a.places a.ms.now t μ E a.p c.condition-g.result c.condition-g.ensures.value
     c.watch-seen.new.ms c.watch-seen.result c.watch-seen.ensures.for_preferences (not-false _ c.if-not-g.false)
     c.find-found.result c.find-found.ensures (search rules)
 
@@ -43,6 +43,6 @@ shape_of-ms c =
 pub returns : goal.returns
 returns c = λ t μ E.
     let a = c.args in
-    solved_is a.marks.now a.values.now a.places a.ms.now t μ E a.p c.condition-g.result c.condition-g.ensures.value
+    solved_is a.rows.now.marks.now a.rows.now.values.now a.places a.ms.now t μ E a.p c.condition-g.result c.condition-g.ensures.value
     c.watch-seen.new.ms c.watch-seen.result c.watch-seen.ensures.for_preferences (not-false _ c.if-not-g.false)
     c.find-found.result c.find-found.ensures (search (rules, c.struct_known-3-1.given)) (search rules)

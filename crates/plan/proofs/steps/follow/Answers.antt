@@ -21,8 +21,8 @@ entry c =
 
 -- the row that the step's entry names opens its action
 action : (c : After-step_index)
-    → (t : Task) → Start c.args.marks.now c.args.values.now c.args.places c.args.starts.now c.args.s t
-    → ActionAt c.args.marks.now c.args.values.now (get_or c.args.starts.now c.step_index.result 0) t c.step_index.result
+    → (t : Task) → Start c.args.rows.now.marks.now c.args.rows.now.values.now c.args.places c.args.starts.now c.args.s t
+    → ActionAt c.args.rows.now.marks.now c.args.rows.now.values.now (get_or c.args.starts.now c.step_index.result 0) t c.step_index.result
 action c t S =
     let k = c.step_index.result in
     let h : k < length t.actions = subst (λ (n : ℕ). k < n) S.all_actions (entry c) in
@@ -31,11 +31,11 @@ action c t S =
 -- a step by that action
 moves : (c : After-step-moved)
     → (r : Result Position ℕ) → c.step-moved.result ≡ r → (t : Task)
-    → Start c.args.marks.now c.args.values.now c.args.places c.args.starts.now c.args.s t
+    → Start c.args.rows.now.marks.now c.args.rows.now.values.now c.args.places c.args.starts.now c.args.s t
     → StepAnswer t c.step_index.result c.looked_on.result r
 moves c r e t S =
     let entry' : c.step_index.result < length c.args.starts.now = known (length c.args.starts.now) c.args.plan.now c.requires.all_below.1 c.loop-i.i (search rules) c.step_index.result c.step_index.ensures in
-    let action' : (t : Task) → Start c.args.marks.now c.args.values.now c.args.places c.args.starts.now c.args.s t → ActionAt c.args.marks.now c.args.values.now (get_or c.args.starts.now c.step_index.result 0) t c.step_index.result = λ t S. let k = c.step_index.result in
+    let action' : (t : Task) → Start c.args.rows.now.marks.now c.args.rows.now.values.now c.args.places c.args.starts.now c.args.s t → ActionAt c.args.rows.now.marks.now c.args.rows.now.values.now (get_or c.args.starts.now c.step_index.result 0) t c.step_index.result = λ t S. let k = c.step_index.result in
     let h : k < length t.actions = subst (λ (n : ℕ). k < n) S.all_actions entry' in
     record { spells = S.placed.spells; known = h; begins = S.actions k h } in
     let k = c.step_index.result in
@@ -65,13 +65,13 @@ bounds-starts-step_index c = entry (goal.at.bounds-starts-step_index c).After-st
 
 pub step-moved-requires : goal.step-moved-requires
 step-moved-requires c =
-    let short = c.requires.rows.1 in
+    let short = c.requires.rows.0 in
     let cost : c.looked_on.result.cost < AMPLE = omega (arith, c.looked_on.ensures.1, c.loop-i.invariant.little, short, c.loop-i.invariant.steps_left) in
     let looked : c.looked_on.result.looked < AMPLE =
     omega (arith, c.looked_on.ensures.2, c.watch-seen.ensures.upper_bound, c.loop-i.invariant.few_literals, short, c.loop-i.invariant.steps_left) in record {
       rows = (
         search rules,
-        known (length c.args.marks.now) c.args.starts.now c.requires.all_below.0 c.step_index.result (entry (goal.at.step-moved-requires c).After-step_index) _ refl,
+        known (length c.args.rows.now.marks.now) c.args.starts.now c.requires.all_below.0 c.step_index.result (entry (goal.at.step-moved-requires c).After-step_index) _ refl,
         record { cost = cost; looked = looked },
       );
       some_action = (c.requires.start.0, c.step_index.result, action (goal.at.step-moved-requires c).After-step_index c.requires.start.0 c.requires.start.1);

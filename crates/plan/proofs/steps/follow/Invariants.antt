@@ -4,4 +4,4 @@ use Rattle.plan.proofs.Running.{Running}
 use Rattle.plan.proofs.steps.follow.Given as goal
 
 abbrev pub invariant-loop-i : goal.invariant-loop-i
-invariant-loop-i l = Running l.marks l.values l.places l.starts (state_of l.initial.p) l.plan l.p l.ms l.i
+invariant-loop-i l = Running l.rows.marks.now l.rows.values.now l.places l.starts (state_of l.initial.p) l.plan l.p l.ms l.i

@@ -19,13 +19,13 @@ use Rattle.plan.proofs.steps.run.Goals as goal
 use Rattle.plan.proofs.steps.run.Goals.{After-note_actions-many, After-opening-start}
 
 -- the goal stands within the rows
-few : (c : After-opening-start) → c.opening-start.result.next ≤ length c.args.marks.now
+few : (c : After-opening-start) → c.opening-start.result.next ≤ length c.args.rows.now.marks.now
 few c =
     let a = c.args in
-    omega (arith, opening_ends a.marks.now a.values.now, ap (λ (r : Result). r.next) c.opening-start.ensures)
+    omega (arith, opening_ends a.rows.now.marks.now a.rows.now.values.now, ap (λ (r : Result). r.next) c.opening-start.ensures)
 
 -- the rows that are lent are those of the actions
-lent : (c : After-note_actions-many) → take (c.note_actions-many.result - 0) c.note_actions-many.new.starts ≡ actions_from 0 c.args.marks.now
+lent : (c : After-note_actions-many) → take (c.note_actions-many.result - 0) c.note_actions-many.new.starts ≡ actions_from 0 c.args.rows.now.marks.now
 lent c = ap (λ (n : ℕ). take n c.note_actions-many.new.starts) (sub-zero c.note_actions-many.result) ∙ c.note_actions-many.ensures.1
 
 pub overflow_add-goal : goal.overflow_add-goal
@@ -33,36 +33,36 @@ overflow_add-goal c = let f = few (goal.at.overflow_add-goal c).After-opening-st
 
 -- what stands before the first step
 begun : (c : After-note_actions-many) → let a = c.args in
-    (t : Task) → Spells a.marks.now a.values.now t
-    → Start a.marks.now a.values.now (record { preferences = c.first_preference-preferences.result; goal = c.opening-start.result.next + 1 })
+    (t : Task) → Spells a.rows.now.marks.now a.rows.now.values.now t
+    → Start a.rows.now.marks.now a.rows.now.values.now (record { preferences = c.first_preference-preferences.result; goal = c.opening-start.result.next + 1 })
     (take (c.note_actions-many.result - 0) c.note_actions-many.new.starts) c.opening-start.result.state t
 begun c t R =
     let a = c.args in
-    let read = c.opening-start.ensures ∙ opening_read t a.marks.now a.values.now R in
+    let read = c.opening-start.ensures ∙ opening_read t a.rows.now.marks.now a.rows.now.values.now R in
     record {
       placed =
           record {
             spells = R;
             preferences =
-                subst⁻¹ (PreferencesAt t a.marks.now a.values.now) c.first_preference-preferences.ensures.0
-                (preferences_read t a.marks.now a.values.now R);
+                subst⁻¹ (PreferencesAt t a.rows.now.marks.now a.rows.now.values.now) c.first_preference-preferences.ensures.0
+                (preferences_read t a.rows.now.marks.now a.rows.now.values.now R);
             goal = ap (λ (r : Result). r.next + 1) read;
           };
-      all_actions = ap length (lent c) ∙ as_many t a.marks.now a.values.now R;
-      actions = λ k h. ap (λ (l : List ℕ). get_or l k 0) (lent c) ∙ noted t a.marks.now a.values.now R k h;
+      all_actions = ap length (lent c) ∙ as_many t a.rows.now.marks.now a.rows.now.values.now R;
+      actions = λ k h. ap (λ (l : List ℕ). get_or l k 0) (lent c) ∙ noted t a.rows.now.marks.now a.rows.now.values.now R k h;
       opens = ap (λ (r : Result). r.state) read;
     }
 
 pub follow-requires : goal.follow-requires
 follow-requires c =
-    let marks = c.args.marks.now in record {
+    let marks = c.args.rows.now.marks.now in record {
       rows = search rules;
       all_below = (
         subst⁻¹ (AllBelow (length marks)) (lent (goal.at.follow-requires c).After-note_actions-many) (within_rows_lem marks),
         subst⁻¹ (λ (l : List ℕ). AllBelow (length l) c.args.plan.now) (lent (goal.at.follow-requires c).After-note_actions-many) c.requires.marks_len_bound.1,
         record { sixteen = refl; seen_none = fresh_at 16 },
       );
-      start = (c.requires.rows.2.0, begun (goal.at.follow-requires c).After-note_actions-many c.requires.rows.2.0 c.requires.rows.2.1);
+      start = (c.requires.rows.1.0, begun (goal.at.follow-requires c).After-note_actions-many c.requires.rows.1.0 c.requires.rows.1.1);
     }
 
 pub returns : goal.returns

@@ -14,7 +14,7 @@ pub returns-then-not-pre : goal.returns-then-not-pre
 returns-then-not-pre c =
     let a = c.args in record {
       little = tt;
-      step_answer = λ t k A. stopped a.marks.now a.values.now a.from t k A a.p
+      step_answer = λ t k A. stopped a.rows.now.marks.now a.rows.now.values.now a.from t k A a.p
           c.condition-pre.result c.condition-pre.ensures.value (not-true _ c.if-not-pre.true);
     }
 
@@ -23,13 +23,13 @@ after-next-requires c =
     let a = c.args in
     let t = c.requires.some_action.0 in
     let k = c.requires.some_action.1 in
-    (search rules, (action_at t k, its_effects a.marks.now a.values.now a.from t k c.requires.some_action.2 (member (state_of a.p)) c.condition-pre.result c.condition-pre.ensures.value))
+    (search rules, (action_at t k, its_effects a.rows.now.marks.now a.rows.now.values.now a.from t k c.requires.some_action.2 (member (state_of a.p)) c.condition-pre.result c.condition-pre.ensures.value))
 
 pub returns : goal.returns
 returns c =
     let a = c.args in record {
       little = (search rules, search rules);
-      step_answer = λ t k A. led a.marks.now a.values.now a.from t k A a.p
+      step_answer = λ t k A. led a.rows.now.marks.now a.rows.now.values.now a.from t k A a.p
           c.condition-pre.result c.condition-pre.ensures.value (not-false _ c.if-not-pre.false) c.after-next.result c.after-next.ensures.0
-          _ c.requires.rows.1 (ap (λ (x : ℕ). a.p.cost + x) c.value_at.ensures);
+          _ c.requires.rows.0 (ap (λ (x : ℕ). a.p.cost + x) c.value.ensures);
     }

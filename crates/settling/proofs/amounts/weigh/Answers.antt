@@ -27,7 +27,7 @@ loop-i-init c =
       few = search rules;
       little_met = search rules;
       little_missed = search rules;
-      same = passed_by (weighed (bit a.met)) nothing a.marks.now a.values.now p.result 0 p.result (omega arith) (search rules) p.ensures.by_index;
+      same = passed_by (weighed (bit a.met)) nothing a.rows.now.marks.now a.rows.now.values.now p.result 0 p.result (omega arith) (search rules) p.ensures.by_index;
     }
 
 pub loop-i-preserved : goal.loop-i-preserved
@@ -42,12 +42,12 @@ loop-i-preserved c =
       little_met = search rules;
       little_missed = search rules;
       same =
-          passed_by one (as_weights c.weigh_row-t.result) a.marks.now a.values.now (p.result - (i + 1)) (i + 1) p.result (omega arith)
+          passed_by one (as_weights c.weigh_row-t.result) a.rows.now.marks.now a.rows.now.values.now (p.result - (i + 1)) (i + 1) p.result (omega arith)
           (search rules) p.ensures.by_index
-          ∙ ap (λ (t : Weighed). count_at one t a.marks.now a.values.now (i + 1))
+          ∙ ap (λ (t : Weighed). count_at one t a.rows.now.marks.now a.rows.now.values.now (i + 1))
           (c.weigh_row-t.ensures.result_value
-          ∙ ap (λ (v : ℕ). counting one (as_weights c.loop-i.t) (row (get_or a.marks.now i 0) v)) c.value_at.ensures)
-          ∙ sym (goes_on (counting one) (λ (m : ℕ). true) (λ (t : Weighed) (j : ℕ). t) (as_weights c.loop-i.t) a.marks.now a.values.now i
+          ∙ ap (λ (v : ℕ). counting one (as_weights c.loop-i.t) (row (get_or a.rows.now.marks.now i 0) v)) c.value.ensures)
+          ∙ sym (goes_on (counting one) (λ (m : ℕ). true) (λ (t : Weighed) (j : ℕ). t) (as_weights c.loop-i.t) a.rows.now.marks.now a.rows.now.values.now i
           (search rules) refl)
           ∙ c.loop-i.invariant.same;
     }
@@ -55,8 +55,8 @@ loop-i-preserved c =
 pub returns : goal.returns
 returns c =
     let a = c.args in record {
-      result_value = sym (ends_at (counting (weighed (bit a.met))) (λ (m : ℕ). true) (λ (t : Weighed) (i : ℕ). t) (as_weights c.loop-i.t) a.marks.now
-          a.values.now c.loop-i.i (search rules))
+      result_value = sym (ends_at (counting (weighed (bit a.met))) (λ (m : ℕ). true) (λ (t : Weighed) (i : ℕ). t) (as_weights c.loop-i.t) a.rows.now.marks.now
+          a.rows.now.values.now c.loop-i.i (search rules))
           ∙ c.loop-i.invariant.same;
       met_bound = search rules;
     }

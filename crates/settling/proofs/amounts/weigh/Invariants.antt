@@ -6,7 +6,7 @@ use Rattle.settling.proofs.Weighing.{Weighing}
 use Rattle.settling.proofs.amounts.weigh.Given as goal
 
 abbrev pub invariant-loop-i : goal.invariant-loop-i
-invariant-loop-i l = Weighing l.marks l.values (bit l.met) l.t l.i
+invariant-loop-i l = Weighing l.rows.marks.now l.rows.values.now (bit l.met) l.t l.i
 
 abbrev pub decreases-loop-i : goal.decreases-loop-i
-decreases-loop-i l = length l.marks - l.i
+decreases-loop-i l = length l.rows.marks.now - l.i
