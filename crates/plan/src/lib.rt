@@ -11,6 +11,7 @@ ghost use Rattle.plan.specs.Judged.{steps_known};
 ghost use Rattle.plan.specs.Walked.{walked};
 
 use task::refused::Cause;
+use task::rows::rows_of;
 use task::{Refusal, Sizes, limits};
 
 // What a plan that solves costs, and which preferences it meets: preference k where bit k of `met` is set.
@@ -60,8 +61,7 @@ pub fn walk_on(file: &[u8], z: Sizes, plan: &[u8]) -> Result<Walked, Refusal>
     if known < plan.len() {
         return Err(Cause::Step.at(known as u16));
     }
-    let middle = 8 + z.rows;
-    Ok(steps::run(&file[8..middle], &file[middle..], plan))
+    Ok(steps::run(&rows_of(file, z.rows), plan))
 }
 
 // Walks a plan on the task in a file: the verdict, of a plan that solves the cost and the met preferences, and how many literals

@@ -12,6 +12,7 @@ ghost use Rattle.settling.specs.Answers.{settled_as};
 
 use state::State;
 use task::refused::Cause;
+use task::rows::rows_of;
 use task::{Refusal, Sizes};
 
 // What a solution is worth.
@@ -36,8 +37,7 @@ pub fn settle_on(file: &[u8], z: Sizes, cost: u64, met: u64) -> Result<Worth, Re
     if !amounts::arguments_allowed(z.preferences, cost, met) {
         return Err(Cause::Argument.at(0));
     }
-    let middle = 8 + z.rows;
-    Ok(amounts::worth(cost, amounts::weigh(&file[8..middle], &file[middle..], met)))
+    Ok(amounts::worth(cost, amounts::weigh(&rows_of(file, z.rows), met)))
 }
 
 // What a cost and met preferences are worth on the task in a file; preference k is met where bit k of `met` is set.

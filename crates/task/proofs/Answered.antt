@@ -37,7 +37,11 @@ module _ (b : List ℕ) (z : Sizes) (h : check b ≡ accepted z) where
       let w = within z spells.allowed in
       record { exact = spells.exact; few_rows = w.0; some_facts = w.1; few_facts = w.2; few_actions = w.3; few_preferences = w.4 }
 
-  -- the two parts that are lent on spell its task
+  -- the rows that it says it has stand in it
+  pub has_rows : (z.rows ≤ MAX_ROWS) × (length b ≡ 8 + 5 * z.rows)
+  has_rows = (limited.few_rows, limited.exact)
+
+  -- and spell its task
   pub parts_spell : parts_of b z ≡ task_rows (task_of b)
   parts_spell = parts_rows b z spells.same ∙ spells.spelled
 

@@ -1,4 +1,4 @@
--- The answer is that of `settled` on an accepted file: a refusal by `Settling`, the amounts by `Weighing` on the two parts of the file.
+-- The answer is that of `settled` on an accepted file: a refusal by `Settling`, the amounts by `Weighing` on its rows.
 use borrow.Author.Rules.{rules}
 use borrow.Author.Tests.{not-true, not-false}
 use mathlib.Core.Path.{◌≡◌, sym, ◌∙◌}
@@ -6,17 +6,14 @@ use mathlib.Core.Bool.{true}
 use Prim.Native.Nat.{◌≤◌}
 use Rattle.task.specs.Answers.{as_sizes}
 use Rattle.task.specs.Limits.{MAX_COST}
-use Rattle.task.proofs.Answered.{Limited, limited}
-use Rattle.layout.proofs.Parts.{parts_rows}
+use Rattle.task.specs.File.{paired}
+use Rattle.task.proofs.Answered.{has_rows}
 use Rattle.state.specs.Member.{bit}
 use Rattle.settling.specs.Settled.{arguments_allowed}
 use Rattle.settling.proofs.Weighing.{worth_is}
 use Rattle.settling.proofs.Settling.{few, not_allowed, cost_allowed, worth_on}
 use Rattle.settling.proofs.settle_on.Goals as goal
-use Rattle.settling.proofs.settle_on.Goals.{Else-not-arguments_allowed, Start}
-
-parts : (c : Start) → Limited c.args.file.now (as_sizes c.args.z)
-parts c = limited c.args.file.now (as_sizes c.args.z) c.requires
+use Rattle.settling.proofs.settle_on.Goals.{Else-not-arguments_allowed}
 
 -- the arguments are allowed
 fine : (c : Else-not-arguments_allowed) → let a = c.args in arguments_allowed a.z.preferences a.cost (bit a.met) ≡ true
@@ -39,21 +36,8 @@ returns-then-not-arguments_allowed c =
     rw c.at.ensures (not_allowed a.file.now a.cost (bit a.met) a.z c.requires
     (sym c.arguments_allowed.ensures ∙ not-true _ c.if-not-arguments_allowed.true-raw))
 
-pub overflow_add-middle : goal.overflow_add-middle
-overflow_add-middle c = let h = parts (goal.at.overflow_add-middle c).Start in search rules
-
-pub slice_bounds-weigh-end : goal.slice_bounds-weigh-end
-slice_bounds-weigh-end c = let h = parts (goal.at.slice_bounds-weigh-end c).Start in search rules
-
-pub slice_bounds-weigh-count-2 : goal.slice_bounds-weigh-count-2
-slice_bounds-weigh-count-2 c = let h = parts (goal.at.slice_bounds-weigh-count-2 c).Start in search rules
-
-pub slice_bounds-weigh-start-2 : goal.slice_bounds-weigh-start-2
-slice_bounds-weigh-start-2 c = let h = parts (goal.at.slice_bounds-weigh-start-2 c).Start in search rules
-
-pub weigh-requires : goal.weigh-requires
-weigh-requires c =
-    parts_rows c.args.file.now (as_sizes c.args.z) c.requires
+pub rows_of-requires : goal.rows_of-requires
+rows_of-requires c = has_rows c.args.file.now (as_sizes c.args.z) c.requires
 
 pub worth-requires : goal.worth-requires
 worth-requires c = let h = paid (goal.at.worth-requires c).Else-not-arguments_allowed in search rules
@@ -62,4 +46,4 @@ pub returns : goal.returns
 returns c =
     let a = c.args in
     worth_on a.file.now a.cost (bit a.met) a.z c.requires (fine (goal.at.returns c).Else-not-arguments_allowed) _
-    (λ t e. worth_is (bit a.met) t _ _ e c.weigh.result c.weigh.ensures.result_value a.cost _ _ c.worth.ensures)
+    (λ t e. worth_is (bit a.met) t _ _ ((λ i. paired (c.rows_of.ensures.marks i) (c.rows_of.ensures.values i)) ∙ e) c.weigh.result c.weigh.ensures.result_value a.cost _ _ c.worth.ensures)

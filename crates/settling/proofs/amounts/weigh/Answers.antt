@@ -13,10 +13,10 @@ use Rattle.settling.proofs.Weighing.{passed_by}
 use Rattle.settling.proofs.amounts.weigh.Goals as goal
 
 pub past_others-i-requires : goal.past_others-i-requires
-past_others-i-requires c = record { inside = search rules; few = c.requires.few }
+past_others-i-requires c = record { inside = search rules; few = c.args.rows.now.fit.few }
 
 pub past_others-i-requires-in-loop-i : goal.past_others-i-requires-in-loop-i
-past_others-i-requires-in-loop-i c = record { inside = search rules; few = c.requires.few }
+past_others-i-requires-in-loop-i c = record { inside = search rules; few = c.args.rows.now.fit.few }
 
 pub loop-i-init : goal.loop-i-init
 loop-i-init c =
