@@ -11,7 +11,7 @@ use borrow.Author.Tests.{le-leb, lt-leb, lt-ltb, le-ltb, leb-true, leb-false}
 use Rattle.lists.specs.Lists.{all, take_until}
 use Rattle.meaning.specs.Task.{Task}
 use Rattle.task.specs.File
-use Rattle.task.specs.File.{task_of}
+use Rattle.task.specs.File.{task_of, marks_of, values_of}
 use Rattle.task.specs.Check
 use Rattle.task.specs.Check.{Answer, check}
 use Rattle.meaning.specs.Literals.{literals}
@@ -27,7 +27,7 @@ use Rattle.plan.specs.Walked.{Walked, refused, without_worth, walked}
 use Rattle.layout.specs.Rows.{Spells}
 use Rattle.layout.specs.Actions.{actions_from, AllBelow}
 use Rattle.plan.specs.Steps.{walked_on}
-use Rattle.layout.proofs.Parts.{marks_of, values_of, parts_spelled}
+use Rattle.layout.proofs.Parts.{parts_spelled}
 use Rattle.layout.proofs.ActionRows.{as_many}
 
 -- all steps are known exactly where as many as there are stand before the first that is not
@@ -72,10 +72,10 @@ module _ (b p : List ℕ) (z : Sizes) (accepted : check b ≡ Check.accepted (as
 
     module _ (h : length p ≤ steps_known z.actions p) where
       abbrev ms : List ℕ
-      ms = marks_of b (as_sizes z)
+      ms = marks_of b z.rows
 
       abbrev vs : List ℕ
-      vs = values_of b (as_sizes z)
+      vs = values_of b z.rows
 
       -- as many actions as the file says, which are at most 128, and each step is one of them
       pub actions_fit : (length (actions_from 0 ms) ≤ 128) × AllBelow (length (actions_from 0 ms)) p

@@ -53,7 +53,7 @@ loop-i-init c =
 
 pub watch-seen-requires : goal.watch-seen-requires
 watch-seen-requires c = record {
-  rows = (search rules, c.loop-i.invariant.all_there);
+  rows = c.loop-i.invariant.all_there;
   some_preferences = (c.requires.start.0.preferences, watched_ones c.requires.start.1);
 }
 
@@ -69,11 +69,8 @@ step-moved-requires c =
     let cost : c.looked_on.result.cost < AMPLE = omega (arith, c.looked_on.ensures.1, c.loop-i.invariant.little, short, c.loop-i.invariant.steps_left) in
     let looked : c.looked_on.result.looked < AMPLE =
     omega (arith, c.looked_on.ensures.2, c.watch-seen.ensures.upper_bound, c.loop-i.invariant.few_literals, short, c.loop-i.invariant.steps_left) in record {
-      rows = (
-        search rules,
-        known (length c.args.rows.now.marks.now) c.args.starts.now c.requires.all_below.0 c.step_index.result (entry (goal.at.step-moved-requires c).After-step_index) _ refl,
-        record { cost = cost; looked = looked },
-      );
+      rows = (known (length c.args.rows.now.marks.now) c.args.starts.now c.requires.all_below.0 c.step_index.result (entry (goal.at.step-moved-requires c).After-step_index) _ refl,
+        record { cost = cost; looked = looked });
       some_action = (c.requires.start.0, c.step_index.result, action (goal.at.step-moved-requires c).After-step_index c.requires.start.0 c.requires.start.1);
     }
 
@@ -109,7 +106,7 @@ finish-requires c =
     let w = c.loop-i.invariant in
     let few = w.few_literals in
     let s = w.stands c.requires.start.0 c.requires.start.1 in record {
-      rows = (search rules, search rules, search rules, w.all_there);
+      rows = (search rules, search rules, w.all_there);
       end = (c.requires.start.0, s.monitors, record { placed = c.requires.start.1.placed; monitors = s.are });
     }
 

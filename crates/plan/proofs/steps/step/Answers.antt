@@ -23,7 +23,7 @@ after-next-requires c =
     let a = c.args in
     let t = c.requires.some_action.0 in
     let k = c.requires.some_action.1 in
-    (search rules, (action_at t k, its_effects a.rows.now.marks.now a.rows.now.values.now a.from t k c.requires.some_action.2 (member (state_of a.p)) c.condition-pre.result c.condition-pre.ensures.value))
+    (action_at t k, its_effects a.rows.now.marks.now a.rows.now.values.now a.from t k c.requires.some_action.2 (member (state_of a.p)) c.condition-pre.result c.condition-pre.ensures.value)
 
 pub returns : goal.returns
 returns c =
