@@ -6,12 +6,12 @@ ghost use Rattle.std.proofs.lemmas.List.Edits.{sets};
 ghost use Rattle.task.specs.Marks.{CLAUSE};
 ghost use Rattle.task.specs.TaskRows.{Row, row};
 ghost use Rattle.task.specs.File.{bytes16};
-ghost use Rattle.task.specs.Rows.{Rows};
 ghost use Rattle.layout.specs.Sides.{part};
 ghost use Rattle.writer.specs.Writer.{row_after, put_row, put_rows, Room, Wrote, Standing, header, Earlier};
 
 use layout::sides::Span;
 use task::{limits, marks};
+use task::rows::Rows;
 
 // One row more than a file may have: a count that has come this far stays, and every loop that counts ends.
 pub const OVERFULL: usize = limits::MAX_ROWS + 1;
@@ -57,23 +57,23 @@ pub fn put_row(out: &mut [u8], c: Cursor, mark: u8, value: u32) -> Cursor
 }
 
 // Writes rows of the source, for the first of which there is room.
-fn store_rows(out: &mut [u8], c: Cursor, marks: &[u8], values: &[u8], s: Span)
-    requires { (c.next < c.rows) × Room c out.old × Rows marks.now values.now × (s.from ≤ s.to) × (s.to ≤ length marks.now) }
-    ensures { out.new ≡ put_rows out.old c.rows c.next (part marks.now values.now s) }
+fn store_rows(out: &mut [u8], c: Cursor, rows: &Rows, s: Span)
+    requires { (c.next < c.rows) × Room c out.old × (s.from ≤ s.to) × (s.to ≤ length rows.now.marks.now) }
+    ensures { out.new ≡ put_rows out.old c.rows c.next (part rows.now.marks.now rows.now.values.now s) }
 {
     let i = c.next;
     let from = s.from;
     let many = usize::min(s.to - from, c.rows - i);
     let at = 8 + i;
-    out[at..at + many].copy_from_slice(&marks[from..from + many]);
+    out[at..at + many].copy_from_slice(&rows.marks[from..from + many]);
     let beside = 8 + c.rows + 4 * i;
-    out[beside..beside + 4 * many].copy_from_slice(&values[4 * from..4 * (from + many)]);
+    out[beside..beside + 4 * many].copy_from_slice(&rows.values[4 * from..4 * (from + many)]);
 }
 
 // Copies rows of the source.
-pub fn copy_rows(out: &mut [u8], c: Cursor, marks: &[u8], values: &[u8], s: Span) -> Cursor
-    requires { Room c out.old × Rows marks.now values.now × (s.to ≤ length marks.now) }
-    ensures { Wrote out.old c (part marks.now values.now s) result out.new }
+pub fn copy_rows(out: &mut [u8], c: Cursor, rows: &Rows, s: Span) -> Cursor
+    requires { Room c out.old × (s.to ≤ length rows.now.marks.now) }
+    ensures { Wrote out.old c (part rows.now.marks.now rows.now.values.now s) result out.new }
 {
     if s.to <= s.from {
         return c;
@@ -82,7 +82,7 @@ pub fn copy_rows(out: &mut [u8], c: Cursor, marks: &[u8], values: &[u8], s: Span
     if c.next >= c.rows {
         return advance_by(c, many);
     }
-    store_rows(&mut *out, c, marks, values, s);
+    store_rows(&mut *out, c, rows, s);
     advance_by(c, many)
 }
 

@@ -10,13 +10,13 @@ use Rattle.writer.proofs.copy_rows.Goals as goal
 pub returns-then-s : goal.returns-then-s
 returns-then-s c =
     let a = c.args in
-    as_rows (sym (no_row a.marks.now a.values.now a.s.from a.s.to (search rules))) (wrote_none c.requires.0)
+    as_rows (sym (no_row a.rows.now.marks.now a.rows.now.values.now a.s.from a.s.to (search rules))) (wrote_none c.requires.0)
 
 pub returns-then-c : goal.returns-then-c
 returns-then-c c =
     let a = c.args in
-    let ms = a.marks.now in
-    let vs = a.values.now in
+    let ms = a.rows.now.marks.now in
+    let vs = a.rows.now.values.now in
     let long = stretch_long ms vs a.s.from a.s.to (search rules) (search rules) in
     wrote_past a.out.now a.c (part ms vs a.s) c.advance_by.result (search rules) (search rules)
     (c.advance_by.ensures.0, c.advance_by.ensures.1 ∙ ap (row_after a.c.next) (sym long))
@@ -24,7 +24,7 @@ returns-then-c c =
 pub returns : goal.returns
 returns c =
     let a = c.args in
-    let long = stretch_long a.marks.now a.values.now a.s.from a.s.to (search rules) (search rules) in
+    let long = stretch_long a.rows.now.marks.now a.rows.now.values.now a.s.from a.s.to (search rules) (search rules) in
     record {
       room = search rules;
       same = c.advance_by-2.ensures.0;

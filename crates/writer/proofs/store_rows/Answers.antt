@@ -15,14 +15,14 @@ pub returns : goal.returns
 returns c =
     let a = c.args in
     let b = a.out.now in
-    let ms = a.marks.now in
-    let vs = a.values.now in
+    let ms = a.rows.now.marks.now in
+    let vs = a.rows.now.values.now in
     let from = a.s.from in
     let i = a.c.next in
     let n = a.c.rows in
     let k = c.min-many.result in
     let fit = c.min-many.ensures in
-    let rows = c.requires.2 in
+    let rows = c.args.rows.now.fit in
     let room = c.requires.1 in
     let first : List ℕ = sets b (8 + i) (take k (drop from ms)) in
     let long : length first ≡ length b = length-sets b (8 + i) (take k (drop from ms)) in
@@ -32,4 +32,4 @@ returns c =
     c.copy_from_slice-2.new.self)
     ∙ copied_in (8 + n + 4 * i) (4 * from) (8 + n + 4 * i + 4 * k - (8 + n + 4 * i)) (4 * (from + k) - 4 * from) (4 * k) first c.copy_from_slice-2.new.self vs
     c.copy_from_slice-2.ensures.after (omega arith) (omega arith) (omega arith) (omega arith)
-    ∙ copied ms vs from a.s.to b n i k rows (λ j. omega (arith, c.type_inv.values j)) (search rules) (search rules) (omega (arith, c.requires.0)) fit
+    ∙ copied ms vs from a.s.to b n i k rows c.args.rows.now.bytes (search rules) (search rules) (omega (arith, c.requires.0)) fit
