@@ -6,7 +6,6 @@ ghost use Rattle.task.specs.Marks.{EFFECT, ADD};
 ghost use Rattle.task.specs.TaskRows.{row, clause_rows, condition_rows};
 ghost use Rattle.task.specs.Answers.{as_kind};
 ghost use Rattle.classical.specs.Translation.{met_clause};
-ghost use Rattle.task.specs.Rows.{Rows};
 ghost use Rattle.writer.specs.Writer.{Room, Wrote};
 ghost use Rattle.kind_trackers.specs.Rows.{BEYOND};
 ghost use Rattle.trackers.specs.Trackers.{Noted};
@@ -14,7 +13,8 @@ ghost use Rattle.closings.specs.Closings.{missed, never_rows, closing_head, forg
 ghost use Rattle.closings.specs.Closings.{preference_closings, closed, closings_at, closing_by};
 
 use task::kinds::Kind;
-use task::{marks, rows};
+use task::marks;
+use task::rows::Rows;
 use writer::Cursor;
 
 // A preference that is closed: its kind, whether it is hard, its weight, whether it is the first, its fact S, and *ended*.
@@ -125,22 +125,21 @@ fn put_closing(out: &mut [u8], c: Cursor, x: Closing) -> Cursor
 fn closing_at(
     out: &mut [u8],
     c: Cursor,
-    marks: &[u8],
-    values: &[u8],
+    rows: &Rows,
     at: usize,
     first: bool,
     s: u32,
     ended: u32,
 ) -> Cursor
-    requires { Room c out.old × Rows marks.now values.now × Preceded s }
-    ensures { Wrote out.old c (closings_at marks.now values.now at first s ended) result out.new }
+    requires { Room c out.old × Preceded s }
+    ensures { Wrote out.old c (closings_at rows.now.marks.now rows.now.values.now at first s ended) result out.new }
 {
-    if marks.len() <= at {
+    if rows.marks.len() <= at {
         return c;
     }
-    let kind = task::kinds::kind_at(marks, values, at);
-    let hard = task::opens_hard(marks[at]);
-    let weight = rows::value_at(values, at);
+    let kind = task::kinds::kind_at(rows, at);
+    let hard = task::opens_hard(rows.marks[at]);
+    let weight = rows.value(at);
     let x = Closing {
         kind,
         hard,
@@ -156,14 +155,13 @@ fn closing_at(
 pub fn put_closings(
     out: &mut [u8],
     c: Cursor,
-    marks: &[u8],
-    values: &[u8],
+    rows: &Rows,
     starts: &[usize],
     facts: u32,
     ended: u32,
 ) -> Cursor
-    requires { Room c out.old × Rows marks.now values.now × Noted starts.now facts × (1 ≤ facts) }
-    ensures { Wrote out.old c (closing_by marks.now values.now starts.now facts ended) result out.new }
+    requires { Room c out.old × Noted starts.now facts × (1 ≤ facts) }
+    ensures { Wrote out.old c (closing_by rows.now.marks.now rows.now.values.now starts.now facts ended) result out.new }
 {
     let mut k = c;
     let mut s = facts;
@@ -171,7 +169,7 @@ pub fn put_closings(
         if writer::OVERFULL <= k.next {
             return k;
         }
-        k = closing_at(&mut *out, k, marks, values, at, s == facts, s, ended);
+        k = closing_at(&mut *out, k, rows, at, s == facts, s, ended);
         s += 3;
     }
     k

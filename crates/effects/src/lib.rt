@@ -4,12 +4,12 @@
 ghost use Rattle.std.specs.Prelude.{◌≡◌, ◌∷◌, ◌≤◌, ◌<◌, length};
 ghost use Rattle.task.specs.Marks.{EFFECT};
 ghost use Rattle.task.specs.TaskRows.{row};
-ghost use Rattle.task.specs.Rows.{Rows};
 ghost use Rattle.writer.specs.Writer.{Room, Wrote};
 ghost use Rattle.effects.specs.Effects.{Inside, denied_mark, both_rows, guard_end, guard_rows, changed_rows, close_rows, false_row_at, one_effect, false_effects};
 
 use layout::sides::Span;
-use task::{marks, rows};
+use task::marks;
+use task::rows::Rows;
 use writer::Cursor;
 
 // What an effect's condition begins with: nothing, one or two literals, or rows of the source.
@@ -59,9 +59,9 @@ fn put_both(out: &mut [u8], c: Cursor, mark: u8, fact: u32, other: u32) -> Curso
     writer::put_single(&mut *out, k, mark, other)
 }
 
-fn put_guard(out: &mut [u8], c: Cursor, marks: &[u8], values: &[u8], g: Guard) -> Cursor
-    requires { Room c out.old × Rows marks.now values.now × (guard_end g ≤ length marks.now) }
-    ensures { Wrote out.old c (guard_rows marks.now values.now g) result out.new }
+fn put_guard(out: &mut [u8], c: Cursor, rows: &Rows, g: Guard) -> Cursor
+    requires { Room c out.old × (guard_end g ≤ length rows.now.marks.now) }
+    ensures { Wrote out.old c (guard_rows rows.now.marks.now rows.now.values.now g) result out.new }
 {
     match g {
         Guard::Nothing => c,
@@ -69,7 +69,7 @@ fn put_guard(out: &mut [u8], c: Cursor, marks: &[u8], values: &[u8], g: Guard) -
         Guard::Lacks(fact) => writer::put_single(&mut *out, c, marks::LACKS, fact),
         Guard::BothHold(fact, other) => put_both(&mut *out, c, marks::HOLDS, fact, other),
         Guard::BothLack(fact, other) => put_both(&mut *out, c, marks::LACKS, fact, other),
-        Guard::Rows(s) => writer::copy_rows(&mut *out, c, marks, values, s),
+        Guard::Rows(s) => writer::copy_rows(&mut *out, c, rows, s),
     }
 }
 
@@ -88,12 +88,12 @@ fn put_change(out: &mut [u8], c: Cursor, change: Change) -> Cursor
 }
 
 // Opens an effect, with its guard.
-fn open_effect(out: &mut [u8], c: Cursor, marks: &[u8], values: &[u8], g: Guard) -> Cursor
-    requires { Room c out.old × Rows marks.now values.now × (guard_end g ≤ length marks.now) }
-    ensures { Wrote out.old c (row EFFECT 0 ∷ guard_rows marks.now values.now g) result out.new }
+fn open_effect(out: &mut [u8], c: Cursor, rows: &Rows, g: Guard) -> Cursor
+    requires { Room c out.old × (guard_end g ≤ length rows.now.marks.now) }
+    ensures { Wrote out.old c (row EFFECT 0 ∷ guard_rows rows.now.marks.now rows.now.values.now g) result out.new }
 {
     let k = writer::put_row(&mut *out, c, marks::EFFECT, 0);
-    put_guard(&mut *out, k, marks, values, g)
+    put_guard(&mut *out, k, rows, g)
 }
 
 // Ends the effect that is open, if one is.
@@ -107,12 +107,12 @@ fn close_effect(out: &mut [u8], c: Cursor, change: Change, begun: bool) -> Curso
     put_change(&mut *out, c, change)
 }
 
-pub fn put_effect(out: &mut [u8], c: Cursor, marks: &[u8], values: &[u8], e: Effect) -> Cursor
-    requires { Room c out.old × Rows marks.now values.now × Inside marks.now e }
-    ensures { Wrote out.old c (one_effect marks.now values.now e) result out.new }
+pub fn put_effect(out: &mut [u8], c: Cursor, rows: &Rows, e: Effect) -> Cursor
+    requires { Room c out.old × Inside rows.now.marks.now e }
+    ensures { Wrote out.old c (one_effect rows.now.marks.now rows.now.values.now e) result out.new }
 {
-    let k = open_effect(&mut *out, c, marks, values, e.guard);
-    let k = writer::copy_rows(&mut *out, k, marks, values, e.condition);
+    let k = open_effect(&mut *out, c, rows, e.guard);
+    let k = writer::copy_rows(&mut *out, k, rows, e.condition);
     put_change(&mut *out, k, e.change)
 }
 
@@ -120,27 +120,26 @@ pub fn put_effect(out: &mut [u8], c: Cursor, marks: &[u8], values: &[u8], e: Eff
 fn false_row(
     out: &mut [u8],
     c: Cursor,
-    marks: &[u8],
-    values: &[u8],
+    rows: &Rows,
     e: Effect,
     j: usize,
     begun: bool,
 ) -> Cursor
-    requires { Room c out.old × Rows marks.now values.now × Inside marks.now e × (j < length marks.now) }
-    ensures { Wrote out.old c (false_row_at marks.now values.now e j begun) result out.new }
+    requires { Room c out.old × Inside rows.now.marks.now e × (j < length rows.now.marks.now) }
+    ensures { Wrote out.old c (false_row_at rows.now.marks.now rows.now.values.now e j begun) result out.new }
 {
-    let mark = marks[j];
+    let mark = rows.marks[j];
     if mark != marks::CLAUSE {
-        return writer::put_single(&mut *out, c, denied(mark), rows::value_at(values, j));
+        return writer::put_single(&mut *out, c, denied(mark), rows.value(j));
     }
     let k = close_effect(&mut *out, c, e.change, begun);
-    open_effect(&mut *out, k, marks, values, e.guard)
+    open_effect(&mut *out, k, rows, e.guard)
 }
 
 // One effect for each clause of the condition, whose literals are denied.
-pub fn each_false(out: &mut [u8], c: Cursor, marks: &[u8], values: &[u8], e: Effect) -> Cursor
-    requires { Room c out.old × Rows marks.now values.now × Inside marks.now e }
-    ensures { Wrote out.old c (false_effects marks.now values.now e) result out.new }
+pub fn each_false(out: &mut [u8], c: Cursor, rows: &Rows, e: Effect) -> Cursor
+    requires { Room c out.old × Inside rows.now.marks.now e }
+    ensures { Wrote out.old c (false_effects rows.now.marks.now rows.now.values.now e) result out.new }
 {
     let mut begun = false;
     let mut k = c;
@@ -148,8 +147,8 @@ pub fn each_false(out: &mut [u8], c: Cursor, marks: &[u8], values: &[u8], e: Eff
         if writer::OVERFULL <= k.next {
             return k;
         }
-        k = false_row(&mut *out, k, marks, values, e, j, begun);
-        begun |= marks[j] == marks::CLAUSE;
+        k = false_row(&mut *out, k, rows, e, j, begun);
+        begun |= rows.marks[j] == marks::CLAUSE;
     }
     close_effect(&mut *out, k, e.change, begun)
 }

@@ -4,7 +4,6 @@ ghost use Rattle.lists.specs.Lists.{range, concat_map};
 ghost use Rattle.task.specs.Marks.{DELETE};
 ghost use Rattle.task.specs.TaskRows.{row};
 ghost use Rattle.classical.specs.Translation.{fact_d};
-ghost use Rattle.task.specs.Rows.{Rows};
 ghost use Rattle.task.specs.Limits.{MAX_DEADLINE};
 ghost use Rattle.layout.specs.Sides.{part};
 ghost use Rattle.writer.specs.Writer.{Room, Wrote};
@@ -15,6 +14,7 @@ use effects::{Change, Effect, Guard};
 use layout::sides::{Sides, Span};
 use task::marks;
 use writer::Cursor;
+use task::rows::Rows;
 
 // D of j holds: D of j + 1 is added.
 fn put_onward(out: &mut [u8], c: Cursor, d: u32, j: u32) -> Cursor
@@ -50,14 +50,13 @@ fn put_count(out: &mut [u8], c: Cursor, d: u32, steps: u32) -> Cursor
 pub fn within(
     out: &mut [u8],
     c: Cursor,
-    marks: &[u8],
-    values: &[u8],
+    rows: &Rows,
     p: Sides,
     f: Facts,
     steps: u32,
 ) -> Cursor
-    requires { Room c out.old × Rows marks.now values.now × SidesInside marks.now p × Small f × (steps ≤ MAX_DEADLINE) }
-    ensures { Wrote out.old c (sided marks.now values.now p (within_rows f steps)) result out.new }
+    requires { Room c out.old × SidesInside rows.now.marks.now p × Small f × (steps ≤ MAX_DEADLINE) }
+    ensures { Wrote out.old c (sided rows.now.marks.now rows.now.values.now p (within_rows f steps)) result out.new }
 {
     let phi = p.first;
     let d = f.d;
@@ -67,7 +66,7 @@ pub fn within(
         change: Change::Add(f.s),
     };
     let k = put_count(&mut *out, c, d, steps);
-    effects::put_effect(&mut *out, k, marks, values, in_time)
+    effects::put_effect(&mut *out, k, rows, in_time)
 }
 
 // D of j of always-within: after the last step it is S.
@@ -82,15 +81,14 @@ fn fact_d(f: Facts, steps: u32, j: u32) -> u32
 fn put_wait(
     out: &mut [u8],
     c: Cursor,
-    marks: &[u8],
-    values: &[u8],
+    rows: &Rows,
     psi: Span,
     f: Facts,
     steps: u32,
     j: u32,
 ) -> Cursor
-    requires { Room c out.old × Rows marks.now values.now × Waits marks.now psi f j }
-    ensures { Wrote out.old c (wait_rows f steps (part marks.now values.now psi) j) result out.new }
+    requires { Room c out.old × Waits rows.now.marks.now psi f j }
+    ensures { Wrote out.old c (wait_rows f steps (part rows.now.marks.now rows.now.values.now psi) j) result out.new }
 {
     let next = fact_d(f, steps, j + 1);
     let waits = Effect {
@@ -98,24 +96,23 @@ fn put_wait(
         condition: psi,
         change: Change::Add(next),
     };
-    effects::each_false(&mut *out, c, marks, values, waits)
+    effects::each_false(&mut *out, c, rows, waits)
 }
 
 fn put_waits(
     out: &mut [u8],
     c: Cursor,
-    marks: &[u8],
-    values: &[u8],
+    rows: &Rows,
     psi: Span,
     f: Facts,
     steps: u32,
 ) -> Cursor
-    requires { Room c out.old × Rows marks.now values.now × Waits marks.now psi f steps }
-    ensures { Wrote out.old c (all_wait_rows f steps (part marks.now values.now psi)) result out.new }
+    requires { Room c out.old × Waits rows.now.marks.now psi f steps }
+    ensures { Wrote out.old c (all_wait_rows f steps (part rows.now.marks.now rows.now.values.now psi)) result out.new }
 {
     let mut k = c;
     for j in 1..=steps {
-        k = put_wait(&mut *out, k, marks, values, psi, f, steps, j);
+        k = put_wait(&mut *out, k, rows, psi, f, steps, j);
     }
     k
 }
@@ -136,35 +133,33 @@ fn put_deletes(out: &mut [u8], c: Cursor, d: u32, steps: u32) -> Cursor
 fn put_reset(
     out: &mut [u8],
     c: Cursor,
-    marks: &[u8],
-    values: &[u8],
+    rows: &Rows,
     psi: Span,
     f: Facts,
     steps: u32,
 ) -> Cursor
-    requires { Room c out.old × Rows marks.now values.now × Waits marks.now psi f steps }
-    ensures { Wrote out.old c (reset_rows f steps (part marks.now values.now psi)) result out.new }
+    requires { Room c out.old × Waits rows.now.marks.now psi f steps }
+    ensures { Wrote out.old c (reset_rows f steps (part rows.now.marks.now rows.now.values.now psi)) result out.new }
 {
     let in_time = Effect {
         guard: Guard::Lacks(f.s),
         condition: psi,
         change: Change::Delete(f.b),
     };
-    let k = effects::put_effect(&mut *out, c, marks, values, in_time);
+    let k = effects::put_effect(&mut *out, c, rows, in_time);
     put_deletes(&mut *out, k, f.d, steps)
 }
 
 pub fn always_within(
     out: &mut [u8],
     c: Cursor,
-    marks: &[u8],
-    values: &[u8],
+    rows: &Rows,
     p: Sides,
     f: Facts,
     steps: u32,
 ) -> Cursor
-    requires { Room c out.old × Rows marks.now values.now × SidesInside marks.now p × Small f × (steps ≤ MAX_DEADLINE) }
-    ensures { Wrote out.old c (sided marks.now values.now p (soon_rows f steps)) result out.new }
+    requires { Room c out.old × SidesInside rows.now.marks.now p × Small f × (steps ≤ MAX_DEADLINE) }
+    ensures { Wrote out.old c (sided rows.now.marks.now rows.now.values.now p (soon_rows f steps)) result out.new }
 {
     let phi = p.first;
     let psi = p.second;
@@ -174,7 +169,7 @@ pub fn always_within(
         condition: psi,
         change: Change::AddBoth(f.b, first),
     };
-    let k = effects::each_false(&mut *out, c, marks, values, begins);
-    let k = put_waits(&mut *out, k, marks, values, psi, f, steps);
-    put_reset(&mut *out, k, marks, values, psi, f, steps)
+    let k = effects::each_false(&mut *out, c, rows, begins);
+    let k = put_waits(&mut *out, k, rows, psi, f, steps);
+    put_reset(&mut *out, k, rows, psi, f, steps)
 }

@@ -1,5 +1,4 @@
 // The trackers of the kinds without a deadline, as the table of trackers has them.
-ghost use Rattle.task.specs.Rows.{Rows};
 ghost use Rattle.writer.specs.Writer.{Room, Wrote};
 ghost use Rattle.kind_trackers.specs.Rows.{SidesInside, sided, always_rows, once_rows, before_rows, after_rows, reached_rows};
 
@@ -7,10 +6,11 @@ use super::Facts;
 use effects::{Change, Effect, Guard};
 use layout::sides::Sides;
 use writer::Cursor;
+use task::rows::Rows;
 
-pub fn always(out: &mut [u8], c: Cursor, marks: &[u8], values: &[u8], p: Sides, f: Facts) -> Cursor
-    requires { Room c out.old × Rows marks.now values.now × SidesInside marks.now p }
-    ensures { Wrote out.old c (sided marks.now values.now p (always_rows f)) result out.new }
+pub fn always(out: &mut [u8], c: Cursor, rows: &Rows, p: Sides, f: Facts) -> Cursor
+    requires { Room c out.old × SidesInside rows.now.marks.now p }
+    ensures { Wrote out.old c (sided rows.now.marks.now rows.now.values.now p (always_rows f)) result out.new }
 {
     let phi = p.first;
     let broken = Effect {
@@ -18,19 +18,18 @@ pub fn always(out: &mut [u8], c: Cursor, marks: &[u8], values: &[u8], p: Sides, 
         condition: phi,
         change: Change::Add(f.b),
     };
-    effects::each_false(&mut *out, c, marks, values, broken)
+    effects::each_false(&mut *out, c, rows, broken)
 }
 
 pub fn at_most_once(
     out: &mut [u8],
     c: Cursor,
-    marks: &[u8],
-    values: &[u8],
+    rows: &Rows,
     p: Sides,
     f: Facts,
 ) -> Cursor
-    requires { Room c out.old × Rows marks.now values.now × SidesInside marks.now p }
-    ensures { Wrote out.old c (sided marks.now values.now p (once_rows f)) result out.new }
+    requires { Room c out.old × SidesInside rows.now.marks.now p }
+    ensures { Wrote out.old c (sided rows.now.marks.now rows.now.values.now p (once_rows f)) result out.new }
 {
     let phi = p.first;
     let begins = Effect {
@@ -48,21 +47,20 @@ pub fn at_most_once(
         condition: phi,
         change: Change::Delete(f.s),
     };
-    let k = effects::put_effect(&mut *out, c, marks, values, begins);
-    let k = effects::each_false(&mut *out, k, marks, values, ends);
-    effects::put_effect(&mut *out, k, marks, values, returns)
+    let k = effects::put_effect(&mut *out, c, rows, begins);
+    let k = effects::each_false(&mut *out, k, rows, ends);
+    effects::put_effect(&mut *out, k, rows, returns)
 }
 
 pub fn sometime_before(
     out: &mut [u8],
     c: Cursor,
-    marks: &[u8],
-    values: &[u8],
+    rows: &Rows,
     p: Sides,
     f: Facts,
 ) -> Cursor
-    requires { Room c out.old × Rows marks.now values.now × SidesInside marks.now p }
-    ensures { Wrote out.old c (sided marks.now values.now p (before_rows f)) result out.new }
+    requires { Room c out.old × SidesInside rows.now.marks.now p }
+    ensures { Wrote out.old c (sided rows.now.marks.now rows.now.values.now p (before_rows f)) result out.new }
 {
     let phi = p.first;
     let psi = p.second;
@@ -76,20 +74,19 @@ pub fn sometime_before(
         condition: phi,
         change: Change::Add(f.b),
     };
-    let k = effects::put_effect(&mut *out, c, marks, values, second);
-    effects::put_effect(&mut *out, k, marks, values, too_early)
+    let k = effects::put_effect(&mut *out, c, rows, second);
+    effects::put_effect(&mut *out, k, rows, too_early)
 }
 
 pub fn sometime_after(
     out: &mut [u8],
     c: Cursor,
-    marks: &[u8],
-    values: &[u8],
+    rows: &Rows,
     p: Sides,
     f: Facts,
 ) -> Cursor
-    requires { Room c out.old × Rows marks.now values.now × SidesInside marks.now p }
-    ensures { Wrote out.old c (sided marks.now values.now p (after_rows f)) result out.new }
+    requires { Room c out.old × SidesInside rows.now.marks.now p }
+    ensures { Wrote out.old c (sided rows.now.marks.now rows.now.values.now p (after_rows f)) result out.new }
 {
     let phi = p.first;
     let psi = p.second;
@@ -103,22 +100,21 @@ pub fn sometime_after(
         condition: psi,
         change: Change::Delete(f.b),
     };
-    let k = effects::each_false(&mut *out, c, marks, values, waits);
-    effects::put_effect(&mut *out, k, marks, values, done)
+    let k = effects::each_false(&mut *out, c, rows, waits);
+    effects::put_effect(&mut *out, k, rows, done)
 }
 
 // Sometime and at-end, where it is wanted.
 pub fn reached(
     out: &mut [u8],
     c: Cursor,
-    marks: &[u8],
-    values: &[u8],
+    rows: &Rows,
     p: Sides,
     f: Facts,
     wanted: bool,
 ) -> Cursor
-    requires { Room c out.old × Rows marks.now values.now × SidesInside marks.now p }
-    ensures { Wrote out.old c (sided marks.now values.now p (reached_rows f wanted)) result out.new }
+    requires { Room c out.old × SidesInside rows.now.marks.now p }
+    ensures { Wrote out.old c (sided rows.now.marks.now rows.now.values.now p (reached_rows f wanted)) result out.new }
 {
     if !wanted {
         return c;
@@ -129,5 +125,5 @@ pub fn reached(
         condition: phi,
         change: Change::Add(f.s),
     };
-    effects::put_effect(&mut *out, c, marks, values, reaches)
+    effects::put_effect(&mut *out, c, rows, reaches)
 }

@@ -5,7 +5,6 @@ ghost use Rattle.std.specs.Prelude.{◌≡◌, ◌≤◌, ◌<◌, length};
 ghost use Rattle.task.specs.Rows.{steps_at};
 ghost use Rattle.task.specs.Answers.{as_kind};
 ghost use Rattle.classical.specs.Translation.{further_facts};
-ghost use Rattle.task.specs.Rows.{Rows};
 ghost use Rattle.task.specs.Limits.{MAX_DEADLINE};
 ghost use Rattle.writer.specs.Writer.{Room, Wrote};
 ghost use Rattle.kind_trackers.specs.Rows.{SidesInside, Small};
@@ -15,48 +14,48 @@ use kind_trackers::{Facts, deadlines, kinds};
 use layout::sides;
 use layout::sides::Sides;
 use task::kinds::Kind;
-use task::{marks, rows};
+use task::marks;
+use task::rows::Rows;
 use writer::Cursor;
 
 // The steps of the preference at row `at`, where its kind has them.
-fn steps_of(marks: &[u8], values: &[u8], at: usize) -> u32
-    requires { Rows marks.now values.now × (at < length marks.now) }
-    ensures { (result ≡ steps_at marks.now values.now at) × (result ≤ MAX_DEADLINE) }
+fn steps_of(rows: &Rows, at: usize) -> u32
+    requires { at < length rows.now.marks.now }
+    ensures { (result ≡ steps_at rows.now.marks.now rows.now.values.now at) × (result ≤ MAX_DEADLINE) }
 {
-    u32::from(rows::steps_at(marks, values, at))
+    u32::from(rows.steps(at))
 }
 
 // The trackers of the preference at row `at`, by its mark; `last` says that they stand in end.
 fn trackers_of(
     out: &mut [u8],
     c: Cursor,
-    marks: &[u8],
-    values: &[u8],
+    rows: &Rows,
     at: usize,
     p: Sides,
     f: Facts,
     last: bool,
 ) -> Cursor
-    requires { Room c out.old × Rows marks.now values.now × (at < length marks.now) × SidesInside marks.now p × Small f }
-    ensures { Wrote out.old c (trackers_with marks.now values.now at p f last) result out.new }
+    requires { Room c out.old × (at < length rows.now.marks.now) × SidesInside rows.now.marks.now p × Small f }
+    ensures { Wrote out.old c (trackers_with rows.now.marks.now rows.now.values.now at p f last) result out.new }
 {
-    let mark = task::soft_mark(marks[at]);
+    let mark = task::soft_mark(rows.marks[at]);
     match mark {
-        marks::ALWAYS => kinds::always(&mut *out, c, marks, values, p, f),
+        marks::ALWAYS => kinds::always(&mut *out, c, rows, p, f),
         marks::SOMETIME..=marks::AT_END => {
             let wanted = (mark == marks::SOMETIME) | last;
-            kinds::reached(&mut *out, c, marks, values, p, f, wanted)
+            kinds::reached(&mut *out, c, rows, p, f, wanted)
         }
-        marks::AT_MOST_ONCE => kinds::at_most_once(&mut *out, c, marks, values, p, f),
-        marks::SOMETIME_BEFORE => kinds::sometime_before(&mut *out, c, marks, values, p, f),
-        marks::SOMETIME_AFTER => kinds::sometime_after(&mut *out, c, marks, values, p, f),
+        marks::AT_MOST_ONCE => kinds::at_most_once(&mut *out, c, rows, p, f),
+        marks::SOMETIME_BEFORE => kinds::sometime_before(&mut *out, c, rows, p, f),
+        marks::SOMETIME_AFTER => kinds::sometime_after(&mut *out, c, rows, p, f),
         marks::WITHIN => {
-            let steps = steps_of(marks, values, at);
-            deadlines::within(&mut *out, c, marks, values, p, f, steps)
+            let steps = steps_of(rows, at);
+            deadlines::within(&mut *out, c, rows, p, f, steps)
         }
         marks::ALWAYS_WITHIN => {
-            let steps = steps_of(marks, values, at);
-            deadlines::always_within(&mut *out, c, marks, values, p, f, steps)
+            let steps = steps_of(rows, at);
+            deadlines::always_within(&mut *out, c, rows, p, f, steps)
         }
         _ => c,
     }
@@ -66,24 +65,23 @@ fn trackers_of(
 fn trackers_at(
     out: &mut [u8],
     c: Cursor,
-    marks: &[u8],
-    values: &[u8],
+    rows: &Rows,
     at: usize,
     f: Facts,
     last: bool,
 ) -> Cursor
-    requires { Room c out.old × Rows marks.now values.now × Small f }
-    ensures { Wrote out.old c (trackers_at marks.now values.now at f last) result out.new }
+    requires { Room c out.old × Small f }
+    ensures { Wrote out.old c (trackers_at rows.now.marks.now rows.now.values.now at f last) result out.new }
 {
-    if marks.len() <= at {
+    if rows.marks.len() <= at {
         return c;
     }
-    let mark = task::soft_mark(marks[at]);
+    let mark = task::soft_mark(rows.marks[at]);
     if (mark == marks::AT_END) & !last {
         return c;
     }
-    let p = sides::locate(marks, at);
-    trackers_of(&mut *out, c, marks, values, at, p, f, last)
+    let p = sides::locate(rows.marks, at);
+    trackers_of(&mut *out, c, rows, at, p, f, last)
 }
 
 // How many facts D1, D2 and so on a preference has.
@@ -98,28 +96,26 @@ fn further(kind: Kind) -> u32
 }
 
 // How many the preference at row `at` has.
-fn further_at(marks: &[u8], values: &[u8], at: usize) -> u32
-    requires { Rows marks.now values.now }
-    ensures { (result ≡ further_at marks.now values.now at) × (result ≤ 256) }
+fn further_at(rows: &Rows, at: usize) -> u32
+    ensures { (result ≡ further_at rows.now.marks.now rows.now.values.now at) × (result ≤ 256) }
 {
-    if marks.len() <= at {
+    if rows.marks.len() <= at {
         return 0;
     }
-    further(task::kinds::kind_at(marks, values, at))
+    further(task::kinds::kind_at(rows, at))
 }
 
 // The trackers of all preferences, by the rows at which they begin.
 pub fn all_trackers(
     out: &mut [u8],
     c: Cursor,
-    marks: &[u8],
-    values: &[u8],
+    rows: &Rows,
     starts: &[usize],
     facts: u32,
     last: bool,
 ) -> Cursor
-    requires { Room c out.old × Rows marks.now values.now × Noted starts.now facts }
-    ensures { Wrote out.old c (trackers_by marks.now values.now starts.now facts last) result out.new }
+    requires { Room c out.old × Noted starts.now facts }
+    ensures { Wrote out.old c (trackers_by rows.now.marks.now rows.now.values.now starts.now facts last) result out.new }
 {
     let mut k = c;
     let mut s = facts;
@@ -129,9 +125,9 @@ pub fn all_trackers(
             return k;
         }
         let f = Facts { s, b: s + 1, d };
-        k = trackers_at(&mut *out, k, marks, values, at, f, last);
+        k = trackers_at(&mut *out, k, rows, at, f, last);
         s += 3;
-        d += further_at(marks, values, at);
+        d += further_at(rows, at);
     }
     k
 }

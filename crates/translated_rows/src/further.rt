@@ -2,11 +2,11 @@
 ghost use Rattle.std.specs.Prelude.{◌≡◌, ◌≤◌, ◌*◌, length, drop};
 ghost use Rattle.task.specs.TaskRows.{row};
 ghost use Rattle.task.specs.File.{paired};
-ghost use Rattle.task.specs.Rows.{Rows};
 ghost use Rattle.task.specs.Limits.{MAX_ROWS, DEADLINES};
 ghost use Rattle.translated_rows.specs.Further.{further_row, further_rows};
 
-use task::{limits, marks, rows};
+use task::{limits, marks};
+use task::rows::Rows;
 
 fn count_row(mark: u8, value: u32) -> u32
     ensures { (result ≡ further_row (row mark value)) × (result ≤ DEADLINES) }
@@ -20,13 +20,13 @@ fn count_row(mark: u8, value: u32) -> u32
 }
 
 // How many there are, of preferences that begin at row `at`.
-pub fn count(marks: &[u8], values: &[u8], at: usize) -> u32
-    requires { Rows marks.now values.now × (at ≤ length marks.now) }
-    ensures { (result ≡ further_rows (drop at (paired marks.now values.now))) × (result ≤ DEADLINES * MAX_ROWS) }
+pub fn count(rows: &Rows, at: usize) -> u32
+    requires { at ≤ length rows.now.marks.now }
+    ensures { (result ≡ further_rows (drop at (paired rows.now.marks.now rows.now.values.now))) × (result ≤ DEADLINES * MAX_ROWS) }
 {
     let mut d = 0;
-    for i in at..marks.len() {
-        d += count_row(marks[i], rows::value_at(values, i));
+    for i in at..rows.marks.len() {
+        d += count_row(rows.marks[i], rows.value(i));
     }
     d
 }

@@ -7,15 +7,15 @@ use Rattle.closings.specs.Closings.{preference_closings}
 use borrow.Author.Rules.{rules}
 use Rattle.closings.proofs.closing_at.Goals as goal
 
-pub returns-then-marks-at : goal.returns-then-marks-at
-returns-then-marks-at c =
+pub returns-then-rows-at : goal.returns-then-rows-at
+returns-then-rows-at c =
     let a = c.args in
-    rw (le-leb (length a.marks.now) a.at (search rules)) (wrote_none (search rules))
+    rw (le-leb (length a.rows.now.marks.now) a.at (search rules)) (wrote_none (search rules))
 
 pub returns : goal.returns
 returns c =
     let a = c.args in
-    rw (lt-leb (length a.marks.now) a.at (search rules))
+    rw (lt-leb (length a.rows.now.marks.now) a.at (search rules))
     (as_rows
-    (λ i. preference_closings a.first a.s a.ended (record { kind = c.kind_at-kind.ensures.result_value i; hard = c.opens_hard-hard.ensures i; weight = c.value_at-weight.ensures i; first = []; second = [] }))
+    (λ i. preference_closings a.first a.s a.ended (record { kind = c.kind_at-kind.ensures.result_value i; hard = c.opens_hard-hard.ensures i; weight = c.value-weight.ensures i; first = []; second = [] }))
     c.put_closing.ensures)

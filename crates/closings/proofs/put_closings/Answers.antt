@@ -13,12 +13,12 @@ shape_of-out-then-k-ge-OVERFULL c = c.loop-at.invariant.so_far.size
 pub returns-then-k-ge-OVERFULL : goal.returns-then-k-ge-OVERFULL
 returns-then-k-ge-OVERFULL c =
     let a = c.args in
-    closed_full a.marks.now a.values.now a.facts a.ended a.starts.now c.loop-at.invariant (search rules)
+    closed_full a.rows.now.marks.now a.rows.now.values.now a.facts a.ended a.starts.now c.loop-at.invariant (search rules)
 
 pub loop-at-preserved : goal.loop-at-preserved
 loop-at-preserved c =
     let a = c.args in
-    closed_on a.marks.now a.values.now a.facts a.ended a.starts.now c.loop-at.invariant (search rules) c.closing_at-k.auto.out c.closing_at-k.ensures
+    closed_on a.rows.now.marks.now a.rows.now.values.now a.facts a.ended a.starts.now c.loop-at.invariant (search rules) c.closing_at-k.auto.out c.closing_at-k.ensures
 
 pub shape_of-out : goal.shape_of-out
 shape_of-out c = c.loop-at.invariant.so_far.size
@@ -26,4 +26,4 @@ shape_of-out c = c.loop-at.invariant.so_far.size
 pub returns : goal.returns
 returns c =
     let a = c.args in
-    closed_all a.marks.now a.values.now a.facts a.ended a.starts.now c.loop-at.invariant (search rules)
+    closed_all a.rows.now.marks.now a.rows.now.values.now a.facts a.ended a.starts.now c.loop-at.invariant (search rules)

@@ -17,8 +17,8 @@ shape_of-out-then-k-ge-OVERFULL c = c.loop-j.invariant.so_far.size
 pub returns-then-k-ge-OVERFULL : goal.returns-then-k-ge-OVERFULL
 returns-then-k-ge-OVERFULL c =
     let a = c.args in
-    let gs = guard_rows a.marks.now a.values.now a.e.guard in
-    let left = stretch a.marks.now a.values.now c.loop-j.j a.e.condition.to in
+    let gs = guard_rows a.rows.now.marks.now a.rows.now.values.now a.e.guard in
+    let left = stretch a.rows.now.marks.now a.rows.now.values.now c.loop-j.j a.e.condition.to in
     c.loop-j.invariant.onward c.loop-j.k c.loop-j.out
     (wrote_full (false_rows gs (changed_rows a.e.change) c.loop-j.begun left) c.loop-j.invariant.so_far.room (search rules))
 
@@ -28,7 +28,7 @@ loop-j-preserved c =
     record {
       so_far = kept_on c.loop-j.invariant.so_far c.false_row-k.auto.out c.false_row-k.ensures;
       onward = λ r o w. c.loop-j.invariant.onward r o
-          (as_rows (next_false a.marks.now a.values.now c.loop-j.j a.e.condition.to (guard_rows a.marks.now a.values.now a.e.guard)
+          (as_rows (next_false a.rows.now.marks.now a.rows.now.values.now c.loop-j.j a.e.condition.to (guard_rows a.rows.now.marks.now a.rows.now.values.now a.e.guard)
           (changed_rows a.e.change) c.loop-j.begun (search rules) (search rules))
           (then c.false_row-k.ensures w));
     }
@@ -41,6 +41,6 @@ pub returns : goal.returns
 returns c =
     let a = c.args in
     c.loop-j.invariant.onward c.close_effect.result _
-    (as_rows (last-false a.marks.now a.values.now c.loop-j.j a.e.condition.to (guard_rows a.marks.now a.values.now a.e.guard)
+    (as_rows (last-false a.rows.now.marks.now a.rows.now.values.now c.loop-j.j a.e.condition.to (guard_rows a.rows.now.marks.now a.rows.now.values.now a.e.guard)
     (changed_rows a.e.change) c.loop-j.begun (search rules))
     c.close_effect.ensures)

@@ -4,4 +4,4 @@ use Rattle.effects.proofs.FalseRows.{Falsified}
 use Rattle.effects.proofs.each_false.Given as goal
 
 abbrev pub invariant-loop-j : goal.invariant-loop-j
-invariant-loop-j l = Falsified l.initial.out l.initial.k (guard_rows l.marks l.values l.e.guard) (changed_rows l.e.change) l.marks l.values l.e.condition.from l.e.condition.to l.out l.begun l.k l.j
+invariant-loop-j l = Falsified l.initial.out l.initial.k (guard_rows l.rows.marks.now l.rows.values.now l.e.guard) (changed_rows l.e.change) l.rows.marks.now l.rows.values.now l.e.condition.from l.e.condition.to l.out l.begun l.k l.j

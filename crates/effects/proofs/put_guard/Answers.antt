@@ -11,7 +11,7 @@ use Rattle.effects.proofs.put_guard.Goals as goal
 pub copy_rows-requires : goal.copy_rows-requires
 copy_rows-requires c =
     let a = c.args in
-    let fits = subst (λ (g : Guard). guard_end g ≤ length a.marks.now) c.in-Rows.is (search rules) in
+    let fits = subst (λ (g : Guard). guard_end g ≤ length a.rows.now.marks.now) c.in-Rows.is (search rules) in
     search rules
 
 pub returns-in-Nothing : goal.returns-in-Nothing

@@ -15,12 +15,12 @@ shape_of-out-then-k-ge-OVERFULL c = c.loop-at.invariant.so_far.size
 pub returns-then-k-ge-OVERFULL : goal.returns-then-k-ge-OVERFULL
 returns-then-k-ge-OVERFULL c =
     let a = c.args in
-    tracked_full a.marks.now a.values.now a.last a.starts.now c.loop-at.invariant (search rules)
+    tracked_full a.rows.now.marks.now a.rows.now.values.now a.last a.starts.now c.loop-at.invariant (search rules)
 
 pub loop-at-preserved : goal.loop-at-preserved
 loop-at-preserved c =
     let a = c.args in
-    tracked_on a.marks.now a.values.now a.last a.starts.now c.loop-at.invariant (search rules)
+    tracked_on a.rows.now.marks.now a.rows.now.values.now a.last a.starts.now c.loop-at.invariant (search rules)
     c.trackers_at-k.auto.out c.trackers_at-k.ensures c.further_at-d.ensures
 
 pub shape_of-out : goal.shape_of-out
@@ -29,4 +29,4 @@ shape_of-out c = c.loop-at.invariant.so_far.size
 pub returns : goal.returns
 returns c =
     let a = c.args in
-    tracked_all a.marks.now a.values.now a.last a.starts.now c.loop-at.invariant (search rules)
+    tracked_all a.rows.now.marks.now a.rows.now.values.now a.last a.starts.now c.loop-at.invariant (search rules)

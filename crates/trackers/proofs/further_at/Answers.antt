@@ -6,12 +6,12 @@ use Rattle.classical.specs.Translation.{further_facts}
 use borrow.Author.Rules.{rules}
 use Rattle.trackers.proofs.further_at.Goals as goal
 
-pub returns-then-marks-at : goal.returns-then-marks-at
-returns-then-marks-at c =
+pub returns-then-rows-at : goal.returns-then-rows-at
+returns-then-rows-at c =
     let a = c.args in
-    (rw (le-leb (length a.marks.now) a.at (search rules)), search rules)
+    (rw (le-leb (length a.rows.now.marks.now) a.at (search rules)), search rules)
 
 pub returns : goal.returns
 returns c =
     let a = c.args in
-    (rw (lt-leb (length a.marks.now) a.at (search rules)) (c.further.ensures.0 ∙ ap further_facts c.kind_at.ensures.result_value), c.further.ensures.1)
+    (rw (lt-leb (length a.rows.now.marks.now) a.at (search rules)) (c.further.ensures.0 ∙ ap further_facts c.kind_at.ensures.result_value), c.further.ensures.1)

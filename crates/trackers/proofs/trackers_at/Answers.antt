@@ -14,16 +14,16 @@ use Rattle.writer.proofs.Putting.{as_rows, wrote_none}
 use borrow.Author.Rules.{rules}
 use Rattle.trackers.proofs.trackers_at.Goals as goal
 
-pub returns-then-marks-at : goal.returns-then-marks-at
-returns-then-marks-at c =
+pub returns-then-rows-at : goal.returns-then-rows-at
+returns-then-rows-at c =
     let a = c.args in
-    rw (le-leb (length a.marks.now) a.at (search rules)) (wrote_none (search rules))
+    rw (le-leb (length a.rows.now.marks.now) a.at (search rules)) (wrote_none (search rules))
 
 pub returns-then-mark-last : goal.returns-then-mark-last
 returns-then-mark-last c =
     let a = c.args in
-    let ms = a.marks.now in
-    let vs = a.values.now in
+    let ms = a.rows.now.marks.now in
+    let vs = a.rows.now.values.now in
     let p = sides_at ms a.at in
     rw (lt-leb (length ms) a.at (search rules))
     (as_rows (not_in_end _ (steps_at ms vs a.at) a.last a.f (part ms vs p.first) (part ms vs p.second)
@@ -32,5 +32,5 @@ returns-then-mark-last c =
 pub returns : goal.returns
 returns c =
     let a = c.args in
-    rw (lt-leb (length a.marks.now) a.at (search rules))
-    (as_rows (ap (λ (x : Sides). trackers_with a.marks.now a.values.now a.at x a.f a.last) c.locate-p.ensures.value) c.trackers_of.ensures)
+    rw (lt-leb (length a.rows.now.marks.now) a.at (search rules))
+    (as_rows (ap (λ (x : Sides). trackers_with a.rows.now.marks.now a.rows.now.values.now a.at x a.f a.last) c.locate-p.ensures.value) c.trackers_of.ensures)

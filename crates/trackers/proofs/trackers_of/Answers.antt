@@ -27,8 +27,8 @@ returns-in-15 c =
 pub returns-in-17 : goal.returns-in-17
 returns-in-17 c =
     let a = c.args in
-    let xs = part a.marks.now a.values.now a.p.first in
-    let ys = part a.marks.now a.values.now a.p.second in
+    let xs = part a.rows.now.marks.now a.rows.now.values.now a.p.first in
+    let ys = part a.rows.now.marks.now a.rows.now.values.now a.p.second in
     as_rows
     (ap (λ (n : ℕ). within_rows a.f n xs ys) c.steps_of-steps.ensures.0 ∙ by_within _ _ _ _ _ _ (sym c.soft_mark-mark.ensures ∙ c.in-17.is))
     c.within.ensures
@@ -36,8 +36,8 @@ returns-in-17 c =
 pub returns-in-18 : goal.returns-in-18
 returns-in-18 c =
     let a = c.args in
-    let xs = part a.marks.now a.values.now a.p.first in
-    let ys = part a.marks.now a.values.now a.p.second in
+    let xs = part a.rows.now.marks.now a.rows.now.values.now a.p.first in
+    let ys = part a.rows.now.marks.now a.rows.now.values.now a.p.second in
     as_rows
     (ap (λ (n : ℕ). soon_rows a.f n xs ys) c.steps_of-steps-in-18.ensures.0 ∙ by_soon _ _ _ _ _ _ (sym c.soft_mark-mark.ensures ∙ c.in-18.is))
     c.always_within.ensures

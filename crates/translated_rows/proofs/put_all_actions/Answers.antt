@@ -11,9 +11,9 @@ use Rattle.translated_rows.proofs.put_all_actions.Goals as goal
 pub returns : goal.returns
 returns c =
     let a = c.args in
-    let p = c.requires.2 in
-    let ms = a.marks.now in
-    let vs = a.values.now in
+    let p = c.requires.1 in
+    let ms = a.rows.now.marks.now in
+    let vs = a.rows.now.values.now in
     let qs = (read_task a.facts ms vs).preferences in
     then c.put_actions-k.ensures
     (then (as_rows (end_is ms vs a.facts a.s.from a.s.to a.normal a.starts.now p) c.put_end-k.ensures)

@@ -6,7 +6,7 @@ use Rattle.translated_rows.proofs.put_opening.Goals as goal
 
 pub put_all_closed-requires : goal.put_all_closed-requires
 put_all_closed-requires c =
-    (c.put_single-k.ensures.room, c.requires.3, omega (arith, c.requires.4))
+    (c.put_single-k.ensures.room, c.requires.2, omega (arith, c.requires.3))
 
 pub shape_of-out : goal.shape_of-out
 shape_of-out c =

@@ -10,14 +10,13 @@ put_all_actions-requires c =
     let a = c.args in
     let table = c.note_starts.new.starts in
     let P = a.z.preferences in
-    let long = length-take-le P table (omega (arith, c.requires.3.few_preferences, c.note_starts.auto.starts)) in (
+    let long = length-take-le P table (omega (arith, c.requires.2.few_preferences, c.note_starts.auto.starts)) in (
       c.put_opening-k.ensures.room,
-      c.requires.1,
-      placed a.marks.now a.values.now a.z.facts a.z.preferences a.p c.requires.3 c.requires.2 (take P table) c.note_starts.ensures long,
+      placed a.rows.now.marks.now a.rows.now.values.now a.z.facts a.z.preferences a.p c.requires.2 c.requires.1 (take P table) c.note_starts.ensures long,
     )
 
 pub returns : goal.returns
 returns c =
     let a = c.args in
-    task_wrote a.marks.now a.values.now a.z.facts a.z.preferences a.p c.requires.3 c.requires.2
+    task_wrote a.rows.now.marks.now a.rows.now.values.now a.z.facts a.z.preferences a.p c.requires.2 c.requires.1
     c.put_opening-k.ensures c.put_all_actions.ensures

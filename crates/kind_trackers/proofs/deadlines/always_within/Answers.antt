@@ -13,8 +13,8 @@ use Rattle.kind_trackers.proofs.deadlines.always_within.Goals as goal
 pub returns : goal.returns
 returns c =
     let a = c.args in
-    let xs = part a.marks.now a.values.now a.p.first in
-    let ys = part a.marks.now a.values.now a.p.second in
+    let xs = part a.rows.now.marks.now a.rows.now.values.now a.p.first in
+    let ys = part a.rows.now.marks.now a.rows.now.values.now a.p.second in
     then
     (as_rows (ap (λ (x : ℕ). false_rows xs (row ADD a.f.b ∷ row ADD x ∷ []) false ys) c.fact_d-first.ensures) c.each_false-k.ensures)
     (then c.put_waits-k.ensures c.put_reset.ensures)

@@ -13,5 +13,5 @@ use Rattle.kind_trackers.proofs.deadlines.put_wait.Goals as goal
 pub returns : goal.returns
 returns c =
     let a = c.args in
-    let ys = part a.marks.now a.values.now a.psi in
+    let ys = part a.rows.now.marks.now a.rows.now.values.now a.psi in
     as_rows (ap (λ (x : ℕ). false_rows (single_rows HOLDS (a.f.d + a.j)) (row ADD x ∷ []) false ys) c.fact_d-next.ensures) c.each_false.ensures

@@ -3,4 +3,4 @@ use Rattle.translated_rows.proofs.FurtherRows.{Counting}
 use Rattle.translated_rows.proofs.further.count.Given as goal
 
 abbrev pub invariant-loop-i : goal.invariant-loop-i
-invariant-loop-i l = Counting l.marks l.values l.at l.d l.i
+invariant-loop-i l = Counting l.rows.marks.now l.rows.values.now l.at l.d l.i

@@ -5,7 +5,7 @@ use Rattle.translated_rows.proofs.parts.put_end.Goals as goal
 
 pub all_trackers-requires : goal.all_trackers-requires
 all_trackers-requires c =
-    (c.put_row-k-4.ensures.room, c.requires.1, c.requires.2)
+    (c.put_row-k-4.ensures.room, c.requires.1)
 
 pub shape_of-out : goal.shape_of-out
 shape_of-out c =

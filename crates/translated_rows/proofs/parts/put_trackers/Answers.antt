@@ -11,4 +11,4 @@ repeat_rows-requires c =
 pub returns-then-t : goal.returns-then-t
 returns-then-t c =
     let a = c.args in
-    c.repeat_rows.ensures (trackers_by a.marks.now a.values.now a.starts.now a.facts false) (c.requires.before.held c.if-t.true)
+    c.repeat_rows.ensures (trackers_by a.rows.now.marks.now a.rows.now.values.now a.starts.now a.facts false) (c.requires.before.held c.if-t.true)
