@@ -3,7 +3,6 @@
 
 ghost use Rattle.std.specs.Prelude.{◌≡◌};
 ghost use Rattle.meaning.specs.Task.{Task};
-ghost use Rattle.task.specs.Rows.{Rows};
 ghost use Rattle.state.specs.Member.{member};
 ghost use Rattle.reading.specs.Conditions.{begin, evaluate_at};
 ghost use Rattle.searching.specs.Limits.{NodeLimit};
@@ -18,6 +17,7 @@ use meeting::Index;
 use node_words;
 use reading::conditions;
 use tournament;
+use task::rows::Rows;
 
 // Found has the place that meets the goal; each has the number of nodes.
 #[derive(Clone, Copy)]
@@ -28,18 +28,17 @@ pub enum Ended {
 }
 
 // Whether the node at place p meets the goal, whose condition stands from row `goal` on.
-fn meets_goal(marks: &[u8], values: &[u8], goal: usize, words: &[u64], p: usize) -> bool
-    requires { Rows marks.now values.now × Placed words.now p }
-    ensures { result ≡ (evaluate_at (member (state_of (packed_at words.now p))) begin marks.now values.now goal).holds }
+fn meets_goal(rows: &Rows, goal: usize, words: &[u64], p: usize) -> bool
+    requires { Placed words.now p }
+    ensures { result ≡ (evaluate_at (member (state_of (packed_at words.now p))) begin rows.now.marks.now rows.now.values.now goal).holds }
 {
-    let g = conditions::condition(marks, values, goal, node_words::state_at(words, p));
+    let g = conditions::condition(rows, goal, node_words::state_at(words, p));
     g.holds
 }
 
 // Takes place after place, from the opening node on.
 pub fn explore(
-    marks: &[u8],
-    values: &[u8],
+    rows: &Rows,
     starts: &[usize],
     goal: usize,
     limit: usize,
@@ -47,8 +46,8 @@ pub fn explore(
     index: &mut Index,
 ) -> Ended
     requires node_limit { NodeLimit limit }
-    requires listed { (t : Task) × Listed marks.now values.now starts.now t × Opened goal words.old index.old.table index.old.tree t }
-    ensures { (t : Task) → Listed marks.now values.now starts.now t
+    requires listed { (t : Task) × Listed rows.now.marks.now rows.now.values.now starts.now t × Opened goal words.old index.old.table index.old.tree t }
+    ensures { (t : Task) → Listed rows.now.marks.now rows.now.values.now starts.now t
         → Opened goal words.old index.old.table index.old.tree t → as_answer words.new result ≡ Search.explore t limit }
 {
     let mut n = 1;
@@ -56,7 +55,7 @@ pub fn explore(
         let Some(place) = node_words::place_of(index.tree[1]) else {
             return Ended::NoPlan(n);
         };
-        if meets_goal(marks, values, goal, &*words, place) {
+        if meets_goal(rows, goal, &*words, place) {
             return Ended::Found(place, n);
         }
         tournament::set_leaf(&mut index.tree, &*words, place, false);
@@ -65,7 +64,7 @@ pub fn explore(
             nodes: n,
             limit,
         };
-        let Some(more) = expanding::expand(marks, values, starts, turn, &mut *words, &mut *index) else {
+        let Some(more) = expanding::expand(rows, starts, turn, &mut *words, &mut *index) else {
             return Ended::Full(limit);
         };
         n = more;

@@ -17,6 +17,7 @@ use node_words::limits;
 use origins;
 use task::Refusal;
 use task::refused::Cause;
+use task::rows::rows_of;
 
 // How many steps a plan has, and what it costs.
 #[derive(Clone, Copy)]
@@ -74,7 +75,6 @@ pub fn find(
     if !((1 <= limit) & (limit <= limits::MAX_NODES) & (limit <= room)) {
         return Err(Cause::Limit.at(0));
     }
-    let middle = 8 + z.rows;
-    let e = run::on_rows(&file[8..middle], &file[middle..], limit, &mut *words);
+    let e = run::on_rows(&rows_of(file, z.rows), limit, &mut *words);
     Ok(deliver(&*words, e, &mut *plan))
 }

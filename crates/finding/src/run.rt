@@ -2,7 +2,6 @@
 ghost use Rattle.std.specs.Prelude.{◌≡◌, ◌≤◌, length};
 ghost use Rattle.meaning.specs.Task.{Task};
 ghost use Rattle.task.specs.Limits.{MAX_ACTIONS};
-ghost use Rattle.task.specs.Rows.{Rows};
 ghost use Rattle.layout.specs.Rows.{Spells, Spelled};
 ghost use Rattle.layout.specs.Actions.{actions_from};
 ghost use Rattle.searching.specs.Limits.{NodeLimit};
@@ -20,18 +19,19 @@ use reading::opening;
 use state_table;
 use task::limits;
 use tournament;
+use task::rows::Rows;
 
 // Searches the task that the rows spell. The opening node is met as any other, by a table and a tree that hold none.
-pub fn on_rows(marks: &[u8], values: &[u8], limit: usize, words: &mut [u64]) -> Ended
-    requires rows { Rows marks.now values.now × Spelled marks.now values.now × (length (actions_from 0 marks.now) ≤ MAX_ACTIONS) }
+pub fn on_rows(rows: &Rows, limit: usize, words: &mut [u64]) -> Ended
+    requires rows { Spelled rows.now.marks.now rows.now.values.now × (length (actions_from 0 rows.now.marks.now) ≤ MAX_ACTIONS) }
     requires node_limit { NodeLimit limit × (length words.old ≡ LIST_WORDS) }
-    ensures { (t : Task) → Spells marks.now values.now t → as_answer words.new result ≡ Search.explore t limit }
+    ensures { (t : Task) → Spells rows.now.marks.now rows.now.values.now t → as_answer words.new result ≡ Search.explore t limit }
 {
-    let start = opening::opening(marks, values);
+    let start = opening::opening(rows);
     let goal = start.next + 1;
     let s = start.state;
     let mut starts: [usize; limits::MAX_ACTIONS] = [0; limits::MAX_ACTIONS];
-    let many = actions::note_actions(marks, &mut starts);
+    let many = actions::note_actions(rows.marks, &mut starts);
     let mut index = Index {
         table: [0; state_table::SLOTS],
         tree: [0; tournament::ENTRIES],
@@ -44,8 +44,7 @@ pub fn on_rows(marks: &[u8], values: &[u8], limit: usize, words: &mut [u64]) -> 
     };
     meeting::meet(&mut *words, &mut index, 0, limit, x);
     exploring::explore(
-        marks,
-        values,
+        rows,
         &starts[0..many],
         goal,
         limit,

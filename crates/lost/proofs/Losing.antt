@@ -10,12 +10,12 @@ use borrow.Author.Tests.{le-leb, lt-leb}
 use Rattle.lists.specs.Lists.{all}
 use Rattle.lists.proofs.Tests.{as_true}
 use Rattle.meaning.specs.Task.{Task}
-use Rattle.task.specs.File.{Sizes, task_of}
+use Rattle.task.specs.File.{Sizes, task_of, marks_of, values_of}
 use Rattle.task.specs.Check
 use Rattle.task.specs.Check.{check}
 use Rattle.task.proofs.Spelled.{Spelling, accepted_spelling}
 use Rattle.layout.specs.Actions.{actions_from}
-use Rattle.layout.proofs.Parts.{marks_of, values_of, parts_spelled}
+use Rattle.layout.proofs.Parts.{parts_spelled}
 use Rattle.layout.proofs.ActionRows.{as_many}
 use Rattle.plan.specs.Judged.{steps_known}
 use Rattle.plan.proofs.Walking.{all_known, not-all_known}
@@ -55,10 +55,10 @@ module _ (b p : List ℕ) (z : Sizes) (e : measured b ≡ within z) where
 
     module _ (h : length p ≤ steps_known (translated_actions z) p) where
       abbrev ms : List ℕ
-      ms = marks_of b z
+      ms = marks_of b z.rows
 
       abbrev vs : List ℕ
-      vs = values_of b z
+      vs = values_of b z.rows
 
       spelling : Spelling b z
       spelling = accepted_spelling b z accepted

@@ -10,6 +10,7 @@ ghost use Rattle.lost.specs.Answers.{losses_as};
 
 use lost_run::Run;
 use task::refused::Cause;
+use task::rows::rows_of;
 use task::{Refusal, Sizes, limits};
 use translation::measures;
 
@@ -26,8 +27,7 @@ fn lost_within(file: &[u8], z: Sizes, steps: &[u8]) -> Result<Run, Refusal>
     if known < steps.len() {
         return Err(Cause::Step.at(known as u16));
     }
-    let middle = 8 + z.rows;
-    Ok(lost_run::run_list(&file[8..middle], &file[middle..], z.preferences, steps))
+    Ok(lost_run::run_list(&rows_of(file, z.rows), z.preferences, steps))
 }
 
 // The cost so far and the lost weights after a list of translated actions of the task in a file, one byte an action.

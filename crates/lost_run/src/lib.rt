@@ -6,7 +6,6 @@ mod taking;
 
 ghost use Rattle.std.specs.Prelude.{◌≤◌, length};
 ghost use Rattle.meaning.specs.Task.{Task};
-ghost use Rattle.task.specs.Rows.{Rows};
 ghost use Rattle.task.specs.Limits.{MAX_ACTIONS, MAX_STEPS};
 ghost use Rattle.layout.specs.Actions.{actions_from, AllBelow};
 ghost use Rattle.plan.specs.Steps.{AllFresh};
@@ -18,6 +17,7 @@ use reading::opening;
 use state::State;
 use taking::Place;
 use task::limits;
+use task::rows::Rows;
 
 // The cost so far and the lost weights.
 #[derive(Clone, Copy)]
@@ -36,8 +36,7 @@ pub enum Run {
 // What a list comes to, from the opening state on, by fresh monitors. `starts` has the rows of the actions, `rules` those of the rules,
 // the first of which is row `at`.
 fn follow(
-    marks: &[u8],
-    values: &[u8],
+    rows: &Rows,
     at: usize,
     starts: &[usize],
     rules: &[usize],
@@ -45,9 +44,9 @@ fn follow(
     list: &[u8],
     ms: &mut [u8],
 ) -> Run
-    requires rows { Rows marks.now values.now × (length list.now ≤ MAX_STEPS) × AllFresh ms.old }
-    requires all_below { AllBelow (length marks.now) starts.now × ((t : Task) × Setting marks.now values.now at starts.now rules.now t × Opens s t) }
-    ensures { (t : Task) → Setting marks.now values.now at starts.now rules.now t
+    requires rows { (length list.now ≤ MAX_STEPS) × AllFresh ms.old }
+    requires all_below { AllBelow (length rows.now.marks.now) starts.now × ((t : Task) × Setting rows.now.marks.now rows.now.values.now at starts.now rules.now t × Opens s t) }
+    ensures { (t : Task) → Setting rows.now.marks.now rows.now.values.now at starts.now rules.now t
         → Opens s t → RunAs t list.now result }
 {
     let mut p = Place {
@@ -58,8 +57,7 @@ fn follow(
     };
     for i in 0..list.len() {
         let taken = taking::take(
-            marks,
-            values,
+            rows,
             at,
             starts,
             rules,
@@ -78,26 +76,25 @@ fn follow(
     }
     Run::Made(Amounts {
         cost: p.cost,
-        lost: rules::lost(marks, values, rules, p.closed, &*ms),
+        lost: rules::lost(rows, rules, p.closed, &*ms),
     })
 }
 
 // What a list comes to on the task that the rows spell, with so many rules.
-pub fn run_list(marks: &[u8], values: &[u8], many: usize, list: &[u8]) -> Run
-    requires rows { Rows marks.now values.now × (length list.now ≤ MAX_STEPS) × (length (actions_from 0 marks.now) ≤ MAX_ACTIONS) }
-    requires source { (t : Task) × Source marks.now values.now many t }
-    ensures { (t : Task) → Source marks.now values.now many t → RunAs t list.now result }
+pub fn run_list(rows: &Rows, many: usize, list: &[u8]) -> Run
+    requires rows { (length list.now ≤ MAX_STEPS) × (length (actions_from 0 rows.now.marks.now) ≤ MAX_ACTIONS) }
+    requires source { (t : Task) × Source rows.now.marks.now rows.now.values.now many t }
+    ensures { (t : Task) → Source rows.now.marks.now rows.now.values.now many t → RunAs t list.now result }
 {
-    let start = opening::opening(marks, values);
-    let at = actions::first_preference(marks);
+    let start = opening::opening(rows);
+    let at = actions::first_preference(rows.marks);
     let mut starts: [usize; limits::MAX_ACTIONS] = [0; limits::MAX_ACTIONS];
-    let acting = actions::note_actions(marks, &mut starts);
+    let acting = actions::note_actions(rows.marks, &mut starts);
     let mut table: [usize; limits::MAX_PREFERENCES] = [0; limits::MAX_PREFERENCES];
-    sides::note_starts(marks, at, many, &mut table);
+    sides::note_starts(rows.marks, at, many, &mut table);
     let mut ms: [u8; limits::MAX_PREFERENCES] = [0; limits::MAX_PREFERENCES];
     follow(
-        marks,
-        values,
+        rows,
         at,
         &starts[0..acting],
         &table[0..many],

@@ -2,7 +2,6 @@
 ghost use Rattle.std.specs.Prelude.{◌≡◌, ◌<◌, length};
 ghost use Rattle.meaning.specs.Task.{Task, Preference};
 ghost use Rattle.task.specs.Answers.{as_kind};
-ghost use Rattle.task.specs.Rows.{Rows};
 ghost use Rattle.task.specs.Limits.{MAX_PREFERENCES};
 ghost use Rattle.monitor.specs.Packed.{monitor_at};
 ghost use Rattle.losses.specs.Losses.{shows};
@@ -11,7 +10,8 @@ ghost use Rattle.lost_run.specs.Run.{RuleAt, SeenBy, lost_of, SomeRules, Rules, 
 
 use monitor::Monitor;
 use task::kinds::Kind;
-use task::{kinds, rows};
+use task::kinds;
+use task::rows::Rows;
 
 // A rule with its monitor: whether it is met, and whether it is shown broken.
 #[derive(Clone, Copy)]
@@ -39,15 +39,15 @@ fn is_broken(kind: Kind, m: Monitor) -> bool
 }
 
 // Rule k, which row `from` opens.
-pub fn rule_at(marks: &[u8], values: &[u8], from: usize, k: usize, ms: &[u8]) -> Rule
-    requires { Rows marks.now values.now × (from < length marks.now) × (k < MAX_PREFERENCES) }
-    ensures { (q : Preference) → RuleAt marks.now values.now from q → SeenBy q (monitor_at ms.now k) result }
+pub fn rule_at(rows: &Rows, from: usize, k: usize, ms: &[u8]) -> Rule
+    requires { (from < length rows.now.marks.now) × (k < MAX_PREFERENCES) }
+    ensures { (q : Preference) → RuleAt rows.now.marks.now rows.now.values.now from q → SeenBy q (monitor_at ms.now k) result }
 {
-    let kind = kinds::kind_at(marks, values, from);
+    let kind = kinds::kind_at(rows, from);
     let m = monitor::monitor_at(ms, k as u32);
     Rule {
-        hard: task::opens_hard(marks[from]),
-        weight: rows::value_at(values, from),
+        hard: task::opens_hard(rows.marks[from]),
+        weight: rows.value(from),
         met: monitor::is_accepting(kind, m),
         broken: is_broken(kind, m),
     }
@@ -65,14 +65,14 @@ fn lost_of(r: Rule, due: bool) -> u64
 }
 
 // The weights of the rules that are lost, so many being closed.
-pub fn lost(marks: &[u8], values: &[u8], rules: &[usize], closed: usize, ms: &[u8]) -> u64
-    requires { Rows marks.now values.now × SomeRules marks.now values.now rules.now }
-    ensures { (t : Task) (p : Position) → Rules marks.now values.now rules.now t
+pub fn lost(rows: &Rows, rules: &[usize], closed: usize, ms: &[u8]) -> u64
+    requires { SomeRules rows.now.marks.now rows.now.values.now rules.now }
+    ensures { (t : Task) (p : Position) → Rules rows.now.marks.now rows.now.values.now rules.now t
         → Kept t ms.now closed p → result ≡ lost_here t p }
 {
     let mut sum = 0;
     for k in 0..rules.len() {
-        let r = rule_at(marks, values, rules[k], k, ms);
+        let r = rule_at(rows, rules[k], k, ms);
         sum += lost_of(r, closed <= k);
     }
     sum

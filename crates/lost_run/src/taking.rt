@@ -1,7 +1,6 @@
 // One action of a list: a source action, end, or the action that closes the next rule.
 ghost use Rattle.std.specs.Prelude.{◌≡◌, cond, ℕ, ◌+◌, ◌*◌, ◌≤◌, ◌<◌, length};
 ghost use Rattle.meaning.specs.Task.{Task};
-ghost use Rattle.task.specs.Rows.{Rows};
 ghost use Rattle.task.specs.Limits.{MAX_ACTIONS, MAX_PREFERENCES};
 ghost use Rattle.layout.specs.Actions.{AllBelow, ActionAt, SomeAction};
 ghost use Rattle.layout.specs.Counting.{AMPLE};
@@ -12,6 +11,7 @@ use super::rules;
 use super::rules::Rule;
 use plan::steps;
 use state::State;
+use task::rows::Rows;
 
 // Where a list has come to: the source's state, the cost so far, whether end is still to come, and how many rules are closed.
 #[derive(Clone, Copy)]
@@ -23,16 +23,15 @@ pub struct Place {
 }
 
 // The place after the source action that row `from` opens, where it applies.
-fn step(marks: &[u8], values: &[u8], from: usize, p: Place) -> Option<Place>
-    requires rows { Rows marks.now values.now × (from < length marks.now) × (p.cost < AMPLE) }
-    requires some_action { SomeAction marks.now values.now from }
+fn step(rows: &Rows, from: usize, p: Place) -> Option<Place>
+    requires rows { (from < length rows.now.marks.now) × (p.cost < AMPLE) }
+    requires some_action { SomeAction rows.now.marks.now rows.now.values.now from }
     ensures little { Little p result }
-    ensures stepped_as { (t : Task) (k : ℕ) → ActionAt marks.now values.now from t k → SteppedAs t k p result }
+    ensures stepped_as { (t : Task) (k : ℕ) → ActionAt rows.now.marks.now rows.now.values.now from t k → SteppedAs t k p result }
 {
     let state = p.state;
     let moved = steps::step(
-        marks,
-        values,
+        rows,
         from,
         steps::Position {
             low: state.low,
@@ -98,31 +97,29 @@ fn close(x: Rule, actions: usize, j: usize, p: Place) -> Option<Place>
 
 // Action j after the end, which has seen the last state: only one that closes the next rule goes.
 fn close_next(
-    marks: &[u8],
-    values: &[u8],
+    rows: &Rows,
     rules: &[usize],
     actions: usize,
     j: usize,
     p: Place,
     ms: &[u8],
 ) -> Option<Place>
-    requires { Rows marks.now values.now × SomeRules marks.now values.now rules.now × Payable actions p }
+    requires { SomeRules rows.now.marks.now rows.now.values.now rules.now × Payable actions p }
     ensures little { Little p result }
-    ensures taken_as { (t : Task) (q : Position) → Rules marks.now values.now rules.now t
+    ensures taken_as { (t : Task) (q : Position) → Rules rows.now.marks.now rows.now.values.now rules.now t
         → Ended t ms.now actions p q → TakenAs t ms.now q j result }
 {
     let k = p.closed;
     if rules.len() <= k {
         return None;
     }
-    let x = rules::rule_at(marks, values, rules[k], k, ms);
+    let x = rules::rule_at(rows, rules[k], k, ms);
     close(x, actions, j, p)
 }
 
 // Action j, where it applies. `starts` has the rows of the source's actions, `rules` those of its rules, the first of which is row `at`.
 pub fn take(
-    marks: &[u8],
-    values: &[u8],
+    rows: &Rows,
     at: usize,
     starts: &[usize],
     rules: &[usize],
@@ -130,21 +127,21 @@ pub fn take(
     p: Place,
     ms: &mut [u8],
 ) -> Option<Place>
-    requires rows { Rows marks.now values.now × (length ms.old ≡ MAX_PREFERENCES) × (p.cost < AMPLE) × AllBelow (length marks.now) starts.now }
-    requires setting { (t : Task) × Setting marks.now values.now at starts.now rules.now t }
+    requires rows { (length ms.old ≡ MAX_PREFERENCES) × (p.cost < AMPLE) × AllBelow (length rows.now.marks.now) starts.now }
+    requires setting { (t : Task) × Setting rows.now.marks.now rows.now.values.now at starts.now rules.now t }
     ensures little { Little p result }
-    ensures taken_as { (t : Task) (q : Position) → Setting marks.now values.now at starts.now rules.now t
+    ensures taken_as { (t : Task) (q : Position) → Setting rows.now.marks.now rows.now.values.now at starts.now rules.now t
         → Stands t ms.old p q → TakenAs t ms.new q j result }
 {
     let actions = starts.len();
     if !p.running {
-        return close_next(marks, values, rules, actions, j, p, &*ms);
+        return close_next(rows, rules, actions, j, p, &*ms);
     }
     if actions < j {
         return None;
     }
     let state = p.state;
-    let _ = monitors::watch(marks, values, at, state, j == actions, &mut *ms);
+    let _ = monitors::watch(rows, at, state, j == actions, &mut *ms);
     if j == actions {
         return Some(Place {
             state,
@@ -153,5 +150,5 @@ pub fn take(
             closed: p.closed,
         });
     }
-    step(marks, values, starts[j], p)
+    step(rows, starts[j], p)
 }

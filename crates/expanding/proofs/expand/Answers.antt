@@ -54,7 +54,7 @@ module _ (c : After-try_action) where
 
   -- what it gave, where r nodes were wanted
   gave : (r : ℕ) → wanted c.args.turn.limit c.try_action.result ≡ r → let a = c.args in let l = c.loop-k in
-      (t : Task) (taken : ℕ → Bool) → Listed a.marks.now a.values.now a.starts.now t
+      (t : Task) (taken : ℕ → Bool) → Listed a.rows.now.marks.now a.rows.now.values.now a.starts.now t
       → Expanding a.turn (nodes_in a.words.now a.index.now.table a.index.now.tree a.turn.nodes taken) t
       → Tried z (packed_at a.words.now a.turn.place) (nodes_in l.words l.index.table l.index.tree l.n taken) (after r taken) t l.k
   gave r e t taken L E =

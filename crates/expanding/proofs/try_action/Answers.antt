@@ -26,8 +26,8 @@ returns c = record {
 
 pub lead-requires : goal.lead-requires
 lead-requires c = record {
-  rows = (c.requires.rows.0, c.requires.rows.1, c.requires.by_index.1.ample);
-  some_action = c.requires.rows.2;
+  rows = (c.args.rows.now.fit, c.requires.rows.0, c.requires.by_index.1.ample);
+  some_action = c.requires.rows.1;
 }
 
 pub meet-requires : goal.meet-requires

@@ -30,7 +30,7 @@ module _ (c : In-Some) where
   i = c.in-Some.place
 
   abbrev Rowed : Task → Type 0
-  Rowed = Listed c.args.marks.now c.args.values.now c.args.starts.now
+  Rowed = Listed c.args.rows.now.marks.now c.args.rows.now.values.now c.args.starts.now
 
   abbrev Begun : Task → Type 0
   Begun = Opened c.args.goal c.args.words.now c.args.index.now.table c.args.index.now.tree
@@ -65,7 +65,7 @@ meets_goal-requires c = (c.requires.listed.1.rows, placed (goal.at.meets_goal-re
 
 -- what the goal's condition says of the place that is taken
 goal_says : (c : After-meets_goal) → let a = c.args in
-    (t : Task) → Listed a.marks.now a.values.now a.starts.now t → Opened a.goal a.words.now a.index.now.table a.index.now.tree t
+    (t : Task) → Listed a.rows.now.marks.now a.rows.now.values.now a.starts.now t → Opened a.goal a.words.now a.index.now.table a.index.now.tree t
     → (b : Bool) → c.meets_goal.result ≡ b → is_true (member (state_of (packed_at c.loop-turn.words c.in-Some.place))) t.goal ≡ b
 goal_says c t L O b e = sym (goal_is L O c.loop-turn.words c.in-Some.place) ∙ sym c.meets_goal.ensures ∙ e
 
@@ -85,7 +85,7 @@ set_leaf-requires c =
     }
 
 -- its leaf has been closed
-module _ (c : After-set_leaf) (t : Task) (L : Listed c.args.marks.now c.args.values.now c.args.starts.now t)
+module _ (c : After-set_leaf) (t : Task) (L : Listed c.args.rows.now.marks.now c.args.rows.now.values.now c.args.starts.now t)
     (O : Opened c.args.goal c.args.words.now c.args.index.now.table c.args.index.now.tree t) where
   abbrev turn_taken : ℕ → Bool
   turn_taken = (c.loop-turn.invariant t L O).0

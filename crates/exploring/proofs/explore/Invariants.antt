@@ -10,5 +10,5 @@ use Rattle.exploring.proofs.explore.Given as goal
 
 abbrev pub invariant-loop-turn : goal.invariant-loop-turn
 invariant-loop-turn l =
-    (t : Task) → Listed l.marks l.values l.starts t → Opened l.goal l.initial.words l.initial.index.table l.initial.index.tree t
+    (t : Task) → Listed l.rows.marks.now l.rows.values.now l.starts t → Opened l.goal l.initial.words l.initial.index.table l.initial.index.tree t
     → (taken : ℕ → Bool) × Turning t l.limit l._turn (nodes_in l.words l.index.table l.index.tree l.n taken)

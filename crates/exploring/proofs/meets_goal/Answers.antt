@@ -10,4 +10,4 @@ pub returns : goal.returns
 returns c =
     let a = c.args in
     ap (λ (e : Evaluated). e.holds) c.condition-g.ensures.value
-    ∙ ap (λ (s : State). (evaluate_at (member s) begin a.marks.now a.values.now a.goal).holds) c.state_at.ensures
+    ∙ ap (λ (s : State). (evaluate_at (member s) begin a.rows.now.marks.now a.rows.now.values.now a.goal).holds) c.state_at.ensures

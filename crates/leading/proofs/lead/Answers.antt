@@ -16,15 +16,15 @@ use Rattle.leading.proofs.lead.Goals.{After-condition-pre}
 
 -- the condition, read in the state of x
 read : (c : After-condition-pre) → let a = c.args in
-    c.condition-pre.result ≡ evaluate_at (member (state_of a.x)) begin a.marks.now a.values.now (a.from + 1)
+    c.condition-pre.result ≡ evaluate_at (member (state_of a.x)) begin a.rows.now.marks.now a.rows.now.values.now (a.from + 1)
 read c =
     let a = c.args in
-    c.condition-pre.ensures.value ∙ ap (λ (s : State). evaluate_at (member s) begin a.marks.now a.values.now (a.from + 1)) c.state-s.ensures
+    c.condition-pre.ensures.value ∙ ap (λ (s : State). evaluate_at (member s) begin a.rows.now.marks.now a.rows.now.values.now (a.from + 1)) c.state-s.ensures
 
 pub returns-then-not-pre : goal.returns-then-not-pre
 returns-then-not-pre c = λ t k A.
     let a = c.args in
-    nowhere a.marks.now a.values.now a.from t k A a.x c.condition-pre.result (read (goal.at.returns-then-not-pre c).After-condition-pre)
+    nowhere a.rows.now.marks.now a.rows.now.values.now a.from t k A a.x c.condition-pre.result (read (goal.at.returns-then-not-pre c).After-condition-pre)
     (not-true _ c.if-not-pre.true)
 
 pub after-next-requires : goal.after-next-requires
@@ -32,12 +32,12 @@ after-next-requires c =
     let a = c.args in
     let t = c.requires.some_action.0 in
     let k = c.requires.some_action.1 in
-    (search rules, (action_at t k, its_effects a.marks.now a.values.now a.from t k c.requires.some_action.2 (member c.state-s.result) c.condition-pre.result c.condition-pre.ensures.value))
+    (action_at t k, its_effects a.rows.now.marks.now a.rows.now.values.now a.from t k c.requires.some_action.2 (member c.state-s.result) c.condition-pre.result c.condition-pre.ensures.value)
 
 pub returns : goal.returns
 returns c = λ t k A.
     let a = c.args in
-    led_to a.marks.now a.values.now a.from t k A a.x c.condition-pre.result (read (goal.at.returns c).After-condition-pre) (not-false _ c.if-not-pre.false)
+    led_to a.rows.now.marks.now a.rows.now.values.now a.from t k A a.x c.condition-pre.result (read (goal.at.returns c).After-condition-pre) (not-false _ c.if-not-pre.false)
     c.after-next.result
-    (subst (λ (s : State). Changes (member s) a.marks.now a.values.now c.condition-pre.result.next c.after-next.result) c.state-s.ensures c.after-next.ensures.0)
-    (a.x.cost + c.value_at.result) a.link c.requires.rows.1 (ap (λ (y : ℕ). a.x.cost + y) c.value_at.ensures)
+    (subst (λ (s : State). Changes (member s) a.rows.now.marks.now a.rows.now.values.now c.condition-pre.result.next c.after-next.result) c.state-s.ensures c.after-next.ensures.0)
+    (a.x.cost + c.value.result) a.link c.requires.rows.0 (ap (λ (y : ℕ). a.x.cost + y) c.value.ensures)

@@ -6,8 +6,7 @@ use native.Mathlib.Omega.{arith}
 use Rattle.task.specs.File.{task_of}
 use Rattle.task.specs.Answers.{as_sizes}
 use Rattle.task.specs.Limits.{MAX_ACTIONS}
-use Rattle.task.proofs.Answered.{Limited, limited}
-use Rattle.layout.proofs.Parts.{parts_rows}
+use Rattle.task.proofs.Answered.{Limited, limited, has_rows}
 use Rattle.lost_run.specs.Run.{run_as}
 use Rattle.lost.specs.Answered.{refused}
 use Rattle.lost.proofs.Losing.{accepted, few_actions, too_long, unknown, source, actions_fit, run_on}
@@ -43,28 +42,22 @@ returns-then-known-steps c =
     ∙ unknown c.args.file.now c.args.steps.now (as_sizes c.args.z) c.requires (search rules)
     (omega (arith, c.if-known-steps.true, c.steps_known-known.ensures)))
 
-pub overflow_add-middle : goal.overflow_add-middle
-overflow_add-middle c = let h = parts (goal.at.overflow_add-middle c).Else-steps-gt-MAX_STEPS in search rules
-
-pub slice_bounds-run_list-end : goal.slice_bounds-run_list-end
-slice_bounds-run_list-end c = let h = parts (goal.at.slice_bounds-run_list-end c).Else-steps-gt-MAX_STEPS in search rules
-
-pub slice_bounds-run_list-count-2 : goal.slice_bounds-run_list-count-2
-slice_bounds-run_list-count-2 c = let h = parts (goal.at.slice_bounds-run_list-count-2 c).Else-steps-gt-MAX_STEPS in search rules
-
-pub slice_bounds-run_list-start-2 : goal.slice_bounds-run_list-start-2
-slice_bounds-run_list-start-2 c = let h = parts (goal.at.slice_bounds-run_list-start-2 c).Else-steps-gt-MAX_STEPS in search rules
+pub rows_of-requires : goal.rows_of-requires
+rows_of-requires c =
+    let a = c.args in
+    has_rows a.file.now (as_sizes a.z) (accepted a.file.now a.steps.now (as_sizes a.z) c.requires)
 
 pub run_list-requires : goal.run_list-requires
 run_list-requires c =
     let file = c.args.file.now in
     let steps = c.args.steps.now in
     let z = as_sizes c.args.z in record {
-      rows = (parts_rows file z (accepted file steps z c.requires), search rules, actions_fit file steps z c.requires (search rules) (omega (arith, c.if-known-steps.false, c.steps_known-known.ensures)));
-      source = (task_of file, source file steps z c.requires (search rules) (omega (arith, c.if-known-steps.false, c.steps_known-known.ensures)));
+      rows = (search rules, rw c.rows_of.ensures.marks (actions_fit file steps z c.requires (search rules) (omega (arith, c.if-known-steps.false, c.steps_known-known.ensures))));
+      source = (task_of file, rw (c.rows_of.ensures.marks, c.rows_of.ensures.values)
+          (source file steps z c.requires (search rules) (omega (arith, c.if-known-steps.false, c.steps_known-known.ensures))));
     }
 
 pub returns : goal.returns
 returns c =
     run_on c.args.file.now c.args.steps.now (as_sizes c.args.z) c.requires (search rules) (omega (arith, c.if-known-steps.false, c.steps_known-known.ensures))
-    (run_as c.run_list.result) c.run_list.ensures
+    (run_as c.run_list.result) (rw (c.rows_of.ensures.marks, c.rows_of.ensures.values) at c.run_list.ensures)

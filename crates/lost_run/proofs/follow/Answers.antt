@@ -12,21 +12,21 @@ loop-i-init c =
     record {
       actions_left = search rules;
       little = search rules;
-      all_there = c.requires.rows.2.sixteen;
-      on = λ t B. begins t c.args.list.now c.args.s c.args.ms.now B.1 c.requires.rows.2.seen_none;
+      all_there = c.requires.rows.1.sixteen;
+      on = λ t B. begins t c.args.list.now c.args.s c.args.ms.now B.1 c.requires.rows.1.seen_none;
     }
 
 pub take-taken-requires : goal.take-taken-requires
 take-taken-requires c =
-    let cost : c.loop-i.p.cost < AMPLE = omega (arith, c.loop-i.invariant.little, c.requires.rows.1, c.loop-i-test) in
+    let cost : c.loop-i.p.cost < AMPLE = omega (arith, c.loop-i.invariant.little, c.requires.rows.0, c.loop-i-test) in
     record {
-      rows = (c.requires.rows.0, c.loop-i.invariant.all_there, cost, c.requires.all_below.0);
+      rows = (c.loop-i.invariant.all_there, cost, c.requires.all_below.0);
       setting = (c.requires.all_below.1.0, c.requires.all_below.1.1);
     }
 
 pub shape_of-ms-in-None : goal.shape_of-ms-in-None
 shape_of-ms-in-None c =
-    c.take-taken.auto.ms ∙ c.loop-i.invariant.all_there ∙ sym c.requires.rows.2.sixteen
+    c.take-taken.auto.ms ∙ c.loop-i.invariant.all_there ∙ sym c.requires.rows.1.sixteen
 
 pub returns-in-None : goal.returns-in-None
 returns-in-None c = λ t G O.
@@ -53,11 +53,11 @@ loop-i-preserved c =
 
 pub lost-requires : goal.lost-requires
 lost-requires c =
-    (c.requires.rows.0, (c.requires.all_below.1.0, c.requires.all_below.1.1.all_rules))
+    (c.requires.all_below.1.0, c.requires.all_below.1.1.all_rules)
 
 pub shape_of-ms : goal.shape_of-ms
 shape_of-ms c =
-    c.loop-i.invariant.all_there ∙ sym c.requires.rows.2.sixteen
+    c.loop-i.invariant.all_there ∙ sym c.requires.rows.1.sixteen
 
 pub returns : goal.returns
 returns c = λ t G O.

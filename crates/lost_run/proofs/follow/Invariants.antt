@@ -6,4 +6,4 @@ use Rattle.lost_run.proofs.follow.Given as goal
 
 abbrev pub invariant-loop-i : goal.invariant-loop-i
 invariant-loop-i l =
-    Running (λ (t : Task). Setting l.marks l.values l.at l.starts l.rules t × Opens l.initial.p.state t) l.list l.p l.ms l.i
+    Running (λ (t : Task). Setting l.rows.marks.now l.rows.values.now l.at l.starts l.rules t × Opens l.initial.p.state t) l.list l.p l.ms l.i

@@ -19,20 +19,20 @@ returns-then-rules-k c =
     }
 
 pub offset_bounds-rules-k : goal.offset_bounds-rules-k
-offset_bounds-rules-k c = let few = c.requires.1.1.few in search rules
+offset_bounds-rules-k c = let few = c.requires.0.1.few in search rules
 
 pub rule_at-x-requires : goal.rule_at-x-requires
 rule_at-x-requires c =
     let a = c.args in
-    let t = c.requires.1.0 in
-    let R = c.requires.1.1 in
+    let t = c.requires.0.0 in
+    let R = c.requires.0.1 in
     let k = a.p.closed in
     let below : k < length t.preferences = omega (arith, R.many, c.if-rules-k.false) in
-    (search rules, inside a.marks.now a.values.now (get_or a.rules.now k 0) (preference_at t k) (R.each k below), omega (arith, R.few, c.if-rules-k.false))
+    (inside a.rows.now.marks.now a.rows.now.values.now (get_or a.rules.now k 0) (preference_at t k) (R.each k below), omega (arith, R.few, c.if-rules-k.false))
 
 pub close-requires : goal.close-requires
 close-requires c =
-    let few = c.requires.1.1.few in
+    let few = c.requires.0.1.few in
     search rules
 
 pub returns : goal.returns

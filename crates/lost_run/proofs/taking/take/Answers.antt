@@ -43,7 +43,7 @@ watch-requires c =
     let G = c.requires.setting.1 in
     record {
       rows = search rules;
-      some_preferences = (t.preferences, preferences_there t a.marks.now a.values.now G.spells a.at G.preferences);
+      some_preferences = (t.preferences, preferences_there t a.rows.now.marks.now a.rows.now.values.now G.spells a.at G.preferences);
     }
 
 pub shape_of-ms-then-j-actions : goal.shape_of-ms-then-j-actions
@@ -56,7 +56,7 @@ returns-then-j-actions c =
       taken_as = λ t q G S.
           let l' = c.watch.new.ms in
           let on = sym S.running ∙ not-false _ c.if-not-p.false in
-          let W = c.watch.ensures.for_preferences t.preferences (preferences_there t a.marks.now a.values.now G.spells a.at G.preferences) in
+          let W = c.watch.ensures.for_preferences t.preferences (preferences_there t a.rows.now.marks.now a.rows.now.values.now G.spells a.at G.preferences) in
           ends t a.ms.now l' a.p q S on a.j (omega (arith, G.all_actions, c.if-j-actions.true))
           (subst (Seen t a.ms.now l' a.p q S on a.j) (eq-eqb a.j (length a.starts.now) c.if-j-actions.true) W.monitors);
     }
@@ -68,8 +68,8 @@ step-requires c =
     let G = c.requires.setting.1 in
     let j = a.j in
     let h : j < length a.starts.now = omega (arith, c.if-actions-j.false, c.if-j-actions.false) in record {
-      rows = (search rules, known (length a.marks.now) a.starts.now c.requires.rows.3 j h _ refl, search rules);
-      some_action = (t, j, action a.marks.now a.values.now a.at a.starts.now a.rules.now t G j h);
+      rows = (known (length a.rows.now.marks.now) a.starts.now c.requires.rows.2 j h _ refl, search rules);
+      some_action = (t, j, action a.rows.now.marks.now a.rows.now.values.now a.at a.starts.now a.rules.now t G j h);
     }
 
 pub shape_of-ms : goal.shape_of-ms
@@ -84,8 +84,8 @@ returns c =
       taken_as = λ t q G S.
           let l' = c.watch.new.ms in
           let on = sym S.running ∙ not-false _ c.if-not-p.false in
-          let W = c.watch.ensures.for_preferences t.preferences (preferences_there t a.marks.now a.values.now G.spells a.at G.preferences) in
+          let W = c.watch.ensures.for_preferences t.preferences (preferences_there t a.rows.now.marks.now a.rows.now.values.now G.spells a.at G.preferences) in
           steps t a.ms.now l' a.p q S on j (omega (arith, G.all_actions, h))
           (subst (Seen t a.ms.now l' a.p q S on j) (ne_eqb j (length a.starts.now) c.if-j-actions.false) W.monitors)
-          c.step.result (c.step.ensures.stepped_as t j (action a.marks.now a.values.now a.at a.starts.now a.rules.now t G j h));
+          c.step.result (c.step.ensures.stepped_as t j (action a.rows.now.marks.now a.rows.now.values.now a.at a.starts.now a.rules.now t G j h));
     }
