@@ -37,7 +37,7 @@ try_action-requires c =
     let x = c.node_at-x in
     let h : k < length c.args.starts.now = search rules in
     record {
-      rows = (L.rows, row_inside L k h, (p.0, k, row_opens L k h));
+      rows = (row_inside L k h, (p.0, k, row_opens L k h));
       by_index = (p.1, trial L E (c.loop-k.invariant p.0 p.1 L E) x.result x.ensures);
     }
 

@@ -26,7 +26,7 @@ returns c = record {
 
 pub lead-requires : goal.lead-requires
 lead-requires c = record {
-  rows = (c.args.rows.now.fit, c.requires.rows.0, c.requires.by_index.1.ample);
+  rows = (c.requires.rows.0, c.requires.by_index.1.ample);
   some_action = c.requires.rows.1;
 }
 
