@@ -9,13 +9,12 @@ use lib.Dec.{T, leb, leb→le}
 use lib.ListN.{length, take, drop}
 use lib.Seq.{sets, sets-eq, length-sets, take_at, drop-append-add, drop-drop}
 use borrow.Author.Tests.{le-leb, leb-true}
-use Rattle.layout.proofs.Parts.{marks_of, values_of}
 use Rattle.lists.specs.Lists.{all, is_empty}
 use Rattle.meaning.specs.Task.{Preference, Task, two_sided}
 use Rattle.task.specs.TaskRows.{Row, task_rows}
 use Rattle.task.specs.Spelling.{preference_spellable, spellable}
 use Rattle.task.specs.File
-use Rattle.task.specs.File.{paired, sizes, sizes_of, task_of_rows, task_of, bytes16, file_of}
+use Rattle.task.specs.File.{paired, sizes, sizes_of, task_of_rows, task_of, bytes16, file_of, marks_of, values_of}
 use Rattle.task.specs.Check
 use Rattle.task.specs.Check.{check}
 use Rattle.task.specs.Answers.{answer as checked, as_sizes}
@@ -198,10 +197,10 @@ module _ (b area : List ℕ) (x : Result Sizes Refusal) (e : checked x ≡ check
     sizes_limited = limited b (as_sizes z) accepted
 
     abbrev pub ms : List ℕ
-    ms = marks_of b (as_sizes z)
+    ms = marks_of b z.rows
 
     abbrev pub vs : List ℕ
-    vs = values_of b (as_sizes z)
+    vs = values_of b z.rows
 
     -- d facts D were counted, from the first preference on
     abbrev pub Counted : Places → ℕ → Type 0

@@ -1,6 +1,6 @@
 -- Whether the task in a file can be translated: what translate answers where no area is too short.
 use Rattle.std.specs.Prelude.{◌≡◌, true, List, ℕ, ◌+◌, ◌-◌, Result, Ok, Err, length, take, drop}
-use Rattle.task.specs.File.{Sizes, sizes, paired}
+use Rattle.task.specs.File.{Sizes, sizes, paired, marks_of, values_of}
 use Rattle.task.specs.Check.{accepted, check}
 use Rattle.task.specs.Answers.{as_sizes, number_of}
 use Rattle.task.specs.declared.Sizes.{Sizes as Given}
@@ -37,17 +37,10 @@ abbrev pub sizes_in : Result Measures Refusal → Result Given Refusal
 sizes_in (Ok m) = Ok m.sizes
 sizes_in (Err r) = Err r
 
--- the marks and the values of a file of sizes z
-abbrev pub marks_in : List ℕ → Given → List ℕ
-marks_in b z = take (8 + z.rows - 8) (drop 8 b)
-
-abbrev pub values_in : List ℕ → Given → List ℕ
-values_in b z = take (length b - (8 + z.rows)) (drop (8 + z.rows) b)
-
 -- m is what the task in b measures
 pub record Taken (b : List ℕ) (m : Measures) : Type 0 where
   pub accepting : check b ≡ accepted (as_sizes m.sizes)
-  pub found : Found (marks_in b m.sizes) m.places
-  pub further_are : m.further ≡ further_rows (drop m.places.to (paired (marks_in b m.sizes) (values_in b m.sizes)))
+  pub found : Found (marks_of b m.sizes.rows) m.places
+  pub further_are : m.further ≡ further_rows (drop m.places.to (paired (marks_of b m.sizes.rows) (values_of b m.sizes.rows)))
   pub small : small_enough (as_sizes m.sizes) m.further ≡ true
-  pub counted : Counted (marks_in b m.sizes) (values_in b m.sizes) m
+  pub counted : Counted (marks_of b m.sizes.rows) (values_of b m.sizes.rows) m

@@ -6,6 +6,7 @@ ghost use Rattle.translation.specs.Translated.{small_enough};
 ghost use Rattle.translation.specs.Measured.{measured, measured_as, sizes_in, Taken};
 
 use task::refused::Cause;
+use task::rows::rows_of;
 use task::{Refusal, Sizes, limits};
 use translated_rows::places::Places;
 use translated_rows::{further, places};
@@ -35,13 +36,13 @@ pub(crate) fn take(file: &[u8]) -> Result<Measures, Refusal>
     ensures ok { IfOk result (Taken file.now) }
 {
     let sizes = task::check(file)?;
-    let middle = 8 + sizes.rows;
-    let places = places::find(&file[8..middle]);
-    let further = further::count(&file[8..middle], &file[middle..], places.to);
+    let rows = rows_of(file, sizes.rows);
+    let places = places::find(rows.marks);
+    let further = further::count(&rows, places.to);
     if !small_enough(sizes, further) {
         return Err(Cause::TooMany.at(0));
     }
-    let rows = translated_rows::count_rows(&file[8..middle], &file[middle..], places, sizes);
+    let rows = translated_rows::count_rows(&rows, places, sizes);
     if limits::MAX_ROWS < rows {
         return Err(Cause::TranslationRows.at(0));
     }

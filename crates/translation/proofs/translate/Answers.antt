@@ -6,8 +6,7 @@ use Rattle.std.specs.Prelude.{Result, Ok, Err}
 use Rattle.std.proofs.lemmas.Result.{err_from_is_err_and}
 use Rattle.task.specs.Answers.{as_sizes}
 use Rattle.task.specs.declared.Refusal.{Refusal}
-use Rattle.task.proofs.Answered.{limited}
-use Rattle.layout.proofs.Parts.{parts_rows}
+use Rattle.task.proofs.Answered.{has_rows}
 use Rattle.translation.proofs.Translating.{Promised, put_source, put}
 use Rattle.translation.proofs.Measuring.{not_translated}
 use Rattle.translation.proofs.translate.Goals as goal
@@ -20,26 +19,18 @@ returns-in_err-m c =
     (not_translated a.file.now a.out.now c.in_err-m.field-0.0 c.in_err-m.ensures.result_value) in
     record { result_value = p.0; out_after = p.1.0; by_index = p.1.1 }
 
-pub overflow_add-middle : goal.overflow_add-middle
-overflow_add-middle c = let h = limited c.args.file.now (as_sizes c.in_ok-m.m.sizes) c.in_ok-m.ensures.ok.accepting in search rules
-
-pub slice_bounds-put_file-end : goal.slice_bounds-put_file-end
-slice_bounds-put_file-end c = let h = limited c.args.file.now (as_sizes c.in_ok-m.m.sizes) c.in_ok-m.ensures.ok.accepting in search rules
-
-pub slice_bounds-put_file-count-2 : goal.slice_bounds-put_file-count-2
-slice_bounds-put_file-count-2 c = let h = limited c.args.file.now (as_sizes c.in_ok-m.m.sizes) c.in_ok-m.ensures.ok.accepting in search rules
-
-pub slice_bounds-put_file-start-2 : goal.slice_bounds-put_file-start-2
-slice_bounds-put_file-start-2 c = let h = limited c.args.file.now (as_sizes c.in_ok-m.m.sizes) c.in_ok-m.ensures.ok.accepting in search rules
+pub rows_of-requires : goal.rows_of-requires
+rows_of-requires c = has_rows c.args.file.now (as_sizes c.in_ok-m.m.sizes) c.in_ok-m.ensures.ok.accepting
 
 pub put_file-requires : goal.put_file-requires
 put_file-requires c =
     let a = c.args in
     let m = c.in_ok-m.m in
     let t = c.in_ok-m.ensures.ok in record {
-      rows = (parts_rows a.file.now (as_sizes m.sizes) t.accepting, t.found);
-      sized = put_source a.file.now a.out.now (Ok m.sizes) (sym t.accepting) m.sizes refl m.places m.further (t.found, t.further_are) t.small;
-      counted = t.counted;
+      rows = rw c.rows_of.ensures.marks t.found;
+      sized = rw (c.rows_of.ensures.marks, c.rows_of.ensures.values)
+          (put_source a.file.now a.out.now (Ok m.sizes) (sym t.accepting) m.sizes refl m.places m.further (t.found, t.further_are) t.small);
+      counted = rw (c.rows_of.ensures.marks, c.rows_of.ensures.values) t.counted;
     }
 
 pub returns : goal.returns
@@ -48,5 +39,5 @@ returns c =
     let m = c.in_ok-m.m in
     let t = c.in_ok-m.ensures.ok in
     let p = put a.file.now a.out.now (Ok m.sizes) (sym t.accepting) m.sizes refl m.places m.further (t.found, t.further_are) t.small
-    c.put_file.result c.put_file.new.out c.put_file.ensures in
+    c.put_file.result c.put_file.new.out (rw (c.rows_of.ensures.marks, c.rows_of.ensures.values) at c.put_file.ensures) in
     record { result_value = p.0; out_after = p.1.0; by_index = p.1.1 }
