@@ -8,7 +8,7 @@ use lib.ListN.{length}
 use lib.Seq.{length-take-le}
 use borrow.Author.Tests.{eq-eqb, ne_eqb}
 use Rattle.task.specs.File
-use Rattle.task.specs.File.{task_of}
+use Rattle.task.specs.File.{task_of, marks_of, values_of}
 use Rattle.task.specs.Check
 use Rattle.task.specs.Check.{check}
 use Rattle.std.specs.Prelude.{Result, Ok, Err}
@@ -20,7 +20,7 @@ use Rattle.task.proofs.Checking.{within}
 use Rattle.task.proofs.Answered.{passed_on}
 use Rattle.task.proofs.Causes.{cause_back}
 use Rattle.layout.specs.Actions.{actions_from}
-use Rattle.layout.proofs.Parts.{marks_of, values_of, parts_spelled}
+use Rattle.layout.proofs.Parts.{parts_spelled}
 use Rattle.layout.proofs.ActionRows.{as_many}
 use Rattle.node_words.proofs.Lists.{nodes_length}
 use Rattle.searching.specs.Search
@@ -92,11 +92,11 @@ module _ (b : List ℕ) (limit room : ℕ) (x : Result Sizes Refusal) (e : check
       pub searches : limit_allowed limit room ≡ true → searched (explore (task_of b) limit) ≡ search_file b limit room
       searches l = (rw (eq-eqb z.preferences 0 none, l) at on_task)
 
-    pub few_actions : length (actions_from 0 (marks_of b (as_sizes z))) ≤ 128
+    pub few_actions : length (actions_from 0 (marks_of b z.rows)) ≤ 128
     few_actions =
         let s : Spelling b (as_sizes z) = accepted_spelling b (as_sizes z) accepted in
         let limits = within (as_sizes z) s.allowed in
-        let many : length (actions_from 0 (marks_of b (as_sizes z))) ≡ z.actions =
-        as_many (task_of b) (marks_of b (as_sizes z)) (values_of b (as_sizes z)) (parts_spelled b (as_sizes z) accepted)
+        let many : length (actions_from 0 (marks_of b z.rows)) ≡ z.actions =
+        as_many (task_of b) (marks_of b z.rows) (values_of b z.rows) (parts_spelled b (as_sizes z) accepted)
         ∙ ap (λ (y : File.Sizes). y.actions) s.sized in
         omega (arith, limits, many)

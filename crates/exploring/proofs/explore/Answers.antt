@@ -61,7 +61,7 @@ module _ (c : In-Some) where
       record { few = few; room = omega (arith, r.held.long) }
 
 pub meets_goal-requires : goal.meets_goal-requires
-meets_goal-requires c = (c.requires.listed.1.rows, placed (goal.at.meets_goal-requires c).In-Some)
+meets_goal-requires c = placed (goal.at.meets_goal-requires c).In-Some
 
 -- what the goal's condition says of the place that is taken
 goal_says : (c : After-meets_goal) → let a = c.args in

@@ -6,7 +6,7 @@ use mathlib.Core.List.{List}
 use Prim.Native.Nat.{ℕ}
 use borrow.Author.Tests.{eq-eqb, not-true, not-false}
 use Rattle.lists.proofs.Tests.{as_t}
-use Rattle.task.specs.File.{task_of}
+use Rattle.task.specs.File.{task_of, marks_of, values_of}
 use Rattle.task.specs.Check
 use Rattle.task.specs.Check.{check}
 use Rattle.std.specs.Prelude.{Result, Ok, Err}
@@ -15,9 +15,9 @@ use Rattle.task.specs.declared.Refusal.{Refusal}
 use Rattle.task.specs.declared.refused.Cause.TheVariants.{Preferences, Limit}
 use Rattle.task.specs.declared.Sizes.{Sizes}
 use Rattle.task.specs.Answers.{as_sizes}
-use Rattle.task.proofs.Answered.{Limited, answered}
+use Rattle.task.proofs.Answered.{has_rows}
 use Rattle.layout.specs.Rows.{Spells}
-use Rattle.layout.proofs.Parts.{marks_of, values_of, parts_rows, parts_spelled}
+use Rattle.layout.proofs.Parts.{parts_spelled}
 use Rattle.searching.specs.Search.{explore}
 use Rattle.searched.specs.Searched.{limit_allowed, search_file}
 use Rattle.searched.proofs.Made.{Made, made}
@@ -26,9 +26,6 @@ use Rattle.finding.specs.Finding.{Ending}
 use Rattle.finding.proofs.Answered.{refused_answers, made_answers, turned_down, accepted, preferred, limited, searches, few_actions}
 use Rattle.finding.proofs.find.Goals as goal
 use Rattle.finding.proofs.find.Goals.{After-on_rows-e, Else-not-limit-room, In_ok-z}
-
-parts : (c : In_ok-z) → Limited c.args.file.now (as_sizes c.in_ok-z.z)
-parts c = answered c.args.file.now c.check.result c.check.ensures c.in_ok-z.z c.in_ok-z.was
 
 pub returns-in_err-z : goal.returns-in_err-z
 returns-in_err-z c =
@@ -58,17 +55,10 @@ returns-then-not-limit-room c =
     a.plan.now a.words.now in
     record { result_after = parts.0; value = parts.1.0; plan_after = parts.1.1.0; bounded = parts.1.1.1 }
 
-pub overflow_add-middle : goal.overflow_add-middle
-overflow_add-middle c = let h = parts (goal.at.overflow_add-middle c).In_ok-z in search rules
-
-pub slice_bounds-on_rows-end : goal.slice_bounds-on_rows-end
-slice_bounds-on_rows-end c = let h = parts (goal.at.slice_bounds-on_rows-end c).In_ok-z in search rules
-
-pub slice_bounds-on_rows-count-2 : goal.slice_bounds-on_rows-count-2
-slice_bounds-on_rows-count-2 c = let h = parts (goal.at.slice_bounds-on_rows-count-2 c).In_ok-z in search rules
-
-pub slice_bounds-on_rows-start-2 : goal.slice_bounds-on_rows-start-2
-slice_bounds-on_rows-start-2 c = let h = parts (goal.at.slice_bounds-on_rows-start-2 c).In_ok-z in search rules
+pub rows_of-requires : goal.rows_of-requires
+rows_of-requires c =
+    let a = c.args in
+    has_rows a.file.now (as_sizes c.in_ok-z.z) (accepted a.file.now a.limit a.room c.check.result c.check.ensures c.in_ok-z.z c.in_ok-z.was)
 
 -- the task in the file is searched
 module _ (c : Else-not-limit-room) where
@@ -87,7 +77,7 @@ module _ (c : Else-not-limit-room) where
   known : Made file c.args.limit c.args.room
   known = made file c.args.limit c.args.room (as_sizes sizes) is_accepted (as_t (eq-eqb sizes.preferences 0 c.if-z-ne0.false)) (as_t is_allowed)
 
-  spells : Spells (marks_of file (as_sizes sizes)) (values_of file (as_sizes sizes)) (task_of file)
+  spells : Spells (marks_of file sizes.rows) (values_of file sizes.rows) (task_of file)
   spells = parts_spelled file (as_sizes sizes) is_accepted
 
 pub on_rows-e-requires : goal.on_rows-e-requires
@@ -96,16 +86,15 @@ on_rows-e-requires c =
     let a = c.args in
     record {
       rows = (
-        parts_rows a.file.now (as_sizes c.in_ok-z.z) (is_accepted d),
-        (task_of a.file.now, spells d),
-        few_actions a.file.now a.limit a.room c.check.result c.check.ensures c.in_ok-z.z c.in_ok-z.was,
+        (task_of a.file.now, rw (c.rows_of.ensures.marks, c.rows_of.ensures.values) (spells d)),
+        rw c.rows_of.ensures.marks (few_actions a.file.now a.limit a.room c.check.result c.check.ensures c.in_ok-z.z c.in_ok-z.was),
       );
       node_limit = ((known d).allowed, c.requires.0);
     }
 
 -- the search has ended
-ending : (c : After-on_rows-e) → let a = c.args in let z = as_sizes c.in_ok-z.z in
-    Made a.file.now a.limit a.room → Spells (marks_of a.file.now z) (values_of a.file.now z) (task_of a.file.now)
+ending : (c : After-on_rows-e) → let a = c.args in let n = c.in_ok-z.z.rows in
+    Made a.file.now a.limit a.room → Spells (marks_of a.file.now n) (values_of a.file.now n) (task_of a.file.now)
     → Ending c.on_rows-e.new.words c.on_rows-e.result (task_of a.file.now) a.limit
 ending c m s =
     record {
@@ -113,7 +102,7 @@ ending c m s =
       allowed = m.allowed;
       formed = m.formed;
       plain = m.plain;
-      answers = c.on_rows-e.ensures (task_of c.args.file.now) s;
+      answers = c.on_rows-e.ensures (task_of c.args.file.now) (rw (c.rows_of.ensures.marks, c.rows_of.ensures.values) s);
     }
 
 pub deliver-requires : goal.deliver-requires
