@@ -53,7 +53,7 @@ module _ (b area : List ℕ) (x : Result Sizes Refusal) (e : checked x ≡ check
 
     -- the rows, as they are lent on
     abbrev rows : List Row
-    rows = paired (take (8 + z.rows - 8) (drop 8 b)) (take (length b - (8 + z.rows)) (drop (8 + z.rows) b))
+    rows = paired (File.marks_of b z.rows) (File.values_of b z.rows)
 
     sized : as_sizes z ≡ sizes_of (task_of b)
     sized = sym spelling.sized

@@ -12,6 +12,7 @@ ghost use Rattle.canonical.specs.Canonical.{respelled};
 ghost use Rattle.spelling.specs.Outcome.{outcome};
 
 use task::Refusal;
+use task::rows::rows_of;
 
 // Writes the one spelling of the task in a file into the area.
 pub fn spell(file: &[u8], out: &mut [u8]) -> Result<usize, Refusal>
@@ -20,6 +21,5 @@ pub fn spell(file: &[u8], out: &mut [u8]) -> Result<usize, Refusal>
         out.new ≡ area_after (respelled file.now) out.old answered }
 {
     let z = task::check(file)?;
-    let middle = 8 + z.rows;
-    whole::put_file(out, &file[8..middle], &file[middle..], z)
+    whole::put_file(out, &rows_of(file, z.rows), z)
 }

@@ -1,11 +1,12 @@
 // Rows that stand in runs, gathered in two sets of facts.
 ghost use Rattle.std.specs.Prelude.{◌≡◌, ◌/◌, ◌<◌, length};
-ghost use Rattle.task.specs.Rows.{Rows, between};
+ghost use Rattle.task.specs.Rows.{between};
 ghost use Rattle.task.specs.Limits.{MAX_FACTS};
 ghost use Rattle.spelling.specs.Runs.{is_listed, first_mark, second_mark, slot_of, sets_in, with_fact, none, ended, gather_at, as_run};
 
 use state::State;
-use task::{marks, rows};
+use task::marks;
+use task::rows::Rows;
 
 // The facts of a run's rows, by their mark, and the row after the run.
 #[derive(Clone, Copy)]
@@ -89,17 +90,16 @@ fn run_of(words: &[u64], next: usize) -> Gathered
 }
 
 // Gathers the rows from `from` on that have the marks a and b, or those between.
-pub fn gather(marks: &[u8], values: &[u8], from: usize, a: u8, b: u8) -> Gathered
-    requires { Rows marks.now values.now }
-    ensures { as_run result ≡ gather_at a b none marks.now values.now from }
+pub fn gather(rows: &Rows, from: usize, a: u8, b: u8) -> Gathered
+    ensures { as_run result ≡ gather_at a b none rows.now.marks.now rows.now.values.now from }
 {
     let mut words: [u64; 4] = [0; 4];
-    for i in from..marks.len() {
-        let mark = marks[i];
+    for i in from..rows.marks.len() {
+        let mark = rows.marks[i];
         if !in_run(mark, a, b) {
             return run_of(&words, i);
         }
-        take_in(&mut words, rows::value_at(values, i), mark == a);
+        take_in(&mut words, rows.value(i), mark == a);
     }
-    run_of(&words, usize::max(from, marks.len()))
+    run_of(&words, usize::max(from, rows.marks.len()))
 }

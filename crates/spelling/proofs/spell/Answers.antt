@@ -22,34 +22,24 @@ returns-in_err-z c =
     let p = turned_down a.file.now a.out.now c.check.result c.check.ensures c.from_residual.result c.in_err-z.field-0.0 (r.1 ∙ ap Err r.2) c.in_err-z.was in
     record { result_value = p.0; out_after = p.1 }
 
-pub overflow_add-middle : goal.overflow_add-middle
-overflow_add-middle c = let h = parts (goal.at.overflow_add-middle c).In_ok-z in search rules
-
-pub slice_bounds-put_file-end : goal.slice_bounds-put_file-end
-slice_bounds-put_file-end c = let h = parts (goal.at.slice_bounds-put_file-end c).In_ok-z in search rules
-
--- where check's answer was taken apart, from where the file is put
-pub slice_bounds-put_file-count-2 : goal.slice_bounds-put_file-count-2
-slice_bounds-put_file-count-2 c = let h = parts (goal.at.slice_bounds-put_file-count-2 c).In_ok-z in search rules
-
-pub slice_bounds-put_file-start-2 : goal.slice_bounds-put_file-start-2
-slice_bounds-put_file-start-2 c = let h = parts (goal.at.slice_bounds-put_file-start-2 c).In_ok-z in search rules
+pub rows_of-requires : goal.rows_of-requires
+rows_of-requires c = let h = parts (goal.at.rows_of-requires c).In_ok-z in (h.few_rows, h.exact)
 
 pub put_file-requires : goal.put_file-requires
 put_file-requires c =
     let a = c.args in
+    let rows = c.rows_of.ensures in
     let h = parts (goal.at.put_file-requires c).In_ok-z in (
-      record {
-        rows = record { few = simp (length-take, length-drop) (omega arith); values = simp (length-take, length-drop) (omega arith) };
+      rw (rows.marks, rows.values) (record {
+        rows = rw (rows.marks, rows.values) at c.rows_of.result.fit;
         fewer = simp (length-take, length-drop) (omega (arith, fewer a.file.now a.out.now c.check.result c.check.ensures c.in_ok-z.z c.in_ok-z.was));
-      },
+      }),
       allowed a.file.now a.out.now c.check.result c.check.ensures c.in_ok-z.z c.in_ok-z.was,
     )
 
 pub returns : goal.returns
 returns c =
     let a = c.args in
-    record {
-      result_value = (put a.file.now a.out.now c.check.result c.check.ensures c.in_ok-z.z c.in_ok-z.was c.put_file.result c.put_file.new.out c.put_file.ensures).0;
-      out_after = (put a.file.now a.out.now c.check.result c.check.ensures c.in_ok-z.z c.in_ok-z.was c.put_file.result c.put_file.new.out c.put_file.ensures).1;
-    }
+    let p = put a.file.now a.out.now c.check.result c.check.ensures c.in_ok-z.z c.in_ok-z.was c.put_file.result c.put_file.new.out
+    (rw (c.rows_of.ensures.marks, c.rows_of.ensures.values) at c.put_file.ensures) in
+    record { result_value = p.0; out_after = p.1 }

@@ -13,25 +13,25 @@ use Rattle.spelling.proofs.runs.gather.Goals as goal
 pub loop-i-init : goal.loop-i-init
 loop-i-init c =
     let a = c.args in
-    (λ i. gather_at a.a a.b (record { first = no_facts i; second = no_facts i }) a.marks.now a.values.now a.from, search rules, search rules)
+    (λ i. gather_at a.a a.b (record { first = no_facts i; second = no_facts i }) a.rows.now.marks.now a.rows.now.values.now a.from, search rules, search rules)
 
 pub returns-then-not-in_run : goal.returns-then-not-in_run
 returns-then-not-in_run c =
     let a = c.args in
     c.run_of.ensures
-    ∙ sym (stops_at (take_in a.a) (between a.a a.b) ended (sets_in c.loop-i.words) a.marks.now a.values.now c.loop-i.i
+    ∙ sym (stops_at (take_in a.a) (between a.a a.b) ended (sets_in c.loop-i.words) a.rows.now.marks.now a.rows.now.values.now c.loop-i.i
     (search rules) (sym c.in_run.ensures ∙ not-true c.in_run.result c.if-not-in_run.true-raw))
     ∙ c.loop-i.invariant.0
 
 pub loop-i-preserved : goal.loop-i-preserved
 loop-i-preserved c =
     let a = c.args in
-    let ms = a.marks.now in
-    let vs = a.values.now in
+    let ms = a.rows.now.marks.now in
+    let vs = a.rows.now.values.now in
     let i = c.loop-i.i in
     let ws = c.loop-i.words in
     let m = get_or ms i 0 in (
-      (λ z. gather_at a.a a.b ((c.take_in.ensures ∙ ap (with_fact (eqb m a.a) (sets_in ws)) c.value_at.ensures) z) ms vs (i + 1))
+      (λ z. gather_at a.a a.b ((c.take_in.ensures ∙ ap (with_fact (eqb m a.a) (sets_in ws)) c.value.ensures) z) ms vs (i + 1))
           ∙ sym (goes_on (take_in a.a) (between a.a a.b) ended (sets_in ws) ms vs i
           (search rules) (sym c.in_run.ensures ∙ not-false c.in_run.result c.if-not-in_run.false-raw))
           ∙ c.loop-i.invariant.0,
@@ -45,5 +45,5 @@ returns c =
     let e : c.max.result ≡ c.loop-i.i = search rules in
     c.run_of-2.ensures
     ∙ ap (ended (sets_in c.loop-i.words)) e
-    ∙ sym (ends_at (take_in a.a) (between a.a a.b) ended (sets_in c.loop-i.words) a.marks.now a.values.now c.loop-i.i (search rules))
+    ∙ sym (ends_at (take_in a.a) (between a.a a.b) ended (sets_in c.loop-i.words) a.rows.now.marks.now a.rows.now.values.now c.loop-i.i (search rules))
     ∙ c.loop-i.invariant.0

@@ -21,20 +21,20 @@ pub put_rising-k-requires : goal.put_rising-k-requires
 put_rising-k-requires c = c.loop-i.invariant.so_far.room
 
 -- a row that is listed stands in a run, which ends at a later row
-listed : (c : Then-is_listed) → is_listed (get_or c.args.marks.now c.loop-i.i 0) ≡ true
+listed : (c : Then-is_listed) → is_listed (get_or c.args.rows.now.marks.now c.loop-i.i 0) ≡ true
 listed c = sym c.is_listed.ensures ∙ c.if-is_listed.true
 
 pub loop-i-smaller-then-is_listed : goal.loop-i-smaller-then-is_listed
 loop-i-smaller-then-is_listed c =
     let a = c.args in
-    let e = run_goes a.marks.now a.values.now c.loop-i.i (search rules) (listed (goal.at.loop-i-smaller-then-is_listed c).Then-is_listed) c.first_mark-a.result c.second_mark-b.result (as_run c.gather-g.result)
+    let e = run_goes a.rows.now.marks.now a.rows.now.values.now c.loop-i.i (search rules) (listed (goal.at.loop-i-smaller-then-is_listed c).Then-is_listed) c.first_mark-a.result c.second_mark-b.result (as_run c.gather-g.result)
     c.first_mark-a.ensures c.second_mark-b.ensures c.gather-g.ensures in
     omega (arith, e.0, e.1)
 
 pub loop-i-preserved-then-is_listed : goal.loop-i-preserved-then-is_listed
 loop-i-preserved-then-is_listed c =
     let a = c.args in
-    let e = next_run a.marks.now a.values.now c.loop-i.i (search rules) (listed (goal.at.loop-i-preserved-then-is_listed c).Then-is_listed) c.first_mark-a.result c.second_mark-b.result (as_run c.gather-g.result)
+    let e = next_run a.rows.now.marks.now a.rows.now.values.now c.loop-i.i (search rules) (listed (goal.at.loop-i-preserved-then-is_listed c).Then-is_listed) c.first_mark-a.result c.second_mark-b.result (as_run c.gather-g.result)
     c.first_mark-a.ensures c.second_mark-b.ensures c.gather-g.ensures in
     record {
       so_far = kept_on c.loop-i.invariant.so_far c.put_rising-k.auto.out c.put_rising-k.ensures;
@@ -44,11 +44,11 @@ loop-i-preserved-then-is_listed c =
 pub loop-i-preserved : goal.loop-i-preserved
 loop-i-preserved c =
     let a = c.args in
-    let ms = a.marks.now in
-    let vs = a.values.now in
+    let ms = a.rows.now.marks.now in
+    let vs = a.rows.now.values.now in
     let i = c.loop-i.i in
     let e = next_row ms vs i (search rules) (sym c.is_listed.ensures ∙ c.if-is_listed.false) in
-    let read = ap (λ (u : ℕ). row (get_or ms i 0) u ∷ spelled_from outside (drop (i + 1) (paired ms vs))) c.value_at.ensures in
+    let read = ap (λ (u : ℕ). row (get_or ms i 0) u ∷ spelled_from outside (drop (i + 1) (paired ms vs))) c.value.ensures in
     record {
       so_far = kept_on c.loop-i.invariant.so_far c.put_row-k.auto.out c.put_row-k.ensures;
       onward = λ r o w. c.loop-i.invariant.onward r o (as_rows (read ∙ sym e) (then c.put_row-k.ensures w));
@@ -60,6 +60,6 @@ shape_of-out c = c.loop-i.invariant.so_far.size
 pub returns : goal.returns
 returns c =
     let a = c.args in
-    as_rows (whole_rows (paired a.marks.now a.values.now))
+    as_rows (whole_rows (paired a.rows.now.marks.now a.rows.now.values.now))
     (c.loop-i.invariant.onward c.loop-i.k c.loop-i.out
-    (as_rows (sym (no_row a.marks.now a.values.now c.loop-i.i (search rules))) (wrote_none c.loop-i.invariant.so_far.room)))
+    (as_rows (sym (no_row a.rows.now.marks.now a.rows.now.values.now c.loop-i.i (search rules))) (wrote_none c.loop-i.invariant.so_far.room)))

@@ -8,7 +8,7 @@ use Rattle.spelling.proofs.whole.put_task.Given as goal
 
 abbrev pub invariant-loop-i : goal.invariant-loop-i
 invariant-loop-i l =
-    Writing l.initial.out l.initial.k (spelled_from outside (paired l.marks l.values)) l.out l.k (spelled_from outside (drop l.i (paired l.marks l.values)))
+    Writing l.initial.out l.initial.k (spelled_from outside (paired l.rows.marks.now l.rows.values.now)) l.out l.k (spelled_from outside (drop l.i (paired l.rows.marks.now l.rows.values.now)))
 
 abbrev pub decreases-loop-i : goal.decreases-loop-i
-decreases-loop-i l = length l.marks - l.i
+decreases-loop-i l = length l.rows.marks.now - l.i

@@ -16,7 +16,7 @@ use borrow.Author.Rules.{rules}
 use Rattle.spelling.proofs.whole.put_through.Goals as goal
 use Rattle.spelling.proofs.whole.put_through.Goals.{After-put_task-k}
 
-few : (c : After-put_task-k) → let a = c.args in length (spelled_rows (paired a.marks.now a.values.now)) ≤ 12000
+few : (c : After-put_task-k) → let a = c.args in length (spelled_rows (paired a.rows.now.marks.now a.rows.now.values.now)) ≤ 12000
 few c = let s = c.requires.0 in omega (arith, s.fewer, s.rows.few)
 
 sizes : (c : After-put_task-k) → let z = c.args.z in (z.facts ≤ 128) × (z.actions ≤ 128) × (z.preferences ≤ 16)
@@ -31,18 +31,18 @@ pub returns-in_err-length : goal.returns-in_err-length
 returns-in_err-length c =
     let a = c.args in
     let r = err_from_is_err_and c.from_residual.result c.from_residual.ensures.1 in
-    no_room a.z.facts a.z.actions a.z.preferences (spelled_rows (paired a.marks.now a.values.now)) a.out.now c.put_task-k.result.next
+    no_room a.z.facts a.z.actions a.z.preferences (spelled_rows (paired a.rows.now.marks.now a.rows.now.values.now)) a.out.now c.put_task-k.result.next
     c.put_task-k.ensures.next (few (goal.at.returns-in_err-length c).After-put_task-k) c.from_residual.result c.in_err-length.field-0.0 (r.1 ∙ ap Err r.2)
     c.in_err-length.ensures
 
 pub returns : goal.returns
 returns c =
     let a = c.args in
-    let xs = spelled_rows (paired a.marks.now a.values.now) in
+    let xs = spelled_rows (paired a.rows.now.marks.now a.rows.now.values.now) in
     let n = c.put_task-k.result.next in
     let all : n ≡ length xs = omega (arith, c.put_task-k.ensures.next, few (goal.at.returns c).After-put_task-k) in
     let rows =
-    through a.own.now c.put_task-k.new.out (length a.marks.now) xs n all c.requires.0.fewer c.requires.0.rows.few c.requires.2 c.put_task-k.ensures.file
+    through a.own.now c.put_task-k.new.out (length a.rows.now.marks.now) xs n all c.requires.0.fewer c.requires.0.rows.few c.requires.2 c.put_task-k.ensures.file
     c.put_sizes.new.out c.copy_rows.new.out (record { rows = n; next = 0 }) c.copy_rows.result refl refl
     (λ i. omega (arith, c.slice_known-3-1.given i)) c.copy_rows.ensures in
     put a.z.facts a.z.actions a.z.preferences xs a.out.now n c.put_task-k.ensures.next (few (goal.at.returns c).After-put_task-k) c.put_sizes.new.out c.copy_rows.new.out
