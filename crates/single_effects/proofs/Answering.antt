@@ -15,7 +15,7 @@ use Rattle.lists.specs.Lists.{all}
 use Rattle.lists.proofs.Tests.{as_true}
 use Rattle.task.specs.TaskRows.{task_rows}
 use Rattle.task.specs.File
-use Rattle.task.specs.File.{paired, rows, sizes, sizes_of, task_of, file_of_rows, with_rows}
+use Rattle.task.specs.File.{paired, rows, sizes, sizes_of, task_of, file_of_rows, with_rows, marks_of, values_of}
 use Rattle.task.specs.Check
 use Rattle.task.specs.Check.{check, sizes_allowed}
 use Rattle.task.specs.Answers.{answer as checked, as_sizes, number_of}
@@ -27,7 +27,6 @@ use Rattle.task.proofs.Spelled.{Spelling, accepted_spelling}
 use Rattle.task.proofs.Answered.{parts_spell, Limited, limited}
 use Rattle.outcome.specs.Outcome.{written, refused, area_after}
 use Rattle.outcome.specs.Answers.{answer}
-use Rattle.layout.proofs.Parts.{marks_of, values_of, parts_rows}
 use Rattle.alike.specs.Alike.{Alike}
 use Rattle.alike.proofs.Verdict.{same_solves, judged_alike}
 use Rattle.singling.specs.Singled.{singled, singled_file, singled_rows, single_effects}
@@ -127,16 +126,13 @@ module _ (b area : List ℕ) (x : Result Sizes Refusal) (e : checked x ≡ check
     sizes_limited = limited b (as_sizes z) accepted
 
     abbrev ms : List ℕ
-    ms = marks_of b (as_sizes z)
+    ms = marks_of b z.rows
 
     abbrev vs : List ℕ
-    vs = values_of b (as_sizes z)
+    vs = values_of b z.rows
 
     pub allowed : sizes_allowed (as_sizes z) ≡ true
     allowed = as_true (sizes_allowed (as_sizes z)) spelling.allowed
-
-    pub lent : Rows ms vs
-    lent = parts_rows b (as_sizes z) accepted
 
     pub many : length ms ≡ z.rows
     many = simp (length-take, length-drop) (omega (arith, sizes_limited.exact))

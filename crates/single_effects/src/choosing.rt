@@ -4,7 +4,7 @@ ghost use Rattle.lists.specs.Lists.{concat_map};
 ghost use Rattle.meaning.specs.Task.{Condition, Effect};
 ghost use Rattle.task.specs.TaskRows.{effect_rows};
 ghost use Rattle.task.specs.Limits.{MAX_ROWS};
-ghost use Rattle.task.specs.Rows.{Rows, MarksTo};
+ghost use Rattle.task.specs.Rows.{MarksTo};
 ghost use Rattle.task.specs.Marks.{HOLDS, LACKS};
 ghost use Rattle.layout.specs.Sides.{end_at};
 ghost use Rattle.writer.specs.Writer.{Room, Wrote};
@@ -14,7 +14,8 @@ ghost use Rattle.single_effects.specs.Effects.{Known, Dividing, digit_of, Choosa
 use super::shapes::Shape;
 use layout::sides;
 use layout::sides::Span;
-use task::{marks, rows};
+use task::marks;
+use task::rows::Rows;
 use writer::Cursor;
 
 // A choice by its number, of so many.
@@ -90,15 +91,14 @@ fn clause_end(marks: &[u8], i: usize, known: Span) -> usize
 fn put_literals(
     out: &mut [u8],
     c: Cursor,
-    marks: &[u8],
-    values: &[u8],
+    rows: &Rows,
     s: Span,
     first: Pick,
     known: Span,
 ) -> Cursor
-    requires room { Room c out.old × Rows marks.now values.now × Known marks.now known }
-    requires choosable { (k : Condition) × Choosable marks.now values.now s first k }
-    ensures { (k : Condition) → Choosable marks.now values.now s first k
+    requires room { Room c out.old × Known rows.now.marks.now known }
+    requires choosable { (k : Condition) × Choosable rows.now.marks.now rows.now.values.now s first k }
+    ensures { (k : Condition) → Choosable rows.now.marks.now rows.now.values.now s first k
         → Wrote out.old c (picked_rows k first.number) result out.new }
 {
     let to = s.to;
@@ -106,10 +106,10 @@ fn put_literals(
     let mut k = c;
     let mut p = first;
     while i < to {
-        let end = clause_end(marks, i, known);
+        let end = clause_end(rows.marks, i, known);
         let d = take_digit(p, end - i - 1);
         let at = i + 1 + d.literal;
-        k = writer::put_single(&mut *out, k, marks[at], rows::value_at(values, at));
+        k = writer::put_single(&mut *out, k, rows.marks[at], rows.value(at));
         p = d.later;
         i = end;
     }
@@ -120,16 +120,15 @@ fn put_literals(
 fn put_choice(
     out: &mut [u8],
     c: Cursor,
-    marks: &[u8],
-    values: &[u8],
+    rows: &Rows,
     at: usize,
     s: Shape,
     j: usize,
     known: Span,
 ) -> Cursor
-    requires room { Room c out.old × Rows marks.now values.now × (j < s.choices) × Known marks.now known }
-    requires effect_at { (e : Effect) × EffectAt marks.now values.now at s e }
-    ensures { (e : Effect) → EffectAt marks.now values.now at s e
+    requires room { Room c out.old × (j < s.choices) × Known rows.now.marks.now known }
+    requires effect_at { (e : Effect) × EffectAt rows.now.marks.now rows.now.values.now at s e }
+    ensures { (e : Effect) → EffectAt rows.now.marks.now rows.now.values.now at s e
         → Wrote out.old c (picked_effect e j) result out.new }
 {
     let choices = s.choices;
@@ -143,8 +142,8 @@ fn put_choice(
         choices: choices as u32,
         number: j as u32,
     };
-    let k = put_literals(&mut *out, k, marks, values, condition, p, known);
-    writer::copy_rows(&mut *out, k, marks, values, changes)
+    let k = put_literals(&mut *out, k, rows, condition, p, known);
+    writer::copy_rows(&mut *out, k, rows, changes)
 }
 
 // How many rows one choice has.
@@ -159,13 +158,12 @@ fn rows_of_one(s: Shape) -> usize
 pub fn put_effect(
     out: &mut [u8],
     c: Cursor,
-    marks: &[u8],
-    values: &[u8],
+    rows: &Rows,
     at: usize,
     s: Shape,
 ) -> Cursor
-    requires { Room c out.old × Rows marks.now values.now × ((e : Effect) × EffectAt marks.now values.now at s e) }
-    ensures { (e : Effect) → EffectAt marks.now values.now at s e
+    requires { Room c out.old × ((e : Effect) × EffectAt rows.now.marks.now rows.now.values.now at s e) }
+    ensures { (e : Effect) → EffectAt rows.now.marks.now rows.now.values.now at s e
         → Wrote out.old c (concat_map effect_rows (singled_effect e)) result out.new }
 {
     let choices = s.choices;
@@ -176,10 +174,10 @@ pub fn put_effect(
         from: at + 1,
         to: s.changes.from,
     };
-    let known = find_longest(marks, condition, choices);
+    let known = find_longest(rows.marks, condition, choices);
     let mut k = c;
     for j in 0..choices {
-        k = put_choice(&mut *out, k, marks, values, at, s, j, known);
+        k = put_choice(&mut *out, k, rows, at, s, j, known);
     }
     k
 }

@@ -14,6 +14,7 @@ ghost use Rattle.singling.specs.Outcome.{outcome};
 ghost use Rattle.single_effects.specs.Claim.{Delivered};
 
 use task::Refusal;
+use task::rows::rows_of;
 
 // Rewrites the effects of the task in a file into the area: one effect for each choice of a literal from every clause.
 pub fn single(file: &[u8], out: &mut [u8]) -> Result<usize, Refusal>
@@ -23,7 +24,7 @@ pub fn single(file: &[u8], out: &mut [u8]) -> Result<usize, Refusal>
     ensures by_index { (n : ℕ) → answer result ≡ written n → Delivered file.now out.new n }
 {
     let z = task::check(file)?;
-    let middle = 8 + z.rows;
-    let last = wide::find_wide(&file[8..middle])?;
-    whole::put_file(out, &file[8..middle], &file[middle..], z, last)
+    let rows = rows_of(file, z.rows);
+    let last = wide::find_wide(rows.marks)?;
+    whole::put_file(out, &rows, z, last)
 }

@@ -5,7 +5,6 @@ ghost use Rattle.task.specs.TaskRows.{task_rows};
 ghost use Rattle.task.specs.File.{file_of_rows};
 ghost use Rattle.task.specs.Check.{sizes_allowed};
 ghost use Rattle.task.specs.Answers.{as_sizes};
-ghost use Rattle.task.specs.Rows.{Rows};
 ghost use Rattle.writer.specs.Writer.{row_after, Room, Wrote};
 ghost use Rattle.singling.specs.Singled.{singled};
 ghost use Rattle.single_effects.specs.Whole.{NoEffects, Narrow, Fitted};
@@ -15,26 +14,27 @@ use layout::sides::Span;
 use task::refused::Cause;
 use task::{Refusal, Sizes, limits, marks};
 use writer::Cursor;
+use task::rows::Rows;
 
 // Writes the rows of the new task: each effect with several choices by these, and the rows between such effects as they stand, since an
 // effect with one choice stays as it is. None begins from row `last` on.
-fn put_task(out: &mut [u8], c: Cursor, marks: &[u8], values: &[u8], last: usize) -> Cursor
-    requires room { Room c out.old × Rows marks.now values.now × (last ≤ length marks.now) × NoEffects marks.now last (length marks.now) }
-    requires narrow { (t : Task) × Narrow marks.now values.now t }
-    ensures { (t : Task) → Narrow marks.now values.now t
+fn put_task(out: &mut [u8], c: Cursor, rows: &Rows, last: usize) -> Cursor
+    requires room { Room c out.old × (last ≤ length rows.now.marks.now) × NoEffects rows.now.marks.now last (length rows.now.marks.now) }
+    requires narrow { (t : Task) × Narrow rows.now.marks.now rows.now.values.now t }
+    ensures { (t : Task) → Narrow rows.now.marks.now rows.now.values.now t
         → Wrote out.old c (task_rows (singled t)) result out.new }
 {
     let mut from = 0;
     let mut i = 0;
     let mut k = c;
     while i < last {
-        if marks[i] == marks::EFFECT {
-            let s = shapes::shape_of(marks, i);
+        if rows.marks[i] == marks::EFFECT {
+            let s = shapes::shape_of(rows.marks, i);
             if s.choices == 1 {
                 i = s.changes.to;
             } else {
-                k = writer::copy_rows(&mut *out, k, marks, values, Span { from, to: i });
-                k = choosing::put_effect(&mut *out, k, marks, values, i, s);
+                k = writer::copy_rows(&mut *out, k, rows, Span { from, to: i });
+                k = choosing::put_effect(&mut *out, k, rows, i, s);
                 i = s.changes.to;
                 from = i;
             }
@@ -42,38 +42,37 @@ fn put_task(out: &mut [u8], c: Cursor, marks: &[u8], values: &[u8], last: usize)
             i += 1;
         }
     }
-    let to = marks.len();
-    writer::copy_rows(&mut *out, k, marks, values, Span { from, to })
+    let to = rows.marks.len();
+    writer::copy_rows(&mut *out, k, rows, Span { from, to })
 }
 
 // How many rows it has: it is written into a file of no rows.
-fn count_rows(marks: &[u8], values: &[u8], last: usize) -> usize
-    requires rows { Rows marks.now values.now × (last ≤ length marks.now) × NoEffects marks.now last (length marks.now) }
-    requires narrow { (t : Task) × Narrow marks.now values.now t }
-    ensures { (t : Task) → Narrow marks.now values.now t → result ≡ row_after 0 (length (task_rows (singled t))) }
+fn count_rows(rows: &Rows, last: usize) -> usize
+    requires rows { (last ≤ length rows.now.marks.now) × NoEffects rows.now.marks.now last (length rows.now.marks.now) }
+    requires narrow { (t : Task) × Narrow rows.now.marks.now rows.now.values.now t }
+    ensures { (t : Task) → Narrow rows.now.marks.now rows.now.values.now t → result ≡ row_after 0 (length (task_rows (singled t))) }
 {
     let mut nothing: [u8; 8] = [0; 8];
     let c = Cursor { rows: 0, next: 0 };
-    let k = put_task(&mut nothing, c, marks, values, last);
+    let k = put_task(&mut nothing, c, rows, last);
     k.next
 }
 
 // Writes the file of the new task, where it fits.
 pub fn put_file(
     out: &mut [u8],
-    marks: &[u8],
-    values: &[u8],
+    rows: &Rows,
     z: Sizes,
     last: usize,
 ) -> Result<usize, Refusal>
-    requires rows { Rows marks.now values.now × (last ≤ length marks.now) × NoEffects marks.now last (length marks.now) }
+    requires rows { (last ≤ length rows.now.marks.now) × NoEffects rows.now.marks.now last (length rows.now.marks.now) }
     requires sizes { sizes_allowed (as_sizes z) ≡ true }
-    requires narrow { (t : Task) × Narrow marks.now values.now t }
-    ensures { (t : Task) → Narrow marks.now values.now t
-        → let rows = task_rows (singled t) in
-        Fitted (length rows) (file_of_rows z.facts z.actions z.preferences rows) out.old result out.new }
+    requires narrow { (t : Task) × Narrow rows.now.marks.now rows.now.values.now t }
+    ensures { (t : Task) → Narrow rows.now.marks.now rows.now.values.now t
+        → let written = task_rows (singled t) in
+        Fitted (length written) (file_of_rows z.facts z.actions z.preferences written) out.old result out.new }
 {
-    let n = count_rows(marks, values, last);
+    let n = count_rows(rows, last);
     if limits::MAX_ROWS < n {
         return Err(Cause::TranslationRows.at(0));
     }
@@ -86,6 +85,6 @@ pub fn put_file(
         n as u32,
     );
     let c = Cursor { rows: n, next: 0 };
-    let _ = put_task(&mut *out, c, marks, values, last);
+    let _ = put_task(&mut *out, c, rows, last);
     Ok(length)
 }

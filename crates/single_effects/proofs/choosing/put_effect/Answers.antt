@@ -12,13 +12,13 @@ use Rattle.single_effects.proofs.choosing.put_effect.Goals as goal
 
 pub rows_of_one-requires : goal.rows_of_one-requires
 rows_of_one-requires c =
-    let E = c.requires.2.1 in
-    let h = c.requires.1.few in
+    let E = c.requires.1.1 in
+    let h = c.args.rows.now.fit.few in
     (omega (arith, few_clauses E), E.order.whole, omega (arith, E.order.inside))
 
 pub overflow_mul-choices : goal.overflow_mul-choices
 overflow_mul-choices c =
-    record { fits = many_fit c.requires.2.1 c.rows_of_one.result c.rows_of_one.ensures c.requires.1.few }
+    record { fits = many_fit c.requires.1.1 c.rows_of_one.result c.rows_of_one.ensures c.args.rows.now.fit.few }
 
 pub returns-then-c : goal.returns-then-c
 returns-then-c c = λ e E.
@@ -28,17 +28,17 @@ returns-then-c c = λ e E.
 
 pub find_longest-known-requires : goal.find_longest-known-requires
 find_longest-known-requires c =
-    record { inside = c.requires.2.1.condition.inside; few = c.requires.1.few }
+    record { inside = c.requires.1.1.condition.inside; few = c.args.rows.now.fit.few }
 
 pub loop-j-init : goal.loop-j-init
 loop-j-init c = λ e E. record { so_far = kept_none (search rules); onward = λ r o w. w }
 
 pub put_choice-k-requires : goal.put_choice-k-requires
 put_choice-k-requires c =
-    let R = c.loop-j.invariant c.requires.2.0 c.requires.2.1 in
+    let R = c.loop-j.invariant c.requires.1.0 c.requires.1.1 in
     record {
-      room = (R.so_far.room, c.requires.1, search rules, c.find_longest-known.ensures);
-      effect_at = c.requires.2;
+      room = (R.so_far.room, search rules, c.find_longest-known.ensures);
+      effect_at = c.requires.1;
     }
 
 pub loop-j-preserved : goal.loop-j-preserved
@@ -52,7 +52,7 @@ loop-j-preserved c = λ e E.
 
 pub shape_of-out : goal.shape_of-out
 shape_of-out c =
-    (c.loop-j.invariant c.requires.2.0 c.requires.2.1).so_far.size
+    (c.loop-j.invariant c.requires.1.0 c.requires.1.1).so_far.size
 
 pub returns : goal.returns
 returns c = λ e E.

@@ -5,4 +5,4 @@ use Rattle.single_effects.proofs.ByChoice.{Repeating}
 use Rattle.single_effects.proofs.choosing.put_effect.Given as goal
 
 abbrev pub invariant-loop-j : goal.invariant-loop-j
-invariant-loop-j l = (e : Effect) → EffectAt l.marks l.values l.at l.s e → Repeating l.initial.out l.initial.k e l.choices l.out l.j l.k
+invariant-loop-j l = (e : Effect) → EffectAt l.rows.marks.now l.rows.values.now l.at l.s e → Repeating l.initial.out l.initial.k e l.choices l.out l.j l.k

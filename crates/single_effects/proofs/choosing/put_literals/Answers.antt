@@ -17,32 +17,32 @@ loop-i-init c = λ all C. record { left = all; choosable = C; so_far = kept_none
 
 -- the loop's state for the condition that is required
 here : (c : At-loop-i) → let a = c.args in
-    Picking a.out.now a.c (picked_rows c.requires.choosable.0 a.first.number) a.marks.now a.values.now c.loop-i.i a.s.to c.loop-i.p c.loop-i.out c.loop-i.k
+    Picking a.out.now a.c (picked_rows c.requires.choosable.0 a.first.number) a.rows.now.marks.now a.rows.now.values.now c.loop-i.i a.s.to c.loop-i.p c.loop-i.out c.loop-i.k
 here c = c.loop-i.invariant c.requires.choosable.0 c.requires.choosable.1
 
 few : (c : In-loop-i) → let a = c.args in
-    (c.loop-i.i < a.s.to) × (a.s.to ≤ length a.marks.now) × (length a.marks.now ≤ 12000)
+    (c.loop-i.i < a.s.to) × (a.s.to ≤ length a.rows.now.marks.now) × (length a.rows.now.marks.now ≤ 12000)
 few c =
-    let here' : let a = c.args in Picking a.out.now a.c (picked_rows c.requires.choosable.0 a.first.number) a.marks.now a.values.now c.loop-i.i a.s.to c.loop-i.p c.loop-i.out c.loop-i.k = c.loop-i.invariant c.requires.choosable.0 c.requires.choosable.1 in (search rules, here'.choosable.condition.inside, c.requires.room.1.few)
+    let here' : let a = c.args in Picking a.out.now a.c (picked_rows c.requires.choosable.0 a.first.number) a.rows.now.marks.now a.rows.now.values.now c.loop-i.i a.s.to c.loop-i.p c.loop-i.out c.loop-i.k = c.loop-i.invariant c.requires.choosable.0 c.requires.choosable.1 in (search rules, here'.choosable.condition.inside, c.args.rows.now.fit.few)
 
 turned : (c : After-take_digit-d) →
-    let here' : let a = c.args in Picking a.out.now a.c (picked_rows c.requires.choosable.0 a.first.number) a.marks.now a.values.now c.loop-i.i a.s.to c.loop-i.p c.loop-i.out c.loop-i.k = c.loop-i.invariant c.requires.choosable.0 c.requires.choosable.1 in let a = c.args in
-    Turn a.marks.now a.values.now c.loop-i.i a.s.to here'.left c.loop-i.p.number c.clause_end-end.result c.take_digit-d.result
+    let here' : let a = c.args in Picking a.out.now a.c (picked_rows c.requires.choosable.0 a.first.number) a.rows.now.marks.now a.rows.now.values.now c.loop-i.i a.s.to c.loop-i.p c.loop-i.out c.loop-i.k = c.loop-i.invariant c.requires.choosable.0 c.requires.choosable.1 in let a = c.args in
+    Turn a.rows.now.marks.now a.rows.now.values.now c.loop-i.i a.s.to here'.left c.loop-i.p.number c.clause_end-end.result c.take_digit-d.result
 turned c =
-    let here' : let a = c.args in Picking a.out.now a.c (picked_rows c.requires.choosable.0 a.first.number) a.marks.now a.values.now c.loop-i.i a.s.to c.loop-i.p c.loop-i.out c.loop-i.k = c.loop-i.invariant c.requires.choosable.0 c.requires.choosable.1 in
+    let here' : let a = c.args in Picking a.out.now a.c (picked_rows c.requires.choosable.0 a.first.number) a.rows.now.marks.now a.rows.now.values.now c.loop-i.i a.s.to c.loop-i.p c.loop-i.out c.loop-i.k = c.loop-i.invariant c.requires.choosable.0 c.requires.choosable.1 in
     let a = c.args in
-    turn a.marks.now a.values.now c.loop-i.i a.s.to c.loop-i.p c.clause_end-end.result c.clause_end-end.ensures (search rules)
+    turn a.rows.now.marks.now a.rows.now.values.now c.loop-i.i a.s.to c.loop-i.p c.clause_end-end.result c.clause_end-end.ensures (search rules)
     here'.left here'.choosable c.take_digit-d.result c.take_digit-d.ensures
 
 goes : (c : After-clause_end-end) → c.loop-i.i + 2 ≤ c.clause_end-end.result
 goes c =
-    let here' : let a = c.args in Picking a.out.now a.c (picked_rows c.requires.choosable.0 a.first.number) a.marks.now a.values.now c.loop-i.i a.s.to c.loop-i.p c.loop-i.out c.loop-i.k = c.loop-i.invariant c.requires.choosable.0 c.requires.choosable.1 in
+    let here' : let a = c.args in Picking a.out.now a.c (picked_rows c.requires.choosable.0 a.first.number) a.rows.now.marks.now a.rows.now.values.now c.loop-i.i a.s.to c.loop-i.p c.loop-i.out c.loop-i.k = c.loop-i.invariant c.requires.choosable.0 c.requires.choosable.1 in
     let a = c.args in
-    goes_on a.marks.now a.values.now c.loop-i.i a.s.to c.loop-i.p c.clause_end-end.result c.clause_end-end.ensures (search rules)
+    goes_on a.rows.now.marks.now a.rows.now.values.now c.loop-i.i a.s.to c.loop-i.p c.clause_end-end.result c.clause_end-end.ensures (search rules)
     here'.left here'.choosable
 
 pub clause_end-end-requires : goal.clause_end-end-requires
-clause_end-end-requires c = let f = few c in (omega (arith, f), c.requires.room.2)
+clause_end-end-requires c = let f = few (goal.at.clause_end-end-requires c).In-loop-i in (omega (arith, f), c.requires.room.1)
 
 pub overflow_sub-end : goal.overflow_sub-end
 overflow_sub-end c = omega (arith, goes c)
@@ -53,7 +53,7 @@ overflow_sub-end-in-loop-i c = omega (arith, goes c)
 pub take_digit-d-requires : goal.take_digit-d-requires
 take_digit-d-requires c =
     let a = c.args in
-    dividing a.marks.now a.values.now c.loop-i.i a.s.to c.loop-i.p c.clause_end-end.result c.clause_end-end.ensures (search rules)
+    dividing a.rows.now.marks.now a.rows.now.values.now c.loop-i.i a.s.to c.loop-i.p c.clause_end-end.result c.clause_end-end.ensures (search rules)
     (few (goal.at.take_digit-d-requires c).In-loop-i).2 (here (goal.at.take_digit-d-requires c).At-loop-i).left (here (goal.at.take_digit-d-requires c).At-loop-i).choosable
 
 pub overflow_add-at : goal.overflow_add-at
@@ -62,13 +62,11 @@ overflow_add-at c = let f = few (goal.at.overflow_add-at c).In-loop-i in search 
 pub overflow_add-at-in-loop-i : goal.overflow_add-at-in-loop-i
 overflow_add-at-in-loop-i c = let f = few (goal.at.overflow_add-at-in-loop-i c).In-loop-i in let g = (turned (goal.at.overflow_add-at-in-loop-i c).After-take_digit-d).inside in search rules
 
-pub bounds-marks-at : goal.bounds-marks-at
-bounds-marks-at c = (turned (goal.at.bounds-marks-at c).After-take_digit-d).inside
+pub bounds-rows-at : goal.bounds-rows-at
+bounds-rows-at c = (turned (goal.at.bounds-rows-at c).After-take_digit-d).inside
 
-pub value_at-requires : goal.value_at-requires
-value_at-requires c =
-    let t = turned (goal.at.value_at-requires c).After-take_digit-d in
-    omega (arith, t.inside, c.requires.room.1.values)
+pub value-requires : goal.value-requires
+value-requires c = (turned (goal.at.value-requires c).After-take_digit-d).inside
 
 pub put_single-k-requires : goal.put_single-k-requires
 put_single-k-requires c = (here (goal.at.put_single-k-requires c).At-loop-i).so_far.room
@@ -81,12 +79,12 @@ loop-i-smaller c =
 pub loop-i-preserved : goal.loop-i-preserved
 loop-i-preserved c = λ all C.
     let a = c.args in
-    let ms = a.marks.now in
+    let ms = a.rows.now.marks.now in
     let i = c.loop-i.i in
     let P = c.loop-i.invariant all C in
-    let t = turn ms a.values.now i a.s.to c.loop-i.p c.clause_end-end.result c.clause_end-end.ensures (search rules) P.left P.choosable
+    let t = turn ms a.rows.now.values.now i a.s.to c.loop-i.p c.clause_end-end.result c.clause_end-end.ensures (search rules) P.left P.choosable
     c.take_digit-d.result c.take_digit-d.ensures in
-    let read = ap (λ (u : ℕ). row CLAUSE 0 ∷ row (get_or ms (i + 1 + c.take_digit-d.result.literal) 0) u ∷ []) c.value_at.ensures in
+    let read = ap (λ (u : ℕ). row CLAUSE 0 ∷ row (get_or ms (i + 1 + c.take_digit-d.result.literal) 0) u ∷ []) c.value.ensures in
     record {
       left = t.rest;
       choosable = t.onward;
@@ -102,4 +100,4 @@ returns c = λ all C.
     let a = c.args in
     let P = c.loop-i.invariant all C in
     P.onward c.loop-i.k c.loop-i.out
-    (as_rows (sym (none_left a.marks.now a.values.now c.loop-i.i a.s.to c.loop-i.p P.left P.choosable (search rules))) (wrote_none P.so_far.room))
+    (as_rows (sym (none_left a.rows.now.marks.now a.rows.now.values.now c.loop-i.i a.s.to c.loop-i.p P.left P.choosable (search rules))) (wrote_none P.so_far.room))

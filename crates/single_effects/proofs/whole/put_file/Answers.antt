@@ -25,7 +25,7 @@ returns-in_err-length c = λ t N.
 
 pub put_task-requires : goal.put_task-requires
 put_task-requires c = record {
-  room = (record { few = search rules; long = search rules }, c.requires.rows.0, c.requires.rows.1, c.requires.rows.2);
+  room = (record { few = search rules; long = search rules }, c.requires.rows.0, c.requires.rows.1);
   narrow = c.requires.narrow;
 }
 
