@@ -3,7 +3,6 @@ use Rattle.std.specs.Prelude.{◌≡◌, List, ◌++◌, ℕ, ◌+◌, ◌*◌, 
 use Rattle.task.specs.TaskRows.{Row}
 use Rattle.task.specs.File.{paired}
 use Rattle.task.specs.Rows.{Stops}
-use Rattle.task.specs.Rows.{Rows}
 use Rattle.text.specs.Area.{Wrote}
 use Rattle.pddl_parts.specs.Pieces.{Piece}
 use Rattle.pddl_parts.specs.declared.conditions.Emitted.{Emitted}
@@ -22,7 +21,6 @@ rows_in s = drop s.from (paired s.marks s.values)
 
 -- row `from` or the end is reached, and no place overflows where each row to come adds at most so many bytes
 pub record Reading (ms vs : List ℕ) (from at each : ℕ) : Type 0 where
-  pub rows : Rows ms vs
   pub within : from ≤ length ms
   pub room : at + each * (length ms - from) < 2 ^ 64
 

@@ -7,26 +7,20 @@ ghost use Rattle.pddl_parts.specs.Writing.{stretch, Reading, Spells, PieceAnswer
 
 use super::conditions;
 use super::conditions::Emitted;
-use task::{marks, rows};
+use task::marks;
+use task::rows::Rows;
 
 // Writes the effect that row `from` opens.
-fn put_effect(out: &mut [u8], at: usize, marks: &[u8], values: &[u8], from: usize) -> Emitted
-    requires { Reading marks.now values.now from at 31 × (from < length marks.now) × Spells effect (stretch marks.now values.now from) }
-    ensures piece_answer { PieceAnswer effect (stretch marks.now values.now from) out.old at result out.new }
-    ensures from_lt_next { (from < result.next) × (result.next ≤ length marks.now) × (result.at ≤ at + 31 * (result.next - from)) }
+fn put_effect(out: &mut [u8], at: usize, rows: &Rows, from: usize) -> Emitted
+    requires { Reading rows.now.marks.now rows.now.values.now from at 31 × (from < length rows.now.marks.now)
+        × Spells effect (stretch rows.now.marks.now rows.now.values.now from) }
+    ensures piece_answer { PieceAnswer effect (stretch rows.now.marks.now rows.now.values.now from) out.old at result out.new }
+    ensures from_lt_next { (from < result.next) × (result.next ≤ length rows.now.marks.now) × (result.at ≤ at + 31 * (result.next - from)) }
 {
     let k = text::put_bytes(&mut *out, at, b"(when ");
-    let c = conditions::put_condition(&mut *out, k, marks, values, from + 1);
+    let c = conditions::put_condition(&mut *out, k, rows, from + 1);
     let k = text::put_bytes(&mut *out, c.at, b" (and");
-    let s = conditions::put_list(
-        &mut *out,
-        k,
-        marks,
-        values,
-        c.next,
-        marks::ADD,
-        marks::DELETE,
-    );
+    let s = conditions::put_list(&mut *out, k, rows, c.next, marks::ADD, marks::DELETE);
     let k = text::put_bytes(&mut *out, s.at, b"))");
     Emitted {
         at: k,
@@ -35,16 +29,16 @@ fn put_effect(out: &mut [u8], at: usize, marks: &[u8], values: &[u8], from: usiz
 }
 
 // Writes the effects whose rows begin at `from`, each after a space.
-fn put_effects(out: &mut [u8], at: usize, marks: &[u8], values: &[u8], from: usize) -> Emitted
-    requires { Reading marks.now values.now from at 32 × Spells effects (stretch marks.now values.now from) }
-    ensures piece_answer { PieceAnswer effects (stretch marks.now values.now from) out.old at result out.new }
-    ensures from_le_next { (from ≤ result.next) × (result.next ≤ length marks.now) × (result.at ≤ at + 32 * (result.next - from)) }
+fn put_effects(out: &mut [u8], at: usize, rows: &Rows, from: usize) -> Emitted
+    requires { Reading rows.now.marks.now rows.now.values.now from at 32 × Spells effects (stretch rows.now.marks.now rows.now.values.now from) }
+    ensures piece_answer { PieceAnswer effects (stretch rows.now.marks.now rows.now.values.now from) out.old at result out.new }
+    ensures from_le_next { (from ≤ result.next) × (result.next ≤ length rows.now.marks.now) × (result.at ≤ at + 32 * (result.next - from)) }
 {
     let mut k = at;
     let mut i = from;
-    while conditions::has_mark(marks, i, marks::EFFECT, marks::EFFECT) {
+    while conditions::has_mark(rows.marks, i, marks::EFFECT, marks::EFFECT) {
         k = text::put_byte(&mut *out, k, b' ');
-        let s = put_effect(&mut *out, k, marks, values, i);
+        let s = put_effect(&mut *out, k, rows, i);
         k = s.at;
         i = s.next;
     }
@@ -74,23 +68,17 @@ fn put_cost(out: &mut [u8], at: usize, cost: u32) -> usize
 }
 
 // Writes the line of action `number`, which row `from` opens.
-fn put_action(
-    out: &mut [u8],
-    at: usize,
-    number: usize,
-    marks: &[u8],
-    values: &[u8],
-    from: usize,
-) -> Emitted
-    requires { Reading marks.now values.now from at 160 × (from < length marks.now) × Spells (action number) (stretch marks.now values.now from) }
-    ensures piece_answer { PieceAnswer (action number) (stretch marks.now values.now from) out.old at result out.new }
-    ensures from_lt_next { (from < result.next) × (result.next ≤ length marks.now) × (result.at ≤ at + 160 * (result.next - from)) }
+fn put_action(out: &mut [u8], at: usize, number: usize, rows: &Rows, from: usize) -> Emitted
+    requires { Reading rows.now.marks.now rows.now.values.now from at 160 × (from < length rows.now.marks.now)
+        × Spells (action number) (stretch rows.now.marks.now rows.now.values.now from) }
+    ensures piece_answer { PieceAnswer (action number) (stretch rows.now.marks.now rows.now.values.now from) out.old at result out.new }
+    ensures from_lt_next { (from < result.next) × (result.next ≤ length rows.now.marks.now) × (result.at ≤ at + 160 * (result.next - from)) }
 {
-    let cost = rows::value_at(values, from);
+    let cost = rows.value(from);
     let k = put_head(&mut *out, at, number);
-    let c = conditions::put_condition(&mut *out, k, marks, values, from + 1);
+    let c = conditions::put_condition(&mut *out, k, rows, from + 1);
     let k = put_cost(&mut *out, c.at, cost);
-    let s = put_effects(&mut *out, k, marks, values, c.next);
+    let s = put_effects(&mut *out, k, rows, c.next);
     let k = text::put_bytes(&mut *out, s.at, b"))\n");
     Emitted {
         at: k,
@@ -99,16 +87,16 @@ fn put_action(
 }
 
 // Writes the lines of the actions whose rows begin at `from`.
-pub fn put_actions(out: &mut [u8], at: usize, marks: &[u8], values: &[u8], from: usize) -> Emitted
-    requires { Reading marks.now values.now from at 160 × Spells actions (stretch marks.now values.now from) }
-    ensures piece_answer { PieceAnswer actions (stretch marks.now values.now from) out.old at result out.new }
-    ensures from_le_next { (from ≤ result.next) × (result.next ≤ length marks.now) × (result.at ≤ at + 160 * (result.next - from)) }
+pub fn put_actions(out: &mut [u8], at: usize, rows: &Rows, from: usize) -> Emitted
+    requires { Reading rows.now.marks.now rows.now.values.now from at 160 × Spells actions (stretch rows.now.marks.now rows.now.values.now from) }
+    ensures piece_answer { PieceAnswer actions (stretch rows.now.marks.now rows.now.values.now from) out.old at result out.new }
+    ensures from_le_next { (from ≤ result.next) × (result.next ≤ length rows.now.marks.now) × (result.at ≤ at + 160 * (result.next - from)) }
 {
     let mut k = at;
     let mut i = from;
     let mut n = 0;
-    while conditions::has_mark(marks, i, marks::ACTION, marks::ACTION) {
-        let s = put_action(&mut *out, k, n, marks, values, i);
+    while conditions::has_mark(rows.marks, i, marks::ACTION, marks::ACTION) {
+        let s = put_action(&mut *out, k, n, rows, i);
         k = s.at;
         i = s.next;
         n += 1;

@@ -7,7 +7,8 @@ ghost use Rattle.pddl_parts.specs.Rows.{row_text, mark_at, list_at};
 ghost use Rattle.pddl_parts.specs.Pieces.{clause, condition};
 ghost use Rattle.pddl_parts.specs.Writing.{stretch, Reading, Spells, PieceAnswer};
 
-use task::{marks, rows};
+use task::marks;
+use task::rows::Rows;
 
 // The place after what was written, and the row after those that were read.
 #[derive(Clone, Copy)]
@@ -63,49 +64,42 @@ pub(crate) fn has_mark(marks: &[u8], i: usize, least: u8, most: u8) -> bool
 }
 
 // Writes the rows from `from` on whose marks are between the two, each after a space.
-pub fn put_list(
-    out: &mut [u8],
-    at: usize,
-    marks: &[u8],
-    values: &[u8],
-    from: usize,
-    least: u8,
-    most: u8,
-) -> Emitted
-    requires { Reading marks.now values.now from at 30 }
-    ensures wrote { Wrote out.old at (list_at least most marks.now values.now from).text result.at out.new }
-    ensures next_value { result.next ≡ (list_at least most marks.now values.now from).next }
-    ensures from_le_next { (from ≤ result.next) × (result.next ≤ length marks.now) × (result.at ≤ at + 30 * (result.next - from)) }
+pub fn put_list(out: &mut [u8], at: usize, rows: &Rows, from: usize, least: u8, most: u8) -> Emitted
+    requires { Reading rows.now.marks.now rows.now.values.now from at 30 }
+    ensures wrote { Wrote out.old at (list_at least most rows.now.marks.now rows.now.values.now from).text result.at out.new }
+    ensures next_value { result.next ≡ (list_at least most rows.now.marks.now rows.now.values.now from).next }
+    ensures from_le_next { (from ≤ result.next) × (result.next ≤ length rows.now.marks.now) × (result.at ≤ at + 30 * (result.next - from)) }
 {
     let mut k = at;
-    for i in from..marks.len() {
-        if !has_mark(marks, i, least, most) {
+    for i in from..rows.marks.len() {
+        if !has_mark(rows.marks, i, least, most) {
             return Emitted { at: k, next: i };
         }
         k = text::put_byte(&mut *out, k, b' ');
-        k = put_row(&mut *out, k, marks[i], rows::value_at(values, i));
+        k = put_row(&mut *out, k, rows.marks[i], rows.value(i));
     }
     Emitted {
         at: k,
-        next: marks.len(),
+        next: rows.marks.len(),
     }
 }
 
 // Writes the clause that row `from` opens.
-fn put_clause(out: &mut [u8], at: usize, marks: &[u8], values: &[u8], from: usize) -> Emitted
-    requires { Reading marks.now values.now from at 30 × (from < length marks.now) × Spells clause (stretch marks.now values.now from) }
-    ensures piece_answer { PieceAnswer clause (stretch marks.now values.now from) out.old at result out.new }
-    ensures from_lt_next { (from < result.next) × (result.next ≤ length marks.now) × (result.at ≤ at + 30 * (result.next - from)) }
+fn put_clause(out: &mut [u8], at: usize, rows: &Rows, from: usize) -> Emitted
+    requires { Reading rows.now.marks.now rows.now.values.now from at 30 × (from < length rows.now.marks.now)
+        × Spells clause (stretch rows.now.marks.now rows.now.values.now from) }
+    ensures piece_answer { PieceAnswer clause (stretch rows.now.marks.now rows.now.values.now from) out.old at result out.new }
+    ensures from_lt_next { (from < result.next) × (result.next ≤ length rows.now.marks.now) × (result.at ≤ at + 30 * (result.next - from)) }
 {
     let i = from + 1;
-    let one = has_mark(marks, i, marks::HOLDS, marks::LACKS);
-    let two = has_mark(marks, i + 1, marks::HOLDS, marks::LACKS);
+    let one = has_mark(rows.marks, i, marks::HOLDS, marks::LACKS);
+    let two = has_mark(rows.marks, i + 1, marks::HOLDS, marks::LACKS);
     if one & !two {
-        let k = put_row(&mut *out, at, marks[i], rows::value_at(values, i));
+        let k = put_row(&mut *out, at, rows.marks[i], rows.value(i));
         return Emitted { at: k, next: i + 1 };
     }
     let k = text::put_bytes(&mut *out, at, b"(or");
-    let s = put_list(&mut *out, k, marks, values, i, marks::HOLDS, marks::LACKS);
+    let s = put_list(&mut *out, k, rows, i, marks::HOLDS, marks::LACKS);
     let k = text::put_byte(&mut *out, s.at, b')');
     Emitted {
         at: k,
@@ -114,16 +108,16 @@ fn put_clause(out: &mut [u8], at: usize, marks: &[u8], values: &[u8], from: usiz
 }
 
 // Writes the condition whose rows begin at `from`.
-pub fn put_condition(out: &mut [u8], at: usize, marks: &[u8], values: &[u8], from: usize) -> Emitted
-    requires { Reading marks.now values.now from (at + 5) 31 × Spells condition (stretch marks.now values.now from) }
-    ensures piece_answer { PieceAnswer condition (stretch marks.now values.now from) out.old at result out.new }
-    ensures from_le_next { (from ≤ result.next) × (result.next ≤ length marks.now) × (result.at ≤ at + 31 * (result.next - from) + 5) }
+pub fn put_condition(out: &mut [u8], at: usize, rows: &Rows, from: usize) -> Emitted
+    requires { Reading rows.now.marks.now rows.now.values.now from (at + 5) 31 × Spells condition (stretch rows.now.marks.now rows.now.values.now from) }
+    ensures piece_answer { PieceAnswer condition (stretch rows.now.marks.now rows.now.values.now from) out.old at result out.new }
+    ensures from_le_next { (from ≤ result.next) × (result.next ≤ length rows.now.marks.now) × (result.at ≤ at + 31 * (result.next - from) + 5) }
 {
     let mut k = text::put_bytes(&mut *out, at, b"(and");
     let mut i = from;
-    while has_mark(marks, i, marks::CLAUSE, marks::CLAUSE) {
+    while has_mark(rows.marks, i, marks::CLAUSE, marks::CLAUSE) {
         k = text::put_byte(&mut *out, k, b' ');
-        let s = put_clause(&mut *out, k, marks, values, i);
+        let s = put_clause(&mut *out, k, rows, i);
         k = s.at;
         i = s.next;
     }

@@ -9,15 +9,15 @@ use Rattle.pddl_parts.proofs.actions.put_actions.Goals as goal
 use Rattle.pddl_parts.proofs.actions.put_actions.Goals.{In-loop-out}
 
 -- the row that opens an action is there
-read : (c : In-loop-out) → let a = c.args in c.loop-out.i < length a.marks.now
+read : (c : In-loop-out) → let a = c.args in c.loop-out.i < length a.rows.now.marks.now
 read c =
     let a = c.args in
-    (there 1 1 a.marks.now c.loop-out.i (sym c.has_mark.ensures ∙ c.loop-out-test.true)).0
+    (there 1 1 a.rows.now.marks.now c.loop-out.i (sym c.has_mark.ensures ∙ c.loop-out-test.true)).0
 
 pub loop-out-init : goal.loop-out-init
 loop-out-init c =
     let a = c.args in
-    (search rules, search rules, looping action_parts a.marks.now a.values.now a.out.now a.at a.from (search rules))
+    (search rules, search rules, looping action_parts a.rows.now.marks.now a.rows.now.values.now a.out.now a.at a.from (search rules))
 
 pub put_action-s-requires : goal.put_action-s-requires
 put_action-s-requires c =

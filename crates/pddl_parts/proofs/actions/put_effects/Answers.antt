@@ -9,15 +9,15 @@ use Rattle.pddl_parts.proofs.actions.put_effects.Goals as goal
 use Rattle.pddl_parts.proofs.actions.put_effects.Goals.{In-loop-out}
 
 -- the row that opens an effect is there
-read : (c : In-loop-out) → let a = c.args in c.loop-out.i < length a.marks.now
+read : (c : In-loop-out) → let a = c.args in c.loop-out.i < length a.rows.now.marks.now
 read c =
     let a = c.args in
-    (there 2 2 a.marks.now c.loop-out.i (sym c.has_mark.ensures ∙ c.loop-out-test.true)).0
+    (there 2 2 a.rows.now.marks.now c.loop-out.i (sym c.has_mark.ensures ∙ c.loop-out-test.true)).0
 
 pub loop-out-init : goal.loop-out-init
 loop-out-init c =
     let a = c.args in
-    (search rules, 0, looping effect_parts a.marks.now a.values.now a.out.now a.at a.from (search rules))
+    (search rules, 0, looping effect_parts a.rows.now.marks.now a.rows.now.values.now a.out.now a.at a.from (search rules))
 
 pub put_byte-k-requires : goal.put_byte-k-requires
 put_byte-k-requires c = let h = read (goal.at.put_byte-k-requires c).In-loop-out in search rules

@@ -6,7 +6,7 @@ use Rattle.pddl_parts.proofs.EffectRows.{effect_parts}
 use Rattle.pddl_parts.proofs.actions.put_effects.Given as goal
 
 abbrev pub invariant-loop-out : goal.invariant-loop-out
-invariant-loop-out l = (l.k ≤ l.at + 32 * (l.i - l.from)) × (n : ℕ) × Looping effect_parts l.marks l.values l.initial.out l.at l.from l.out l.k l.i n
+invariant-loop-out l = (l.k ≤ l.at + 32 * (l.i - l.from)) × (n : ℕ) × Looping effect_parts l.rows.marks.now l.rows.values.now l.initial.out l.at l.from l.out l.k l.i n
 
 abbrev pub decreases-loop-out : goal.decreases-loop-out
-decreases-loop-out l = length l.marks - l.i
+decreases-loop-out l = length l.rows.marks.now - l.i

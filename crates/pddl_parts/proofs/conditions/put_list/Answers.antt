@@ -14,7 +14,7 @@ loop-i-init c =
 
 pub loop-i-preserved : goal.loop-i-preserved
 loop-i-preserved c =
-    one_more c.loop-i.invariant (sym c.has_mark.ensures ∙ c.if-not-has_mark.false) c.put_byte-k.ensures c.value_at.ensures c.put_row-k.ensures.wrote c.put_row-k.ensures.upper_bound
+    one_more c.loop-i.invariant (sym c.has_mark.ensures ∙ c.if-not-has_mark.false) c.put_byte-k.ensures c.value.ensures c.put_row-k.ensures.wrote c.put_row-k.ensures.upper_bound
 
 pub returns-then-not-has_mark : goal.returns-then-not-has_mark
 returns-then-not-has_mark c =
@@ -30,8 +30,8 @@ pub returns : goal.returns
 returns c =
     let a = c.args in
     let L = c.loop-i.invariant in
-    let last : length a.marks.now ≡ c.loop-i.i = omega (arith, L.rows_left, c.loop-i-test.false) in
-    let e = listed_all L (none_past a.least a.most a.marks.now c.loop-i.i c.loop-i-test.false) in
+    let last : length a.rows.now.marks.now ≡ c.loop-i.i = omega (arith, L.rows_left, c.loop-i-test.false) in
+    let e = listed_all L (none_past a.least a.most a.rows.now.marks.now c.loop-i.i c.loop-i-test.false) in
     record {
       wrote = e.0;
       next_value = last ∙ e.1;
