@@ -1,7 +1,7 @@
 // The 32-bit FNV-1a hash of a state's 16 bytes.
 #![tactic(auto)]
 
-ghost use Rattle.std.specs.Prelude.{◌≡◌};
+ghost use Rattle.std.specs.Prelude.{◌≡◌, ◌*◌, ◌%◌};
 ghost use Rattle.fnv.specs.Fnv.{BASIS, mixed, hash_from, fnv1a, little_endian, state_bytes};
 
 use state::State;
@@ -10,11 +10,18 @@ const BASIS: u32 = 2166136261;
 
 const PRIME: u32 = 16777619;
 
+// The product of two numbers of 32 bits, of which the lower 32 bits are kept: a helper of our own, as document 01 asks.
+fn times(a: u32, b: u32) -> u32
+    ensures { result ≡ a * b % 4294967296 }
+{
+    ((a as u64) * (b as u64) % 4294967296) as u32
+}
+
 // The hash h with one byte more.
 fn with_byte(h: u32, byte: u8) -> u32
     ensures { result ≡ mixed h byte }
 {
-    (h ^ u32::from(byte)).wrapping_mul(PRIME)
+    times(h ^ u32::from(byte), PRIME)
 }
 
 // The hash h with these bytes more.
