@@ -2,13 +2,13 @@
 use mathlib.Core.Path.{◌≡◌, refl, sym, ap, ◌∙◌}
 use mathlib.Core.Bool.{Bool, true, false, not}
 use mathlib.Core.List.{List, ◌++◌}
-use Prim.Native.Nat.{ℕ, ◌+◌, ◌-◌, ◌≤◌}
+use Prim.Native.Nat.{ℕ, ◌≤◌}
 use lib.Dec.{leb}
-use lib.ListN.{length, take, drop}
+use lib.ListN.{length, drop}
 use borrow.Author.Tests.{leb-true, le-leb, eq-eqb, ne_eqb, not-true, not-false}
 use Rattle.meaning.specs.Task.{Task}
 use Rattle.task.specs.File
-use Rattle.task.specs.File.{task_of}
+use Rattle.task.specs.File.{task_of, marks_of, values_of}
 use Rattle.task.specs.Check
 use Rattle.task.specs.Check.{check}
 use Rattle.std.specs.Prelude.{Result, Ok, Err}
@@ -80,17 +80,10 @@ module _ (b : List ℕ) {x : Result Sizes Refusal} {z : Sizes} (q : x ≡ Ok z) 
   accepted : check b ≡ Check.accepted (as_sizes z)
   accepted = sym e ∙ ap checked q
 
-  -- the marks and the values, as the code cuts them out of the file
-  abbrev pub marks_in : List ℕ
-  marks_in = take (8 + z.rows - 8) (drop 8 b)
-
-  abbrev pub values_in : List ℕ
-  values_in = take (length b - (8 + z.rows)) (drop (8 + z.rows) b)
-
   facts : z.facts ≡ (task_of b).facts
   facts = ap (λ (y : File.Sizes). y.facts) (sym (accepted_spelling b (as_sizes z) accepted).sized)
 
-  pub spelled : SpelledShort z.facts marks_in values_in
+  pub spelled : SpelledShort z.facts (marks_of b z.rows) (values_of b z.rows)
   spelled = (task_of b, facts, parts_spell b (as_sizes z) accepted, ((longest b (as_sizes z) accepted).0, (longest b (as_sizes z) accepted).1))
 
   module _ (domain problem : List ℕ) where
@@ -101,8 +94,10 @@ module _ (b : List ℕ) {x : Result Sizes Refusal} {z : Sizes} (q : x ≡ Ok z) 
     pub has_preferences : (z.preferences ≡ 0 → ⊥) → Due b domain problem (refused 13 0) domain problem
     has_preferences h = by_outcome b domain problem (refused 13 0) (rw (ne_eqb z.preferences 0 h) at on_task) refl refl
 
-    pub texts_put : z.preferences ≡ 0 → (r : Result Lengths Refusal) {domain' problem' : List ℕ} → OfTask z.facts marks_in values_in (TextsAnswer domain problem r)
-        → OfTask z.facts marks_in values_in (DomainLeft domain r domain') → OfTask z.facts marks_in values_in (ProblemLeft problem r problem')
+    pub texts_put : z.preferences ≡ 0 → (r : Result Lengths Refusal) {domain' problem' : List ℕ}
+        → OfTask z.facts (marks_of b z.rows) (values_of b z.rows) (TextsAnswer domain problem r)
+        → OfTask z.facts (marks_of b z.rows) (values_of b z.rows) (DomainLeft domain r domain')
+        → OfTask z.facts (marks_of b z.rows) (values_of b z.rows) (ProblemLeft problem r problem')
         → Due b domain problem (answer r) domain' problem'
     texts_put h r fits d p =
         let same : fitted (task_of b) (length domain) (length problem) ≡ outcome_over b domain problem = rw (eq-eqb z.preferences 0 h) at on_task in

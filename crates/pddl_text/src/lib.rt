@@ -4,7 +4,6 @@
 mod texts;
 
 ghost use Rattle.std.specs.Prelude.{◌≡◌, ◌≤◌};
-ghost use Rattle.task.specs.Rows.{Rows};
 ghost use Rattle.task.specs.Limits.{MAX_FACTS};
 ghost use Rattle.pddl_text.specs.Writing.{SpelledOver, SpelledShort, OfTask};
 ghost use Rattle.pddl_text.specs.Outcomes.{both_fit, outcome_over, domain_over, problem_over};
@@ -12,6 +11,7 @@ ghost use Rattle.pddl_text.specs.Answers.{answer, TextsAnswer, DomainPut, Proble
 
 use task::Refusal;
 use task::refused::Cause;
+use task::rows::{Rows, rows_of};
 
 // How long the two texts are.
 #[derive(Clone, Copy, PartialEq, Eq)]
@@ -24,19 +24,13 @@ pub struct Lengths {
 pub const MAX_PDDL: usize = 262144;
 
 // Writes both texts, each as far as its area reaches.
-fn put_both(
-    marks: &[u8],
-    values: &[u8],
-    facts: usize,
-    domain: &mut [u8],
-    problem: &mut [u8],
-) -> Lengths
-    requires { Rows marks.now values.now × (facts ≤ MAX_FACTS) × SpelledOver facts marks.now values.now }
-    ensures of_task { OfTask facts marks.now values.now (DomainPut domain.old result domain.new) }
-    ensures of_task_2 { OfTask facts marks.now values.now (ProblemPut problem.old result problem.new) }
+fn put_both(rows: &Rows, facts: usize, domain: &mut [u8], problem: &mut [u8]) -> Lengths
+    requires { (facts ≤ MAX_FACTS) × SpelledOver facts rows.now.marks.now rows.now.values.now }
+    ensures of_task { OfTask facts rows.now.marks.now rows.now.values.now (DomainPut domain.old result domain.new) }
+    ensures of_task_2 { OfTask facts rows.now.marks.now rows.now.values.now (ProblemPut problem.old result problem.new) }
 {
-    let p = texts::put_problem(&mut *problem, marks, values);
-    let d = texts::put_domain(&mut *domain, facts, marks, values, p.next);
+    let p = texts::put_problem(&mut *problem, rows);
+    let d = texts::put_domain(&mut *domain, facts, rows, p.next);
     Lengths {
         domain: d,
         problem: p.at,
@@ -44,36 +38,35 @@ fn put_both(
 }
 
 // Whether both fit into areas of so many bytes.
-fn both_fit(marks: &[u8], values: &[u8], facts: usize, domain: usize, problem: usize) -> bool
-    requires { Rows marks.now values.now × (facts ≤ MAX_FACTS) × SpelledOver facts marks.now values.now }
-    ensures { OfTask facts marks.now values.now (λ t. result ≡ both_fit t domain problem) }
+fn both_fit(rows: &Rows, facts: usize, domain: usize, problem: usize) -> bool
+    requires { (facts ≤ MAX_FACTS) × SpelledOver facts rows.now.marks.now rows.now.values.now }
+    ensures { OfTask facts rows.now.marks.now rows.now.values.now (λ t. result ≡ both_fit t domain problem) }
 {
     let mut no_domain: [u8; 1] = [0; 1];
     let mut no_problem: [u8; 1] = [0; 1];
-    let n = put_both(marks, values, facts, &mut no_domain, &mut no_problem);
+    let n = put_both(rows, facts, &mut no_domain, &mut no_problem);
     (n.domain <= domain) & (n.problem <= problem)
 }
 
 // Writes both texts, where both fit. They are counted first where an area is not long enough for every text.
 fn put_texts(
-    marks: &[u8],
-    values: &[u8],
+    rows: &Rows,
     facts: usize,
     domain: &mut [u8],
     problem: &mut [u8],
 ) -> Result<Lengths, Refusal>
-    requires { Rows marks.now values.now × (facts ≤ MAX_FACTS) × SpelledShort facts marks.now values.now }
-    ensures of_task { OfTask facts marks.now values.now (TextsAnswer domain.old problem.old result) }
-    ensures of_task_2 { OfTask facts marks.now values.now (DomainLeft domain.old result domain.new) }
-    ensures of_task_3 { OfTask facts marks.now values.now (ProblemLeft problem.old result problem.new) }
+    requires { (facts ≤ MAX_FACTS) × SpelledShort facts rows.now.marks.now rows.now.values.now }
+    ensures of_task { OfTask facts rows.now.marks.now rows.now.values.now (TextsAnswer domain.old problem.old result) }
+    ensures of_task_2 { OfTask facts rows.now.marks.now rows.now.values.now (DomainLeft domain.old result domain.new) }
+    ensures of_task_3 { OfTask facts rows.now.marks.now rows.now.values.now (ProblemLeft problem.old result problem.new) }
 {
     if (MAX_PDDL <= domain.len()) & (MAX_PDDL <= problem.len()) {
-        return Ok(put_both(marks, values, facts, &mut *domain, &mut *problem));
+        return Ok(put_both(rows, facts, &mut *domain, &mut *problem));
     }
-    if !both_fit(marks, values, facts, domain.len(), problem.len()) {
+    if !both_fit(rows, facts, domain.len(), problem.len()) {
         return Err(Cause::ShortArea.at(0));
     }
-    Ok(put_both(marks, values, facts, &mut *domain, &mut *problem))
+    Ok(put_both(rows, facts, &mut *domain, &mut *problem))
 }
 
 // Writes the task in a file as PDDL, the domain to the start of one area and the problem to that of the other. A refusal leaves both as
@@ -87,12 +80,5 @@ pub fn write(file: &[u8], domain: &mut [u8], problem: &mut [u8]) -> Result<Lengt
     if z.preferences != 0 {
         return Err(Cause::Preferences.at(0));
     }
-    let middle = 8 + z.rows;
-    put_texts(
-        &file[8..middle],
-        &file[middle..],
-        z.facts,
-        &mut *domain,
-        &mut *problem,
-    )
+    put_texts(&rows_of(file, z.rows), z.facts, &mut *domain, &mut *problem)
 }

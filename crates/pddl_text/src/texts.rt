@@ -1,7 +1,6 @@
 // The domain and the problem of a task.
 ghost use Rattle.std.specs.Prelude.{◌+◌, ◌*◌, ◌^◌, ◌≤◌, ◌<◌, length};
 ghost use Rattle.lists.specs.Lists.{range};
-ghost use Rattle.task.specs.Rows.{Rows};
 ghost use Rattle.task.specs.Limits.{MAX_FACTS};
 ghost use Rattle.text.specs.Area.{Wrote};
 ghost use Rattle.pddl_parts.specs.Pddl.{spaced, fact_text};
@@ -11,6 +10,7 @@ ghost use Rattle.pddl_text.specs.Writing.{Spelled, ActionsOver, ProblemAnswer, D
 use pddl_parts::conditions::Emitted;
 use pddl_parts::{actions, conditions};
 use task::marks;
+use task::rows::Rows;
 
 // Writes so many facts, each after a space.
 fn put_facts(out: &mut [u8], at: usize, facts: usize) -> usize
@@ -27,19 +27,19 @@ fn put_facts(out: &mut [u8], at: usize, facts: usize) -> usize
 }
 
 // Writes the problem, and answers the row of the first action with its length.
-pub fn put_problem(out: &mut [u8], marks: &[u8], values: &[u8]) -> Emitted
-    requires { Rows marks.now values.now × Spelled marks.now values.now }
-    ensures problem_answer { ProblemAnswer marks.now values.now out.old result out.new }
-    ensures next_in_bounds { result.next ≤ length marks.now }
+pub fn put_problem(out: &mut [u8], rows: &Rows) -> Emitted
+    requires { Spelled rows.now.marks.now rows.now.values.now }
+    ensures problem_answer { ProblemAnswer rows.now.marks.now rows.now.values.now out.old result out.new }
+    ensures next_in_bounds { result.next ≤ length rows.now.marks.now }
 {
     let k = text::put_bytes(
         &mut *out,
         0,
         b"(define (problem p) (:domain d)\n(:init (= (total-cost) 0)",
     );
-    let s = conditions::put_list(&mut *out, k, marks, values, 0, marks::START, marks::START);
+    let s = conditions::put_list(&mut *out, k, rows, 0, marks::START, marks::START);
     let k = text::put_bytes(&mut *out, s.at, b")\n(:goal ");
-    let c = conditions::put_condition(&mut *out, k, marks, values, s.next + 1);
+    let c = conditions::put_condition(&mut *out, k, rows, s.next + 1);
     let k = text::put_bytes(&mut *out, c.at, b")\n(:metric minimize (total-cost)))\n");
     Emitted {
         at: k,
@@ -48,10 +48,9 @@ pub fn put_problem(out: &mut [u8], marks: &[u8], values: &[u8]) -> Emitted
 }
 
 // Writes the domain; the first action stands at row `from`.
-pub fn put_domain(out: &mut [u8], facts: usize, marks: &[u8], values: &[u8], from: usize) -> usize
-    requires { Rows marks.now values.now × (from ≤ length marks.now) × (facts ≤ MAX_FACTS)
-        × ActionsOver facts (stretch marks.now values.now from) }
-    ensures { DomainAnswer facts (stretch marks.now values.now from) out.old result out.new }
+pub fn put_domain(out: &mut [u8], facts: usize, rows: &Rows, from: usize) -> usize
+    requires { (from ≤ length rows.now.marks.now) × (facts ≤ MAX_FACTS) × ActionsOver facts (stretch rows.now.marks.now rows.now.values.now from) }
+    ensures { DomainAnswer facts (stretch rows.now.marks.now rows.now.values.now from) out.old result out.new }
 {
     let k = text::put_bytes(
         &mut *out,
@@ -60,6 +59,6 @@ pub fn put_domain(out: &mut [u8], facts: usize, marks: &[u8], values: &[u8], fro
     );
     let k = put_facts(&mut *out, k, facts);
     let k = text::put_bytes(&mut *out, k, b")\n(:functions (total-cost))\n");
-    let s = actions::put_actions(&mut *out, k, marks, values, from);
+    let s = actions::put_actions(&mut *out, k, rows, from);
     text::put_bytes(&mut *out, s.at, b")\n")
 }

@@ -15,16 +15,16 @@ use Rattle.pddl_text.proofs.put_texts.Goals as goal
 
 pub put_both-requires : goal.put_both-requires
 put_both-requires c =
-    let (t, same, spelled, short) = c.requires.2 in
-    (search rules, search rules, (t, same, spelled))
+    let (t, same, spelled, short) = c.requires.1 in
+    (search rules, (t, same, spelled))
 
 pub returns-then-domain-problem : goal.returns-then-domain-problem
 returns-then-domain-problem c =
     let a = c.args in
-    let (t₀, same₀, spelled₀, short) = c.requires.2 in
+    let (t₀, same₀, spelled₀, short) = c.requires.1 in
     let (d_enough, p_enough) = both_true (leb 262144 (length a.domain.now)) (leb 262144 (length a.problem.now)) c.if-domain-problem.true in
     let put = c.put_both.ensures in
-    let parts = put_down a.facts a.marks.now a.values.now a.domain.now a.problem.now c.put_both.result put.of_task put.of_task_2
+    let parts = put_down a.facts a.rows.now.marks.now a.rows.now.values.now a.domain.now a.problem.now c.put_both.result put.of_task put.of_task_2
     (λ t same spelled. (
       omega (arith, (put.of_task t same spelled).size, (put.of_task t₀ same₀ spelled₀).size, short.0, leb-true 262144 (length a.domain.now) d_enough),
       omega (arith, (put.of_task_2 t same spelled).size, (put.of_task_2 t₀ same₀ spelled₀).size, short.1, leb-true 262144 (length a.problem.now) p_enough),
@@ -33,8 +33,8 @@ returns-then-domain-problem c =
 
 pub both_fit-requires : goal.both_fit-requires
 both_fit-requires c =
-    let (t, same, spelled, short) = c.requires.2 in
-    (search rules, search rules, (t, same, spelled))
+    let (t, same, spelled, short) = c.requires.1 in
+    (search rules, (t, same, spelled))
 
 pub returns-then-not-both_fit : goal.returns-then-not-both_fit
 returns-then-not-both_fit c =
@@ -48,13 +48,13 @@ returns-then-not-both_fit c =
 
 pub put_both-requires-2 : goal.put_both-requires-2
 put_both-requires-2 c =
-    let (t, same, spelled, short) = c.requires.2 in
-    (search rules, search rules, (t, same, spelled))
+    let (t, same, spelled, short) = c.requires.1 in
+    (search rules, (t, same, spelled))
 
 pub returns : goal.returns
 returns c =
     let a = c.args in
     let put = c.put_both-2.ensures in
-    let parts = put_down a.facts a.marks.now a.values.now a.domain.now a.problem.now c.put_both-2.result put.of_task put.of_task_2
+    let parts = put_down a.facts a.rows.now.marks.now a.rows.now.values.now a.domain.now a.problem.now c.put_both-2.result put.of_task put.of_task_2
     (λ t same spelled. counted_fit t a.domain.now a.problem.now (c.both_fit.ensures t same spelled) c.if-not-both_fit.false-raw) in
     record { of_task = parts.0; of_task_2 = parts.1.0; of_task_3 = parts.1.1 }

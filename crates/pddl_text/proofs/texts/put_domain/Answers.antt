@@ -7,7 +7,7 @@ use Rattle.pddl_text.proofs.texts.put_domain.Goals as goal
 pub put_actions-s-requires : goal.put_actions-s-requires
 put_actions-s-requires c =
     let a = c.args in
-    (search rules, its_actions a.facts (stretch a.marks.now a.values.now a.from) c.requires.3)
+    (search rules, its_actions a.facts (stretch a.rows.now.marks.now a.rows.now.values.now a.from) c.requires.2)
 
 pub returns : goal.returns
 returns c =
