@@ -5,7 +5,6 @@ mod preferences;
 
 ghost use Rattle.std.specs.Prelude.{◌≡◌, ◌*◌, length};
 ghost use Rattle.task.specs.File.{paired};
-ghost use Rattle.task.specs.Rows.{Rows};
 ghost use Rattle.meaning.specs.Verdict.{solved};
 ghost use Rattle.state.specs.Member.{bit};
 ghost use Rattle.plan.specs.ThenSettled.{with_amounts};
@@ -19,46 +18,31 @@ ghost use Rattle.report.specs.Rows.{verdict_of_rows, report_of_rows};
 use plan::{Solution, Verdict};
 use settling::Worth;
 use task::Refusal;
+use task::rows::{Rows, rows_of};
 
 // An area of this length holds every report (proofs/Longest).
 pub const MAX_REPORT: usize = 2048;
 
 // Writes the text of a plan that solves, from what it is worth.
-fn put_worth(
-    steps: usize,
-    s: Solution,
-    w: Worth,
-    marks: &[u8],
-    values: &[u8],
-    out: &mut [u8],
-) -> usize
-    requires { Rows marks.now values.now }
-    ensures { let rows = paired marks.now values.now in
+fn put_worth(steps: usize, s: Solution, w: Worth, rows: &Rows, out: &mut [u8]) -> usize
+    ensures { let listed = paired rows.now.marks.now rows.now.values.now in
         let verdict = solved s.cost w.metric w.utility (bit s.met) in
-        Wrote out.old 0 (verdict_of_rows rows steps verdict) result out.new }
+        Wrote out.old 0 (verdict_of_rows listed steps verdict) result out.new }
 {
     let a = report_lines::put_solved(&mut *out, 0, steps, s.cost);
-    let b = preferences::put_rows(&mut *out, a, s.met, marks, values);
+    let b = preferences::put_rows(&mut *out, a, s.met, rows);
     report_lines::put_amounts(&mut *out, b, w.metric, w.utility)
 }
 
 // Writes the text of a verdict on the task in a file. Settle refuses nothing that walk gave.
-fn put_verdict(
-    file: &[u8],
-    steps: usize,
-    v: Verdict,
-    marks: &[u8],
-    values: &[u8],
-    out: &mut [u8],
-) -> usize
-    requires { Rows marks.now values.now }
-    ensures { let rows = paired marks.now values.now in
+fn put_verdict(file: &[u8], steps: usize, v: Verdict, rows: &Rows, out: &mut [u8]) -> usize
+    ensures { let listed = paired rows.now.marks.now rows.now.values.now in
         let judged = with_amounts file.now (as_verdict v) in
-        Wrote out.old 0 (report_of_rows rows steps judged) result out.new }
+        Wrote out.old 0 (report_of_rows listed steps judged) result out.new }
 {
     match v {
         Verdict::Solved(s) => match settling::settle(file, s.cost, s.met) {
-            Ok(w) => put_worth(steps, s, w, marks, values, out),
+            Ok(w) => put_worth(steps, s, w, rows, out),
             Err(_) => 0,
         },
         Verdict::Stopped(step) => report_lines::put_stopped(out, 0, step),
@@ -76,8 +60,7 @@ fn put_text(file: &[u8], plan: &[u8], v: Verdict, out: &mut [u8]) -> usize
     let Ok(z) = task::check(file) else {
         return 0;
     };
-    let middle = 8 + z.rows;
-    put_verdict(file, steps, v, &file[8..middle], &file[middle..], out)
+    put_verdict(file, steps, v, &rows_of(file, z.rows), out)
 }
 
 // Writes the text of the verdict on a plan where the area has room for it. It is made in an area that holds every text, so that

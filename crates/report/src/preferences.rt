@@ -4,11 +4,10 @@ ghost use Rattle.state.specs.Member.{bit};
 ghost use Rattle.task.specs.TaskRows.{row};
 ghost use Rattle.task.specs.File.{paired, is_preference};
 ghost use Rattle.task.specs.Check.{count};
-ghost use Rattle.task.specs.Rows.{Rows};
 ghost use Rattle.text.specs.Area.{Wrote};
 ghost use Rattle.report.specs.Rows.{row_line, row_lines};
 
-use task::rows;
+use task::rows::Rows;
 
 // Where the next line goes, and the number of the next preference.
 #[derive(Clone, Copy)]
@@ -36,14 +35,14 @@ fn put_row(out: &mut [u8], next: Next, mark: u8, value: u32, met: u64) -> Next
 }
 
 // Writes the lines of all rows.
-pub fn put_rows(out: &mut [u8], at: usize, met: u64, marks: &[u8], values: &[u8]) -> usize
-    requires { Rows marks.now values.now × (at + 70 * length marks.now < 2 ^ 64) }
-    ensures wrote { Wrote out.old at (row_lines (bit met) 0 (paired marks.now values.now)) result out.new }
-    ensures upper_bound { result ≤ at + 70 * length marks.now }
+pub fn put_rows(out: &mut [u8], at: usize, met: u64, rows: &Rows) -> usize
+    requires { at + 70 * length rows.now.marks.now < 2 ^ 64 }
+    ensures wrote { Wrote out.old at (row_lines (bit met) 0 (paired rows.now.marks.now rows.now.values.now)) result out.new }
+    ensures upper_bound { result ≤ at + 70 * length rows.now.marks.now }
 {
     let mut next = Next { at, number: 0 };
-    for i in 0..marks.len() {
-        next = put_row(&mut *out, next, marks[i], rows::value_at(values, i), met);
+    for i in 0..rows.marks.len() {
+        next = put_row(&mut *out, next, rows.marks[i], rows.value(i), met);
     }
     next.at
 }

@@ -11,5 +11,5 @@ pub returns : goal.returns
 returns c =
     let a = c.args in
     let utility = to_z-of_z w64 a.w.utility (record { sfits = c.struct_told-1.given.1.0.1 }) in
-    let lines = row_lines (bit a.s.met) 0 (paired a.marks.now a.values.now) in
+    let lines = row_lines (bit a.s.met) 0 (paired a.rows.now.marks.now a.rows.now.values.now) in
     then (then {ys = lines} c.put_solved-a.ensures.wrote c.put_rows-b.ensures.wrote) (rw utility at c.put_amounts.ensures)

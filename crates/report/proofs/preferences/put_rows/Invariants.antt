@@ -4,4 +4,4 @@ use Rattle.report.proofs.Listing.{Listed}
 use Rattle.report.proofs.preferences.put_rows.Given as goal
 
 abbrev pub invariant-loop-i : goal.invariant-loop-i
-invariant-loop-i l = Listed (bit l.met) l.marks l.values l.initial.out l.at l.out l.next.at l.next.number l.i
+invariant-loop-i l = Listed (bit l.met) l.rows.marks.now l.rows.values.now l.initial.out l.at l.out l.next.at l.next.number l.i
