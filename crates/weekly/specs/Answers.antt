@@ -1,5 +1,5 @@
 -- What the values of `week` stand for.
-use Rattle.std.specs.Prelude.{List, [], ◌++◌, ℕ, ◌-◌, length, take, replicate, Option, Some, None, Result, Ok, Err}
+use Rattle.std.specs.Prelude.{List, ◌++◌, ℕ, ◌-◌, length, take, replicate, Option, Some, None, Result, Ok, Err}
 use Rattle.figures.specs.Plans
 use Rattle.figures.specs.Figures.{Figures, none_solves, solve}
 use Rattle.figures.specs.Week.{Answer, given, refused}

@@ -1,5 +1,5 @@
 // The plans of a week, taken in one by one.
-ghost use Rattle.std.specs.Prelude.{◌≡◌, Bool, cond, ◌||◌, List, ℕ, ◌+◌, ◌≤◌, ◌<◌, eqb, ltb};
+ghost use Rattle.std.specs.Prelude.{◌≡◌, cond, ◌||◌, ℕ, ◌+◌, ◌≤◌, ◌<◌, eqb, ltb};
 ghost use Rattle.task.specs.Check.{accepted, check};
 ghost use Rattle.task.specs.Answers.{as_sizes};
 ghost use Rattle.task.specs.Limits.{MAX_PLANS, MAX_PREFERENCES};

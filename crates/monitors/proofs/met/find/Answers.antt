@@ -1,7 +1,7 @@
 use borrow.Author.Rules.{rules}
 use mathlib.Core.Path.{refl, sym, ap, ◌∙◌}
 use mathlib.Core.Bool.{true}
-use Prim.Native.Nat.{ℕ, ◌+◌, ◌-◌}
+use Prim.Native.Nat.{ℕ, ◌+◌}
 use Rattle.task.specs.Rows.{value_at}
 use Rattle.task.proofs.Reading.{goes_on, ends_at}
 use Rattle.layout.specs.Counting.{counting, count_at}

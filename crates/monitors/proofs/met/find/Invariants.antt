@@ -1,6 +1,4 @@
 -- The loop counts the rows from `at` on, by the laws of a row automaton (`Reading`).
-use Prim.Native.Nat.{◌-◌}
-use lib.ListN.{length}
 use Rattle.monitors.proofs.Meeting.{Finding}
 use Rattle.monitors.proofs.met.find.Given as goal
 
