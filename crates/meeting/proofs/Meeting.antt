@@ -221,11 +221,5 @@ module _ {s : Nodes} (limit : ℕ) (H : Held s) (most : s.count ≤ limit) (x : 
 
 -- What the entry says
 
-pub found_at : (ws : List ℕ) (n : ℕ) (s : State) (e : ℕ) → (e ≡ 0 → ⊥) → Finds ws n s e → (e - 1 < n) × (state_at ws (e - 1) ≡ s)
-found_at ws n s zero d f = absurd (d refl)
-found_at ws n s (suc p) d f =
-    let q : suc p - 1 ≡ p = omega arith in
-    (omega (arith, f.0), ap (state_at ws) q ∙ f.1)
-
 pub found_none : (ws : List ℕ) (n : ℕ) (s : State) (e : ℕ) → e ≡ 0 → Finds ws n s e → (p : ℕ) → p < n → state_at ws p ≡ s → ⊥
 found_none ws n s e z f = subst (Finds ws n s) z f

@@ -41,7 +41,7 @@ fn add(words: &mut [u64], index: &mut Index, slot: usize, n: usize, x: Packed)
         → Played index.new.tree words.new (with_leaf n true o) Nowhere }
 {
     node_words::put_node(&mut *words, n, x);
-    index.table[slot] = (n + 1) as u16;
+    index.table[slot] = node_words::entry_of(n);
     tournament::set_leaf(&mut index.tree, &*words, n, true);
 }
 
@@ -55,9 +55,8 @@ pub fn meet(words: &mut [u64], index: &mut Index, n: usize, limit: usize, x: Pac
     ensures within { IfSome result (λ m. m ≤ limit) }
 {
     let slot = state_table::probe(&index.table, &*words, x.state());
-    let entry = index.table[slot] as usize;
-    if entry != 0 {
-        lower(&mut *words, &mut index.tree, entry - 1, x);
+    if let Some(p) = node_words::place_of(index.table[slot]) {
+        lower(&mut *words, &mut index.tree, p, x);
         return Some(n);
     }
     if n == limit {

@@ -3,7 +3,8 @@
 
 pub mod limits;
 
-ghost use Rattle.std.specs.Prelude.{◌≡◌, suc, MatchOption};
+ghost use Rattle.std.specs.Prelude.{◌≡◌, suc, ◌<◌, MatchOption};
+ghost use Rattle.searching.specs.Limits.{MAX_NODES};
 ghost use Rattle.node_words.specs.Words.{Placed, packed_at, state_of, as_node, Written};
 
 use state::State;
@@ -48,6 +49,14 @@ pub fn place_of(entry: u16) -> Option<usize>
     ensures { MatchOption result (entry ≡ 0) (λ p. entry ≡ suc p) }
 {
     usize::from(entry).checked_sub(1)
+}
+
+// The entry that names place p.
+pub fn entry_of(p: usize) -> u16
+    requires { p < MAX_NODES }
+    ensures { result ≡ suc p }
+{
+    (p + 1) as u16
 }
 
 // The node at place p.

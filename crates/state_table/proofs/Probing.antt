@@ -98,10 +98,3 @@ module _ (table ws : List ℕ) (n : ℕ) (s : State) (T : Tabled table ws n) whe
 
 pub stops_empty : (ws : List ℕ) (s : State) (e : ℕ) → e ≡ 0 → true ≡ stops_at ws s e
 stops_empty ws s e z = rw z refl
-
-pub stops_node : (ws : List ℕ) (s : State) (e : ℕ) → (e ≡ 0 → ⊥)
-    → (eqb (state_at ws (e - 1)).low s.low && eqb (state_at ws (e - 1)).high s.high) ≡ stops_at ws s e
-stops_node ws s zero z = absurd (z refl)
-stops_node ws s (suc p) z =
-    let q : suc p - 1 ≡ p = omega arith in
-    ap (λ (k : ℕ). eqb (state_at ws k).low s.low && eqb (state_at ws k).high s.high) q

@@ -13,11 +13,14 @@ use state::State;
 pub const SLOTS: usize = 2 * limits::MAX_NODES;
 
 // Whether a slot with this entry ends the way: it is empty, or the entry's node has the state.
-fn stops(entry: usize, words: &[u64], s: State) -> bool
+fn stops(entry: u16, words: &[u64], s: State) -> bool
     requires { RoomFor words.now entry }
     ensures { result ≡ stops_at words.now s entry }
 {
-    entry == 0 || node_words::state_at(words, entry - 1) == s
+    match node_words::place_of(entry) {
+        None => true,
+        Some(p) => node_words::state_at(words, p) == s,
+    }
 }
 
 // The slot that the hash of a state says.
@@ -35,7 +38,7 @@ pub fn probe(table: &[u16], words: &[u64], s: State) -> usize
     let from = home(s);
     for d in 0..SLOTS {
         let slot = (from + d) % SLOTS;
-        if stops(table[slot] as usize, words, s) {
+        if stops(table[slot], words, s) {
             return slot;
         }
     }

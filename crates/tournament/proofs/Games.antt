@@ -130,11 +130,6 @@ no_second ws (suc p) b e = subst (λ (x : ℕ). suc p ≡ cheaper ws (suc p) x) 
 pub no_first : (ws : List ℕ) (a b : ℕ) → a ≡ 0 → b ≡ cheaper ws a b
 no_first ws a b e = subst (λ (x : ℕ). b ≡ cheaper ws x b) (sym e) refl
 
-pub by_cost : (ws : List ℕ) (a b : ℕ) → (a ≡ 0 → ⊥) → (b ≡ 0 → ⊥)
-    → cond (ltb (cost_at ws (b - 1)) (cost_at ws (a - 1))) b a ≡ cheaper ws a b
-by_cost ws zero b h g = absurd (h refl)
-by_cost ws (suc p) zero h g = absurd (g refl)
-by_cost ws (suc p) (suc q) h g =
-    let x : suc p - 1 ≡ p = omega arith in
-    let y : suc q - 1 ≡ q = omega arith in
-    ap₂ (λ (i j : ℕ). cond (ltb (cost_at ws i) (cost_at ws j)) (suc q) (suc p)) y x
+pub by_cost : (ws : List ℕ) (a b p q : ℕ) → a ≡ suc p → b ≡ suc q → cond (ltb (cost_at ws q) (cost_at ws p)) b a ≡ cheaper ws a b
+by_cost ws a b p q h g =
+    (λ i. cond (ltb (cost_at ws q) (cost_at ws p)) (g i) (h i)) ∙ ap₂ (cheaper ws) (sym h) (sym g)

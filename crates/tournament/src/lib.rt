@@ -16,17 +16,17 @@ pub const LEAVES: usize = limits::MAX_NODES;
 pub const ENTRIES: usize = 2 * LEAVES;
 
 // The cheaper of two entries, on ties the first; 0 is none, and p + 1 the node at place p.
-fn cheaper(words: &[u64], a: usize, b: usize) -> usize
+fn cheaper(words: &[u64], a: u16, b: u16) -> u16
     requires { Known words.now a × Known words.now b }
     ensures { (result ≡ cheaper words.now a b) × Known words.now result }
 {
-    if a == 0 {
+    let Some(p) = node_words::place_of(a) else {
         return b;
-    }
-    if b == 0 {
+    };
+    let Some(q) = node_words::place_of(b) else {
         return a;
-    }
-    if node_words::cost_at(words, b - 1) < node_words::cost_at(words, a - 1) {
+    };
+    if node_words::cost_at(words, q) < node_words::cost_at(words, p) {
         b
     } else {
         a
@@ -41,9 +41,7 @@ pub fn replay(tree: &mut [u16], words: &[u64], k: usize)
 {
     let mut i = k;
     while 0 < i {
-        let a = tree[2 * i] as usize;
-        let b = tree[2 * i + 1] as usize;
-        tree[i] = cheaper(words, a, b) as u16;
+        tree[i] = cheaper(words, tree[2 * i], tree[2 * i + 1]);
         i = i / 2;
     }
 }
@@ -53,7 +51,7 @@ fn leaf_entry(p: usize, is_open: bool) -> u16
     requires { p < MAX_NODES }
     ensures { result ≡ cond is_open (suc p) 0 }
 {
-    if is_open { (p + 1) as u16 } else { 0 }
+    if is_open { node_words::entry_of(p) } else { 0 }
 }
 
 // Makes place p open or not, and plays its games again.

@@ -13,23 +13,19 @@ use Rattle.task.specs.Check
 use Rattle.task.specs.Check.{Answer, Context, Progress, accepted, may_end, follow, value_allowed, next_progress, first_progress, check_on, sizes_allowed, check_rows, check}
 use Rattle.meaning.specs.Verdict.{verdict}
 use Rattle.meaning.specs.Literals.{literals}
-use Rattle.plan.specs.Judged
 use Rattle.plan.specs.Judged.{Judged, steps_known, judged_by, judged}
 use Rattle.plan.specs.Walked
 use Rattle.plan.specs.Walked.{Walked, given, without_amounts, without_worth, walked}
-use Rattle.settling.specs.Settled
 use Rattle.settling.specs.Settled.{Settled, worth, worth_of, arguments_allowed, settled_by, settled}
 use Rattle.figures.specs.Plans.{plans, readable}
 use Rattle.figures.specs.Figures.{Figures, none_solves, solve, figures}
 use Rattle.figures.specs.Week
 use Rattle.figures.specs.Week.{is_long, is_faulty, first_faulty, week_by, week_of}
-use Rattle.outcome.specs.Outcome
 use Rattle.outcome.specs.Outcome.{Outcome, written, fitted}
 use Rattle.classical.specs.Translation.{further, compiled_rows, translated_actions}
 use Rattle.translation.specs.Translated.{rows_fitted, small_enough, outcome_by, outcome}
 use Rattle.translation.specs.Measured.{measured_by, measured}
 use Rattle.losses.specs.Losses.{Lost, lost, stopped, lost_after}
-use Rattle.lost.specs.Answered
 use Rattle.lost.specs.Answered.{Answered, answered_by, answered}
 use Rattle.canonical.specs.Canonical.{respelled_rows}
 use Rattle.spelling.specs.Outcome.{outcome_by as spelled_by, outcome as spelled}

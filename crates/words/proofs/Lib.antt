@@ -6,4 +6,5 @@ pub mod Unchanged
 pub mod Done
 -- What the code answers
 pub mod Bits
+pub mod Counts
 pub mod Sought

@@ -17,7 +17,6 @@ use Rattle.task.specs.Refused.{ARGUMENT, TEXT}
 use Rattle.task.proofs.Amounts.{check_under, still_accepted}
 use Rattle.plan.specs.Judged.{judged_by, judged}
 use Rattle.plan.specs.Walked.{Walked, without_worth, walked}
-use Rattle.settling.specs.Settled
 use Rattle.settling.specs.Settled.{Settled, worth_of, settled}
 use Rattle.outcome.specs.Outcome.{area_after}
 use Rattle.classical.specs.Translation.{compiled}

@@ -1,26 +1,24 @@
 -- Answers as numbers, for callers in C and Rust: the number that a function returns, and the words that it leaves in the
 -- answer area.
-use Rattle.std.specs.Prelude.{Bool, cond, List, [], ◌∷◌, map, ℕ, zero, suc, ◌+◌, ◌*◌, ◌-◌, ◌^◌, length, ℤ, pos, negsuc, get_or, replicate}
+use Rattle.std.specs.Prelude.{Bool, cond, List, [], ◌∷◌, map, ℕ, zero, suc, ◌+◌, ◌*◌, ◌-◌, ◌^◌, length, ℤ, pos, negsuc, get_or, replicate, Result, Ok, Err}
 use Rattle.lists.specs.Lists.{range}
 use Rattle.task.specs.Check
 use Rattle.task.specs.Check.{Answer}
+use Rattle.task.specs.Answers.{number_of}
+use Rattle.task.specs.declared.Refusal.{Refusal}
 use Rattle.task.specs.Limits.{MAX_PREFERENCES}
-use Rattle.plan.specs.Walked
 use Rattle.plan.specs.Walked.{Walk, solved, stopped, goal_missed, rule_missed, Walked, given}
-use Rattle.settling.specs.Settled
 use Rattle.settling.specs.Settled.{Settled, worth}
 use Rattle.figures.specs.Figures.{Figures, none_solves, solve}
 use Rattle.figures.specs.Week
 use Rattle.pddl_text.specs.Outcomes
 use Rattle.losses.specs.Losses
 use Rattle.losses.specs.Losses.{Lost}
-use Rattle.lost.specs.Answered
 use Rattle.lost.specs.Answered.{Answered}
 use Rattle.searched.specs.Searched
 use Rattle.searched.specs.Searched.{found, no_plan, full}
 use Rattle.finding.specs.declared.Sought.{Sought}
-use Rattle.finding.specs.declared.Sought.TheVariants.{Found, NoPlan, Full, Refused}
-use Rattle.outcome.specs.Outcome
+use Rattle.finding.specs.declared.Sought.TheVariants.{Found, NoPlan, Full}
 use Rattle.outcome.specs.Outcome.{Outcome, written}
 
 pub data Call : Type 0 where
@@ -33,6 +31,10 @@ answered a b c d e f g = call 0 (0 ∷ a ∷ b ∷ c ∷ d ∷ e ∷ f ∷ g ∷
 -- a refusal: its number is returned, word 0 is its place, and the other words are 0
 abbrev pub refusal : ℕ → ℕ → Call
 refusal n i = call n (i ∷ 0 ∷ 0 ∷ 0 ∷ 0 ∷ 0 ∷ 0 ∷ 0 ∷ [])
+
+-- the same in an answer of N words
+abbrev pub refusal_in : ℕ → ℕ → ℕ → Call
+refusal_in N n i = call n (i ∷ replicate (N - 1) 0)
 
 -- words 1 to 4 are the sizes
 abbrev pub of_check : Answer → Call
@@ -110,8 +112,8 @@ abbrev pub of_search : Searched.Searched → Call
 of_search x = of_found x.answer (length x.kept)
 
 -- the same of what `find` answers
-abbrev pub of_sought : Sought → Call
-of_sought (Found r nodes) = answered 1 r.cost r.steps nodes 0 0 0
-of_sought (NoPlan nodes) = answered 2 0 0 nodes 0 0 0
-of_sought (Full nodes) = answered 3 0 0 nodes 0 0 0
-of_sought (Refused r) = refusal r.number r.place
+abbrev pub of_sought : Result Sought Refusal → Call
+of_sought (Ok (Found r nodes)) = answered 1 r.cost r.steps nodes 0 0 0
+of_sought (Ok (NoPlan nodes)) = answered 2 0 0 nodes 0 0 0
+of_sought (Ok (Full nodes)) = answered 3 0 0 nodes 0 0 0
+of_sought (Err r) = refusal (number_of r.cause) r.place

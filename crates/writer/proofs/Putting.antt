@@ -15,7 +15,7 @@ use Rattle.task.specs.Rows.{value_at}
 use Rattle.task.proofs.Bytes.{length_values}
 use Rattle.task.proofs.Reading.{row_at}
 use Rattle.layout.specs.Sides.{stretch}
-use Rattle.writer.specs.Writer.{row_after, put_row, put_rows, Room, Wrote, header}
+use Rattle.writer.specs.Writer.{row_after, put_row, put_rows, Room, Wrote}
 use Rattle.writer.specs.declared.Cursor.{Cursor}
 use Rattle.writer.proofs.Blocks.{as_blocks}
 
@@ -111,13 +111,6 @@ module _ (ms vs : List ℕ) (j to : ℕ) where
 
   pub no_row : to ≤ j → stretch ms vs j to ≡ []
   no_row h = let e : to - j ≡ 0 = omega arith in rw e
-
--- The header
-
-pub sizes_put : (b b₁ b₂ b₃ b₄ : List ℕ) (F A P n : ℕ) → b₁ ≡ sets b 0 (bytes16 F) → b₂ ≡ sets b₁ 2 (bytes16 A) → b₃ ≡ sets b₂ 4 (bytes16 P) → b₄ ≡ sets b₃ 6 (bytes16 n)
-    → b₄ ≡ sets b 0 (header F A P n)
-sizes_put b b₁ b₂ b₃ b₄ F A P n p q r s =
-    s ∙ ap (λ (l : List ℕ). sets l 6 (bytes16 n)) (r ∙ ap (λ (l : List ℕ). sets l 4 (bytes16 P)) (q ∙ ap (λ (l : List ℕ). sets l 2 (bytes16 A)) p))
 
 -- The whole file
 

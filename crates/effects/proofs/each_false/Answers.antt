@@ -1,18 +1,9 @@
-use mathlib.Core.Path.{◌∙◌}
 use Rattle.layout.specs.Sides.{stretch}
 use Rattle.effects.specs.Effects.{guard_rows, changed_rows, false_rows}
 use Rattle.effects.proofs.FalseRows.{next_false, last-false}
-use Rattle.writer.proofs.Putting.{then, as_rows, wrote_full, kept_none, kept_on}
+use Rattle.writer.proofs.Putting.{then, as_rows, wrote_full, kept_on}
 use borrow.Author.Rules.{rules}
 use Rattle.effects.proofs.each_false.Goals as goal
-
-pub loop-j-init : goal.loop-j-init
-loop-j-init c =
-    let a = c.args in
-    record { so_far = kept_none (search rules); onward = λ r o w. w }
-
-pub shape_of-out-then-k-ge-OVERFULL : goal.shape_of-out-then-k-ge-OVERFULL
-shape_of-out-then-k-ge-OVERFULL c = c.loop-j.invariant.so_far.size
 
 pub returns-then-k-ge-OVERFULL : goal.returns-then-k-ge-OVERFULL
 returns-then-k-ge-OVERFULL c =
@@ -32,10 +23,6 @@ loop-j-preserved c =
           (changed_rows a.e.change) c.loop-j.begun (search rules) (search rules))
           (then c.false_row-k.ensures w));
     }
-
-pub shape_of-out : goal.shape_of-out
-shape_of-out c =
-    c.close_effect.auto.out ∙ c.loop-j.invariant.so_far.size
 
 pub returns : goal.returns
 returns c =

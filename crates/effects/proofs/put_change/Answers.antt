@@ -2,12 +2,6 @@
 use Rattle.writer.proofs.Putting.{then}
 use Rattle.effects.proofs.put_change.Goals as goal
 
-pub returns-in-Add : goal.returns-in-Add
-returns-in-Add c = rw c.in-Add.is c.put_row.ensures
-
 pub returns-in-AddBoth : goal.returns-in-AddBoth
 returns-in-AddBoth c =
     rw c.in-AddBoth.is (then c.put_row-k.ensures c.put_row-in-AddBoth.ensures)
-
-pub returns-in-Delete : goal.returns-in-Delete
-returns-in-Delete c = rw c.in-Delete.is c.put_row-in-Delete.ensures

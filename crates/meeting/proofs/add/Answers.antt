@@ -18,10 +18,7 @@ set_leaf-requires c =
 pub returns : goal.returns
 returns c =
     let W = c.put_node.ensures in record {
-      written = (W, ap (λ (k : ℕ). set c.args.index.now.table c.args.slot k) (one_more c.args.n));
+      written = (W, ap (λ (k : ℕ). set c.args.index.now.table c.args.slot k) c.entry_of.ensures);
       by_index = λ o P. c.set_leaf.ensures o
           (rewritten c.args.index.now.tree c.args.words.now o P c.put_node.new.words c.args.n W.others W.long);
     }
-  where
-    one_more : (n : ℕ) → n + 1 ≡ suc n
-    one_more n = omega arith

@@ -5,9 +5,9 @@ use Prim.Native.Nat.{suc, ◌+◌, ◌-◌}
 use native.Mathlib.Omega.{arith}
 use Rattle.node_words.specs.Words.{state_of}
 use Rattle.state.specs.declared.State.{State}
-use Rattle.state_table.specs.Table.{entry_at, Probed}
+use Rattle.state_table.specs.Table.{entry_at, Finds, Probed}
 use Rattle.meeting.specs.Meeting.{open_below, Narrow}
-use Rattle.meeting.proofs.Meeting.{met_known, met_full, met_new, found_at, found_none}
+use Rattle.meeting.proofs.Meeting.{met_known, met_full, met_new, found_none}
 use Rattle.meeting.proofs.meet.Goals as goal
 use Rattle.meeting.proofs.meet.Goals.{After-probe-slot, Start}
 
@@ -35,24 +35,20 @@ offset_bounds-index-slot c = record { fits = omega (arith, (probed c).within) }
 pub bounds-index-slot : goal.bounds-index-slot
 bounds-index-slot c = (probed (goal.at.bounds-index-slot c).After-probe-slot).within
 
-pub overflow_cast-entry : goal.overflow_cast-entry
-overflow_cast-entry c =
-    let T = c.requires.2.1.tabled in
-    record { fits = omega (arith, T.known c.probe-slot.result, T.few) }
-
 pub lower-requires : goal.lower-requires
 lower-requires c =
     let H = c.requires.2.1 in
     let T = H.tabled in
     (omega (arith, T.known c.probe-slot.result, T.few), record { long = H.long; is_open = open_below c.args.n c.requires.2.0; played = H.played })
 
-pub returns-then-entry-ne0-clause-met : goal.returns-then-entry-ne0-clause-met
-returns-then-entry-ne0-clause-met c = λ taken H fresh.
+pub returns-in-Some-clause-met : goal.returns-in-Some-clause-met
+returns-in-Some-clause-met c = λ taken H fresh.
     let a = c.args in
-    let e = entry_at a.index.now.table c.probe-slot.result in
-    let f = found_at a.words.now a.n (state_of a.x) e c.if-entry-ne0.true (probed (goal.at.returns-then-entry-ne0-clause-met c).After-probe-slot).finds in
-    met_known a.limit H (search rules) a.x (narrow (goal.at.returns-then-entry-ne0-clause-met c).Start)
-    c.lower.new.words c.lower.new.tree (e - 1) f.0 f.1 c.lower.ensures.lowered (c.lower.ensures.by_index (open_below a.n taken) H.played)
+    let p = c.in-Some.p in
+    let f : Finds a.words.now a.n (state_of a.x) (suc p) =
+    subst (Finds a.words.now a.n (state_of a.x)) c.in-Some.ensures (probed (goal.at.returns-in-Some-clause-met c).After-probe-slot).finds in
+    met_known a.limit H (search rules) a.x (narrow (goal.at.returns-in-Some-clause-met c).Start)
+    c.lower.new.words c.lower.new.tree p f.0 f.1 c.lower.ensures.lowered (c.lower.ensures.by_index (open_below a.n taken) H.played)
 
 pub returns-then-n-limit-clause-met : goal.returns-then-n-limit-clause-met
 returns-then-n-limit-clause-met c = λ taken H fresh.

@@ -18,11 +18,6 @@ bounds-table-slot c =
     let T = c.requires.1 in
     omega (arith, T.slots)
 
-pub overflow_cast-table : goal.overflow_cast-table
-overflow_cast-table c =
-    let T = c.requires.1 in
-    record { fits = omega (arith, T.known ((c.home-from.result + c.loop-d.d) % 2048), T.few) }
-
 pub stops-requires : goal.stops-requires
 stops-requires c =
     let T = c.requires.1 in

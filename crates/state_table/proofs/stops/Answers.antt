@@ -1,19 +1,17 @@
--- The state of the entry's node, by `stops_node`.
-use mathlib.Core.Path.{ap, ◌∙◌}
+-- An empty slot stops by `stops_empty`, and another by its node's state.
+use mathlib.Core.Path.{sym, ap, ◌∙◌}
 use mathlib.Core.Bool.{◌&&◌}
 use lib.Dec.{eqb}
-use borrow.Author.Tests.{eq-eqb}
 use Rattle.state.specs.declared.State.{State}
-use Rattle.state_table.proofs.Probing.{stops_empty, stops_node}
+use Rattle.state_table.specs.Table.{stops_at}
+use Rattle.state_table.proofs.Probing.{stops_empty}
 use Rattle.state_table.proofs.stops.Goals as goal
 
-pub returns-then-entry-eq0 : goal.returns-then-entry-eq0
-returns-then-entry-eq0 c =
-    let a = c.args in
-    eq-eqb a.entry 0 c.if-entry-eq0.true ∙ stops_empty a.words.now a.s a.entry c.if-entry-eq0.true
+pub returns-in-None : goal.returns-in-None
+returns-in-None c = let a = c.args in stops_empty a.words.now a.s a.entry c.in-None.ensures
 
-pub returns-else-entry-eq0 : goal.returns-else-entry-eq0
-returns-else-entry-eq0 c =
+pub returns-in-Some : goal.returns-in-Some
+returns-in-Some c =
     let a = c.args in
     c.eq.ensures ∙ ap (λ (t : State). eqb t.low a.s.low && eqb t.high a.s.high) c.state_at.ensures
-    ∙ stops_node a.words.now a.s a.entry c.if-entry-eq0.false
+    ∙ ap (stops_at a.words.now a.s) (sym c.in-Some.ensures)

@@ -10,21 +10,10 @@ pub loop-i-init : goal.loop-i-init
 loop-i-init c =
     record { below = search rules; long = refl; some = c.requires.1; keeps = λ o P. P }
 
--- entries are at most MAX_NODES
-pub overflow_cast-a : goal.overflow_cast-a
-overflow_cast-a c =
-    let l = c.loop-i in
-    record { fits = omega (arith, (l.invariant.some.1.known (2 * l.i)).few) }
-
 pub bounds-tree-i : goal.bounds-tree-i
 bounds-tree-i c =
     let l = c.loop-i in
     omega (arith, l.invariant.some.1.nodes, l.invariant.below)
-
-pub overflow_cast-b : goal.overflow_cast-b
-overflow_cast-b c =
-    let l = c.loop-i in
-    record { fits = omega (arith, (l.invariant.some.1.known (2 * l.i + 1)).few) }
 
 pub bounds-tree-i-in-loop-i : goal.bounds-tree-i-in-loop-i
 bounds-tree-i-in-loop-i c =

@@ -1,16 +1,6 @@
-use native.Mathlib.Omega.{arith}
-use Rattle.writer.proofs.Putting.{kept_none}
 use Rattle.trackers.proofs.Tracking.{tracked_on, tracked_all, tracked_full}
 use borrow.Author.Rules.{rules}
 use Rattle.trackers.proofs.all_trackers.Goals as goal
-
-pub loop-at-init : goal.loop-at-init
-loop-at-init c =
-    let a = c.args in
-    record { so_far = kept_none (search rules); fact = omega arith; within = search rules; few = omega arith; onward = λ r o w. w }
-
-pub shape_of-out-then-k-ge-OVERFULL : goal.shape_of-out-then-k-ge-OVERFULL
-shape_of-out-then-k-ge-OVERFULL c = c.loop-at.invariant.so_far.size
 
 pub returns-then-k-ge-OVERFULL : goal.returns-then-k-ge-OVERFULL
 returns-then-k-ge-OVERFULL c =
@@ -22,9 +12,6 @@ loop-at-preserved c =
     let a = c.args in
     tracked_on a.rows.now.marks.now a.rows.now.values.now a.last a.starts.now c.loop-at.invariant (search rules)
     c.trackers_at-k.auto.out c.trackers_at-k.ensures c.further_at-d.ensures
-
-pub shape_of-out : goal.shape_of-out
-shape_of-out c = c.loop-at.invariant.so_far.size
 
 pub returns : goal.returns
 returns c =

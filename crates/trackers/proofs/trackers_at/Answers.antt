@@ -4,20 +4,13 @@ use mathlib.Core.Bool.{not, ◌&&◌}
 use Prim.Native.Nat.{ℕ}
 use lib.Dec.{eqb}
 use lib.ListN.{length}
-use borrow.Author.Tests.{le-leb, lt-leb}
+use borrow.Author.Tests.{lt-leb}
 use Rattle.layout.specs.Sides.{sides_at, part}
-use Rattle.layout.specs.declared.sides.Sides.{Sides}
 use Rattle.task.specs.Rows.{steps_at}
-use Rattle.trackers.specs.Trackers.{trackers_with}
 use Rattle.trackers.proofs.ByMark.{not_in_end}
 use Rattle.writer.proofs.Putting.{as_rows, wrote_none}
 use borrow.Author.Rules.{rules}
 use Rattle.trackers.proofs.trackers_at.Goals as goal
-
-pub returns-then-rows-at : goal.returns-then-rows-at
-returns-then-rows-at c =
-    let a = c.args in
-    rw (le-leb (length a.rows.now.marks.now) a.at (search rules)) (wrote_none (search rules))
 
 pub returns-then-mark-last : goal.returns-then-mark-last
 returns-then-mark-last c =
@@ -28,9 +21,3 @@ returns-then-mark-last c =
     rw (lt-leb (length ms) a.at (search rules))
     (as_rows (not_in_end _ (steps_at ms vs a.at) a.last a.f (part ms vs p.first) (part ms vs p.second)
     (ap (λ (x : ℕ). eqb x 12 && not a.last) (sym c.soft_mark-mark.ensures) ∙ c.if-mark-last.true)) (wrote_none (search rules)))
-
-pub returns : goal.returns
-returns c =
-    let a = c.args in
-    rw (lt-leb (length a.rows.now.marks.now) a.at (search rules))
-    (as_rows (ap (λ (x : Sides). trackers_with a.rows.now.marks.now a.rows.now.values.now a.at x a.f a.last) c.locate-p.ensures.value) c.trackers_of.ensures)

@@ -1,11 +1,15 @@
--- Word by word: the counts are count_at's.
+-- One more count stands behind those before it: next of Counts.
+use borrow.Author.Rules.{rules}
+use mathlib.Core.Path.{refl, ◌∙◌}
 use mathlib.Core.List.{[], ◌∷◌}
-use Rattle.words.specs.Numbers.{call}
+use Prim.Native.Nat.{ℕ, ◌+◌}
+use lib.ListN.{get_or, set, take}
+use Rattle.words.proofs.Counts.{next}
 use Rattle.words.proofs.put_amounts.Goals as goal
 
-pub returns : goal.returns
-returns c =
+pub loop-k-preserved : goal.loop-k-preserved
+loop-k-preserved c =
     let a = c.args.a in
-    λ z. call 0 (0 ∷ a.solving ∷ a.least ∷ a.greatest ∷ a.sum ∷ a.mean ∷ a.remainder ∷ 0
-    ∷ c.count_at.ensures z ∷ c.count_at-2.ensures z ∷ c.count_at-3.ensures z ∷ c.count_at-4.ensures z ∷ c.count_at-5.ensures z ∷ c.count_at-6.ensures z ∷ c.count_at-7.ensures z ∷ c.count_at-8.ensures z
-    ∷ c.count_at-9.ensures z ∷ c.count_at-10.ensures z ∷ c.count_at-11.ensures z ∷ c.count_at-12.ensures z ∷ c.count_at-13.ensures z ∷ c.count_at-14.ensures z ∷ c.count_at-15.ensures z ∷ c.count_at-16.ensures z ∷ [])
+    (λ i. set (c.loop-k.invariant i) (8 + c.loop-k.k) (c.count_at.ensures i))
+    ∙ next (λ (k : ℕ). get_or (take a.preferences a.meeting) k 0) (0 ∷ a.solving ∷ a.least ∷ a.greatest ∷ a.sum ∷ a.mean ∷ a.remainder ∷ 0 ∷ []) 8 16 c.loop-k.k refl
+    (search rules)

@@ -3,14 +3,9 @@ use mathlib.Core.Path.{sym, ap, ◌∙◌}
 use Rattle.layout.specs.Sides.{part}
 use borrow.Author.Rules.{rules}
 use Rattle.writer.specs.Writer.{row_after}
-use Rattle.writer.proofs.Putting.{wrote_none, wrote_past, as_rows, no_row}
+use Rattle.writer.proofs.Putting.{wrote_past}
 use Rattle.writer.proofs.Copying.{stretch_long}
 use Rattle.writer.proofs.copy_rows.Goals as goal
-
-pub returns-then-s : goal.returns-then-s
-returns-then-s c =
-    let a = c.args in
-    as_rows (sym (no_row a.rows.now.marks.now a.rows.now.values.now a.s.from a.s.to (search rules))) (wrote_none c.requires.0)
 
 pub returns-then-c : goal.returns-then-c
 returns-then-c c =

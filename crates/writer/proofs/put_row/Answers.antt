@@ -9,7 +9,3 @@ pub returns-then-c : goal.returns-then-c
 returns-then-c c =
     let a = c.args in
     wrote_past a.out.now a.c (row a.mark a.value ∷ []) c.advance_by.result (search rules) (search rules) c.advance_by.ensures
-
-pub returns : goal.returns
-returns c =
-    record { room = search rules; same = c.advance_by-2.ensures.0; next = c.advance_by-2.ensures.1; file = c.store_row.ensures }

@@ -9,12 +9,3 @@ returns-then-c c =
     let a = c.args in
     λ xs held. wrote_past a.out.now a.c xs c.advance_by.result c.requires.0 (search rules)
     (c.advance_by.ensures.0, omega (arith, c.advance_by.ensures.1, held.counted, c.requires.1.ordered, c.requires.1.before))
-
-pub returns : goal.returns
-returns c =
-    λ xs held. record {
-      room = search rules;
-      same = c.advance_by-2.ensures.0;
-      next = omega (arith, c.advance_by-2.ensures.1, held.counted, c.requires.1.ordered, c.requires.1.before);
-      file = c.store_again.ensures xs held;
-    }

@@ -1,20 +1,12 @@
 use Rattle.writer.proofs.Putting.{as_rows}
-use Rattle.kind_trackers.proofs.Numbering.{begins, goes_on, ends, deletes, deletes_are}
+use Rattle.kind_trackers.proofs.Numbering.{goes_on, ends, deletes, deletes_are}
 use borrow.Author.Rules.{rules}
 use Rattle.kind_trackers.proofs.deadlines.put_deletes.Goals as goal
-
-pub loop-j-init : goal.loop-j-init
-loop-j-init c =
-    let a = c.args in
-    begins (deletes a.d) a.steps (search rules)
 
 pub loop-j-preserved : goal.loop-j-preserved
 loop-j-preserved c =
     let a = c.args in
     goes_on (deletes a.d) a.steps c.loop-j.invariant (search rules) c.put_row-k.auto.out c.put_row-k.ensures
-
-pub shape_of-out : goal.shape_of-out
-shape_of-out c = c.loop-j.invariant.so_far.size
 
 pub returns : goal.returns
 returns c =

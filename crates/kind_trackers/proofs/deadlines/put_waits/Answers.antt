@@ -1,21 +1,13 @@
 use Rattle.layout.specs.Sides.{part}
 use Rattle.kind_trackers.specs.Rows.{wait_rows}
-use Rattle.kind_trackers.proofs.Numbering.{begins, goes_on, ends}
+use Rattle.kind_trackers.proofs.Numbering.{goes_on, ends}
 use borrow.Author.Rules.{rules}
 use Rattle.kind_trackers.proofs.deadlines.put_waits.Goals as goal
-
-pub loop-j-init : goal.loop-j-init
-loop-j-init c =
-    let a = c.args in
-    begins (wait_rows a.f a.steps (part a.rows.now.marks.now a.rows.now.values.now a.psi)) a.steps (search rules)
 
 pub loop-j-preserved : goal.loop-j-preserved
 loop-j-preserved c =
     let a = c.args in
     goes_on (wait_rows a.f a.steps (part a.rows.now.marks.now a.rows.now.values.now a.psi)) a.steps c.loop-j.invariant (search rules) c.put_wait-k.auto.out c.put_wait-k.ensures
-
-pub shape_of-out : goal.shape_of-out
-shape_of-out c = c.loop-j.invariant.so_far.size
 
 pub returns : goal.returns
 returns c =

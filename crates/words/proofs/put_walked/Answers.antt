@@ -1,8 +1,0 @@
--- A verdict is written by put_verdict, a refusal by put_refusal: the two cases of of_walk.
-use Rattle.words.proofs.put_walked.Goals as goal
-
-pub returns-in-Given : goal.returns-in-Given
-returns-in-Given c = rw c.in-Given.is c.put_verdict.ensures
-
-pub returns-in-Refused : goal.returns-in-Refused
-returns-in-Refused c = rw c.in-Refused.is c.put_refusal.ensures
