@@ -2,20 +2,15 @@
 // comes to: program judge's lines about its source part, and what the planner paid, held to the metric in them.
 #![tactic(auto)]
 
-use files::Content;
-use outcome::Outcome;
-use plan::{Verdict, Walked};
+use plan::Verdict;
 use std::io;
 use task::limits;
 
 // Prints the report of a plan on a task: one line where it does not solve.
 fn say_report(rt: &impl Print, task: &[u8], plan: &[u8]) -> io::Result<()> {
     let mut out = [0u8; report::MAX_REPORT];
-    let answer = report::write_report(task, plan, &mut out);
-    match answer {
-        Outcome::Written(n) => rt.write_all(text::front(&out, n)),
-        Outcome::Refused(f) => files::say_refused(rt, f),
-    }
+    let written = report::write_report(task, plan, &mut out);
+    files::say_written(rt, written, &out)
 }
 
 // Prints what the planner paid for a plan, and where that is not its metric, what it is worth.
@@ -29,35 +24,32 @@ fn say_paid(rt: &impl Print, task: &[u8], plan: &[u8], cost: u64) -> io::Result<
 // paid_in_full of paid_line is its metric.
 fn confirm(rt: &impl Print, task: &[u8], planned: &[u8], cost: u64) -> io::Result<()> {
     let mut plan = [0u8; limits::MAX_STEPS];
-    let part = source::source(task, planned, &mut plan);
-    match part {
-        Outcome::Written(n) => {
+    match source::source(task, planned, &mut plan) {
+        Ok(n) => {
             say_report(rt, task, text::front(&plan, n))?;
             say_paid(rt, task, text::front(&plan, n), cost)
         }
-        Outcome::Refused(f) => files::say_refused(rt, f),
+        Err(f) => files::say_refused(rt, f),
     }
 }
 
 // Prints where a list stops in the translation, or that it misses the goal there.
 fn deny(rt: &impl Print, compiled: &[u8], planned: &[u8]) -> io::Result<()> {
     let mut list = [0u8; limits::MAX_STEPS];
-    let steps = plan_text::read(planned, &mut list);
-    match steps {
-        Outcome::Written(n) => say_report(rt, compiled, text::front(&list, n)),
-        Outcome::Refused(f) => files::say_refused(rt, f),
+    match plan_text::read(planned, &mut list) {
+        Ok(n) => say_report(rt, compiled, text::front(&list, n)),
+        Err(f) => files::say_refused(rt, f),
     }
 }
 
 // Walks what the planner printed on the translation of the task.
 fn walk(rt: &impl Print, task: &[u8], planned: &[u8], compiled: &[u8]) -> io::Result<()> {
-    let walked = plan_text::walk_text(compiled, planned);
-    match walked {
-        Walked::Given(verdict, _) => match verdict {
+    match plan_text::walk_text(compiled, planned) {
+        Ok(walked) => match walked.verdict {
             Verdict::Solved(solution) => confirm(rt, task, planned, solution.cost),
             _ => deny(rt, compiled, planned),
         },
-        Walked::Refused(f) => files::say_refused(rt, f),
+        Err(f) => files::say_refused(rt, f),
     }
 }
 
@@ -66,23 +58,20 @@ fn main(rt: HostRuntime) -> io::Result<()> {
     // file.
     let mut task = [0u8; files::LARGE];
     let mut planned = [0u8; limits::MAX_TEXT + 1];
-    let of_task = files::read(&rt, b"task", &mut task);
-    let of_planned = files::read(&rt, b"planned", &mut planned);
-    let Content::Bytes(n) = of_task else {
+    let Some(n) = files::read(&rt, b"task", &mut task) else {
         return files::say_missing(&rt);
     };
-    let Content::Bytes(m) = of_planned else {
+    let Some(m) = files::read(&rt, b"planned", &mut planned) else {
         return files::say_missing(&rt);
     };
     let mut compiled = [0u8; files::LARGE];
-    let answer = translation::translate(text::front(&task, n), &mut compiled);
-    match answer {
-        Outcome::Written(k) => walk(
+    match translation::translate(text::front(&task, n), &mut compiled) {
+        Ok(k) => walk(
             &rt,
             text::front(&task, n),
             text::front(&planned, m),
             text::front(&compiled, k),
         ),
-        Outcome::Refused(f) => files::say_refused(&rt, f),
+        Err(f) => files::say_refused(&rt, f),
     }
 }

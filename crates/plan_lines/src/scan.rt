@@ -34,8 +34,7 @@ fn with_digit(n: u8, b: u8) -> u8
     requires { 48 ≤ b }
     ensures { result ≡ as_byte (10 * n + (b - 48)) }
 {
-    let m = 10 * (n as u16) + ((b - b'0') as u16);
-    if m < 255 { m as u8 } else { 255 }
+    n.saturating_mul(10).saturating_add(b - b'0')
 }
 
 fn after_opening(b: u8) -> Mode

@@ -22,7 +22,7 @@ use Rattle.layout.specs.declared.sides.Span.{Span}
 use Rattle.layout.proofs.Ends.{end_after, part_is, condition_between}
 use Rattle.writer.specs.Writer.{Room, Wrote, Standing}
 use Rattle.writer.specs.declared.Cursor.{Cursor}
-use Rattle.writer.proofs.Putting.{Onward, Kept, kept_none, kept_on, then, wrote_none, wrote_full, as_rows}
+use Rattle.writer.proofs.Putting.{Onward, Kept, kept_on, then, wrote_none, wrote_full, as_rows}
 use Rattle.writer.proofs.Copying.{stands, still_stands}
 use Rattle.effects.specs.Effects.{single_rows}
 use Rattle.trackers.specs.Trackers.{trackers_by, all_tracker_rows}
@@ -70,16 +70,6 @@ module _ (ms vs : List ℕ) (F from to N : ℕ) (starts : List ℕ) (placed : Pl
 
   abbrev tracking : List Row
   tracking = trackers_by ms vs starts F false
-
-  pub acting_none : {b : List ℕ} {c : Cursor} → Room c b → Acting ms vs F tracking b c b c from (record { from = 0; to = 0 })
-  acting_none room =
-      record {
-        so_far = kept_none room;
-        before = record { below = omega arith; held = λ h. absurd (omega arith) };
-        left = (read_task F ms vs).actions;
-        rest = placed.acts;
-        onward = λ r o w. w;
-      }
 
   module _ {b : List ℕ} {c : Cursor} {out : List ℕ} {k : Cursor} {j : ℕ} {s : Span} (t : Acting ms vs F tracking b c out k j s) where
     -- after the action's own rows the trackers of the action before stand as they stood

@@ -3,10 +3,6 @@ use borrow.Author.Rules.{rules}
 use Rattle.paid_line.specs.Paid.{unsolved_line}
 use Rattle.paid_line.proofs.put_held.Goals as goal
 
-pub returns-in-Some : goal.returns-in-Some
-returns-in-Some c =
-    record { wrote = rw c.in-Some.is c.put_solved.ensures.wrote; upper_bound = c.put_solved.ensures.upper_bound }
-
 pub returns-in-None : goal.returns-in-None
 unfolding unsolved_line
 returns-in-None c = record {

@@ -1,5 +1,5 @@
 use borrow.Author.Rules.{rules}
-use Rattle.week_report.proofs.Listing.{no_lines, next_line_lem, all_lines}
+use Rattle.week_report.proofs.Listing.{no_lines, next_line_lem}
 use Rattle.week_report.proofs.put_meetings.Goals as goal
 
 pub loop-k-init : goal.loop-k-init
@@ -10,8 +10,3 @@ loop-k-preserved c =
     let a = c.args in
     next_line_lem a.counts.now a.out.now a.at c.loop-k.out c.loop-k.p c.loop-k.k c.loop-k.invariant c.put_meeting-p.result
     c.put_meeting-p.new.out (search rules) c.put_meeting-p.ensures.wrote (search rules)
-
-pub returns : goal.returns
-returns c =
-    let a = c.args in
-    all_lines a.counts.now a.out.now a.at c.loop-k.out c.loop-k.p c.loop-k.k c.loop-k.invariant (search rules)

@@ -1,17 +1,12 @@
 use mathlib.Core.Path.{ap, ◌∙◌}
 use Prim.Native.Nat.{ℕ}
-use lib.ListN.{get_or, drop}
+use lib.ListN.{get_or}
 use Rattle.task.specs.TaskRows.{row}
-use Rattle.translated_rows.specs.Further.{further_row, further_rows}
+use Rattle.translated_rows.specs.Further.{further_row}
 use Rattle.translated_rows.proofs.FurtherRows.{one_more, all_rows}
-use native.Mathlib.Nat.{zero-add}
-use Rattle.task.specs.File.{paired}
 use native.Mathlib.Omega.{arith}
 use borrow.Author.Rules.{rules}
 use Rattle.translated_rows.proofs.further.count.Goals as goal
-
-pub loop-i-init : goal.loop-i-init
-loop-i-init c = let a = c.args in record { rows_left = search rules; few = omega arith; so_far = zero-add (further_rows (drop a.at (paired a.rows.now.marks.now a.rows.now.values.now))) }
 
 pub loop-i-preserved : goal.loop-i-preserved
 loop-i-preserved c =

@@ -1,14 +1,6 @@
-use Rattle.translated_rows.proofs.PartRows.{acting_none, before_own, acted_on, acted_all, acted_full}
+use Rattle.translated_rows.proofs.PartRows.{before_own, acted_on, acted_all, acted_full}
 use borrow.Author.Rules.{rules}
 use Rattle.translated_rows.proofs.parts.put_actions.Goals as goal
-
-pub loop-j-init : goal.loop-j-init
-loop-j-init c =
-    let a = c.args in
-    acting_none a.rows.now.marks.now a.rows.now.values.now a.facts a.s.from a.s.to a.normal a.starts.now c.requires.1 c.requires.0
-
-pub shape_of-out-then-k-ge-OVERFULL : goal.shape_of-out-then-k-ge-OVERFULL
-shape_of-out-then-k-ge-OVERFULL c = c.loop-j.invariant.so_far.size
 
 pub returns-then-k-ge-OVERFULL : goal.returns-then-k-ge-OVERFULL
 returns-then-k-ge-OVERFULL c =
@@ -29,9 +21,6 @@ loop-j-preserved c =
     acted_on a.rows.now.marks.now a.rows.now.values.now a.facts a.s.from a.s.to a.normal a.starts.now c.requires.1 c.loop-j.invariant c.loop-j-test.true
     c.skip_marks-mid.result c.skip_marks-next.result c.skip_marks-mid.ensures.value c.skip_marks-next.ensures.value
     c.put_trackers-k.auto.out c.put_own-own.auto.out c.put_own-own.ensures c.put_trackers-k.ensures
-
-pub shape_of-out : goal.shape_of-out
-shape_of-out c = c.loop-j.invariant.so_far.size
 
 pub returns : goal.returns
 returns c =

@@ -13,9 +13,6 @@ loop-fact-init c =
       so_far = record { number = 0; left = preferences_to a.facts a.ended; fact = omega arith; together = omega arith; onward = λ r o w. w };
     }
 
-pub shape_of-out-then-k-ge-OVERFULL : goal.shape_of-out-then-k-ge-OVERFULL
-shape_of-out-then-k-ge-OVERFULL c = c.loop-fact.invariant.kept.size
-
 pub returns-then-k-ge-OVERFULL : goal.returns-then-k-ge-OVERFULL
 returns-then-k-ge-OVERFULL c =
     let a = c.args in
@@ -28,9 +25,6 @@ loop-fact-preserved c =
       kept = kept_on c.loop-fact.invariant.kept c.put_single-k.auto.out c.put_single-k.ensures;
       so_far = ending_on a.facts a.ended (search rules) c.put_single-k.ensures c.loop-fact.invariant.so_far;
     }
-
-pub shape_of-out : goal.shape_of-out
-shape_of-out c = c.loop-fact.invariant.kept.size
 
 pub returns : goal.returns
 returns c =
