@@ -117,14 +117,7 @@ pub fn put_effect(out: &mut [u8], c: Cursor, rows: &Rows, e: Effect) -> Cursor
 }
 
 // Row j of an effect's condition: a clause opens the next effect, a literal is denied. `begun` says that an effect is open.
-fn false_row(
-    out: &mut [u8],
-    c: Cursor,
-    rows: &Rows,
-    e: Effect,
-    j: usize,
-    begun: bool,
-) -> Cursor
+fn false_row(out: &mut [u8], c: Cursor, rows: &Rows, e: Effect, j: usize, begun: bool) -> Cursor
     requires { Room c out.old × Inside rows.now.marks.now e × (j < length rows.now.marks.now) }
     ensures { Wrote out.old c (false_row_at rows.now.marks.now rows.now.values.now e j begun) result out.new }
 {

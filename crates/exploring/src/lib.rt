@@ -16,8 +16,8 @@ use expanding::Turn;
 use meeting::Index;
 use node_words;
 use reading::conditions;
-use tournament;
 use task::rows::Rows;
+use tournament;
 
 // Found has the place that meets the goal; each has the number of nodes.
 #[derive(Clone, Copy)]

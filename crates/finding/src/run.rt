@@ -18,8 +18,8 @@ use node_words::Packed;
 use reading::opening;
 use state_table;
 use task::limits;
-use tournament;
 use task::rows::Rows;
+use tournament;
 
 // Searches the task that the rows spell. The opening node is met as any other, by a table and a tree that hold none.
 pub fn on_rows(rows: &Rows, limit: usize, words: &mut [u64]) -> Ended
@@ -43,12 +43,5 @@ pub fn on_rows(rows: &Rows, limit: usize, words: &mut [u64]) -> Ended
         link: 0,
     };
     meeting::meet(&mut *words, &mut index, 0, limit, x);
-    exploring::explore(
-        rows,
-        &starts[0..many],
-        goal,
-        limit,
-        &mut *words,
-        &mut index,
-    )
+    exploring::explore(rows, &starts[0..many], goal, limit, &mut *words, &mut index)
 }

@@ -13,8 +13,8 @@ use super::Facts;
 use effects::{Change, Effect, Guard};
 use layout::sides::{Sides, Span};
 use task::marks;
-use writer::Cursor;
 use task::rows::Rows;
+use writer::Cursor;
 
 // D of j holds: D of j + 1 is added.
 fn put_onward(out: &mut [u8], c: Cursor, d: u32, j: u32) -> Cursor
@@ -47,14 +47,7 @@ fn put_count(out: &mut [u8], c: Cursor, d: u32, steps: u32) -> Cursor
     onwards(&mut *out, k, d, steps)
 }
 
-pub fn within(
-    out: &mut [u8],
-    c: Cursor,
-    rows: &Rows,
-    p: Sides,
-    f: Facts,
-    steps: u32,
-) -> Cursor
+pub fn within(out: &mut [u8], c: Cursor, rows: &Rows, p: Sides, f: Facts, steps: u32) -> Cursor
     requires { Room c out.old × SidesInside rows.now.marks.now p × Small f × (steps ≤ MAX_DEADLINE) }
     ensures { Wrote out.old c (sided rows.now.marks.now rows.now.values.now p (within_rows f steps)) result out.new }
 {
@@ -99,14 +92,7 @@ fn put_wait(
     effects::each_false(&mut *out, c, rows, waits)
 }
 
-fn put_waits(
-    out: &mut [u8],
-    c: Cursor,
-    rows: &Rows,
-    psi: Span,
-    f: Facts,
-    steps: u32,
-) -> Cursor
+fn put_waits(out: &mut [u8], c: Cursor, rows: &Rows, psi: Span, f: Facts, steps: u32) -> Cursor
     requires { Room c out.old × Waits rows.now.marks.now psi f steps }
     ensures { Wrote out.old c (all_wait_rows f steps (part rows.now.marks.now rows.now.values.now psi)) result out.new }
 {
@@ -130,14 +116,7 @@ fn put_deletes(out: &mut [u8], c: Cursor, d: u32, steps: u32) -> Cursor
 }
 
 // ψ ends all waiting, where it comes in time.
-fn put_reset(
-    out: &mut [u8],
-    c: Cursor,
-    rows: &Rows,
-    psi: Span,
-    f: Facts,
-    steps: u32,
-) -> Cursor
+fn put_reset(out: &mut [u8], c: Cursor, rows: &Rows, psi: Span, f: Facts, steps: u32) -> Cursor
     requires { Room c out.old × Waits rows.now.marks.now psi f steps }
     ensures { Wrote out.old c (reset_rows f steps (part rows.now.marks.now rows.now.values.now psi)) result out.new }
 {

@@ -5,8 +5,8 @@ ghost use Rattle.kind_trackers.specs.Rows.{SidesInside, sided, always_rows, once
 use super::Facts;
 use effects::{Change, Effect, Guard};
 use layout::sides::Sides;
-use writer::Cursor;
 use task::rows::Rows;
+use writer::Cursor;
 
 pub fn always(out: &mut [u8], c: Cursor, rows: &Rows, p: Sides, f: Facts) -> Cursor
     requires { Room c out.old × SidesInside rows.now.marks.now p }
@@ -21,13 +21,7 @@ pub fn always(out: &mut [u8], c: Cursor, rows: &Rows, p: Sides, f: Facts) -> Cur
     effects::each_false(&mut *out, c, rows, broken)
 }
 
-pub fn at_most_once(
-    out: &mut [u8],
-    c: Cursor,
-    rows: &Rows,
-    p: Sides,
-    f: Facts,
-) -> Cursor
+pub fn at_most_once(out: &mut [u8], c: Cursor, rows: &Rows, p: Sides, f: Facts) -> Cursor
     requires { Room c out.old × SidesInside rows.now.marks.now p }
     ensures { Wrote out.old c (sided rows.now.marks.now rows.now.values.now p (once_rows f)) result out.new }
 {
@@ -52,13 +46,7 @@ pub fn at_most_once(
     effects::put_effect(&mut *out, k, rows, returns)
 }
 
-pub fn sometime_before(
-    out: &mut [u8],
-    c: Cursor,
-    rows: &Rows,
-    p: Sides,
-    f: Facts,
-) -> Cursor
+pub fn sometime_before(out: &mut [u8], c: Cursor, rows: &Rows, p: Sides, f: Facts) -> Cursor
     requires { Room c out.old × SidesInside rows.now.marks.now p }
     ensures { Wrote out.old c (sided rows.now.marks.now rows.now.values.now p (before_rows f)) result out.new }
 {
@@ -78,13 +66,7 @@ pub fn sometime_before(
     effects::put_effect(&mut *out, k, rows, too_early)
 }
 
-pub fn sometime_after(
-    out: &mut [u8],
-    c: Cursor,
-    rows: &Rows,
-    p: Sides,
-    f: Facts,
-) -> Cursor
+pub fn sometime_after(out: &mut [u8], c: Cursor, rows: &Rows, p: Sides, f: Facts) -> Cursor
     requires { Room c out.old × SidesInside rows.now.marks.now p }
     ensures { Wrote out.old c (sided rows.now.marks.now rows.now.values.now p (after_rows f)) result out.new }
 {
@@ -105,14 +87,7 @@ pub fn sometime_after(
 }
 
 // Sometime and at-end, where it is wanted.
-pub fn reached(
-    out: &mut [u8],
-    c: Cursor,
-    rows: &Rows,
-    p: Sides,
-    f: Facts,
-    wanted: bool,
-) -> Cursor
+pub fn reached(out: &mut [u8], c: Cursor, rows: &Rows, p: Sides, f: Facts, wanted: bool) -> Cursor
     requires { Room c out.old × SidesInside rows.now.marks.now p }
     ensures { Wrote out.old c (sided rows.now.marks.now rows.now.values.now p (reached_rows f wanted)) result out.new }
 {

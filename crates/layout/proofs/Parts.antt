@@ -1,14 +1,12 @@
 -- The marks and the values of an accepted file spell its task.
 use mathlib.Core.Path.{◌≡◌, ap}
 use mathlib.Core.List.{List}
-use Prim.Native.Nat.{ℕ, ◌+◌, ◌-◌}
+use Prim.Native.Nat.{ℕ}
 use native.Mathlib.Omega.{arith}
-use lib.ListN.{length, take, drop, length-take, length-drop}
 use Rattle.task.specs.File.{Sizes, task_of, marks_of, values_of}
 use Rattle.task.specs.Check.{accepted, check}
 use Rattle.task.proofs.Spelled.{Spelling, accepted_spelling}
 use Rattle.task.proofs.Answered.{Limited, limited, parts_spell}
-use Rattle.task.specs.Rows.{Rows}
 use Rattle.layout.specs.Rows.{Spells}
 
 module _ (b : List ℕ) (z : Sizes) (h : check b ≡ accepted z) where

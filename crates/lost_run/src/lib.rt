@@ -45,7 +45,8 @@ fn follow(
     ms: &mut [u8],
 ) -> Run
     requires rows { (length list.now ≤ MAX_STEPS) × AllFresh ms.old }
-    requires all_below { AllBelow (length rows.now.marks.now) starts.now × ((t : Task) × Setting rows.now.marks.now rows.now.values.now at starts.now rules.now t × Opens s t) }
+    requires all_below { AllBelow (length rows.now.marks.now) starts.now
+        × ((t : Task) × Setting rows.now.marks.now rows.now.values.now at starts.now rules.now t × Opens s t) }
     ensures { (t : Task) → Setting rows.now.marks.now rows.now.values.now at starts.now rules.now t
         → Opens s t → RunAs t list.now result }
 {

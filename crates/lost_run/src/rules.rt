@@ -9,8 +9,8 @@ ghost use Rattle.losses.specs.Following.{Position, lost_here};
 ghost use Rattle.lost_run.specs.Run.{RuleAt, SeenBy, lost_of, SomeRules, Rules, Kept};
 
 use monitor::Monitor;
-use task::kinds::Kind;
 use task::kinds;
+use task::kinds::Kind;
 use task::rows::Rows;
 
 // A rule with its monitor: whether it is met, and whether it is shown broken.

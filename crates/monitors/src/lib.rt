@@ -11,8 +11,8 @@ ghost use Rattle.monitors.specs.Monitors.{head_rows, is_two_sided, sides_at, MOS
 
 use reading::conditions;
 use state::State;
-use task::{kinds, marks};
 use task::rows::Rows;
+use task::{kinds, marks};
 
 // φ and ψ of a preference in a state, how many literals were looked at, and the row after the preference.
 #[derive(Clone, Copy)]

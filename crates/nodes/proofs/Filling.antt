@@ -1,12 +1,12 @@
 -- Filling a list from the front, one element a turn: laws on plain lists.
 use mathlib.Core.Path.{◌≡◌, refl, sym, ◌∙◌, ap}
-use Prim.Native.Nat.{ℕ, zero, suc, ◌+◌, ◌<◌, ◌≤◌}
+use Prim.Native.Nat.{ℕ, zero, suc, ◌+◌, ◌<◌}
 use native.Mathlib.Nat.{not-suc-le-zero, le_of_suc-le-suc}
 use native.Mathlib.Numerals.{add-one}
 use native.Mathlib.Decide.{ℕ_discrete}
 use native.Mathlib.Omega.{arith}
 use mathlib.Core.List.{List, [], ◌∷◌, ◌++◌, append_assoc}
-use lib.ListN.{length, set, drop, get_or, length-append, length-drop, get_or-append}
+use lib.ListN.{length, set, drop, get_or, length-append, get_or-append}
 use lib.Seq.{get_or-append_seam}
 use Rattle.nodes.specs.Nodes.{up_to}
 
@@ -39,9 +39,6 @@ module _ {A : Type 0} where
       -- i elements are new, and the others as they were
       abbrev pub filled : ℕ → List A
       filled i = up_to f i ++ drop i ys
-
-      pub length-filled : (i : ℕ) → i ≤ length ys → length (filled i) ≡ length ys
-      length-filled i l = omega (arith, length-append (up_to f i) (drop i ys), length-up_to i, length-drop i ys)
 
       -- one turn
       pub filled_next : (i : ℕ) → i < length ys → set (filled i) i (f i) ≡ filled (i + 1)

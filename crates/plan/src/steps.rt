@@ -143,11 +143,7 @@ fn follow(
             high: p.high,
         };
         let seen = monitors::watch(rows, places.preferences, here, false, &mut *ms);
-        let moved = step(
-            rows,
-            starts[step_index(plan[i])],
-            looked_on(p, seen),
-        );
+        let moved = step(rows, starts[step_index(plan[i])], looked_on(p, seen));
         match moved {
             Ok(q) => {
                 p = q;

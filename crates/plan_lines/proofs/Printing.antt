@@ -1,12 +1,12 @@
 -- A plan's text, line after line.
 use mathlib.Core.Path.{◌≡◌, refl, sym, ap, ◌∙◌}
 use mathlib.Core.List.{List, [], ◌∷◌, ◌++◌, append_assoc}
-use Prim.Native.Nat.{ℕ, ◌+◌, ◌<◌, ◌≤◌}
+use Prim.Native.Nat.{ℕ, ◌+◌, ◌<◌}
 use native.Mathlib.Numerals.{add-one}
 use lib.ListN.{length, get_or, take}
-use lib.Seq.{take-suc, take_all}
-use Rattle.text.specs.Area.{Wrote, Filled}
-use Rattle.text.proofs.Writing.{then, from_start, no_bytes}
+use lib.Seq.{take-suc}
+use Rattle.text.specs.Area.{Wrote}
+use Rattle.text.proofs.Writing.{then, no_bytes}
 use Rattle.plan_lines.specs.PlanText.{step_line, text_of}
 
 text_snoc : (p : List ℕ) (n : ℕ) → text_of (p ++ (n ∷ [])) ≡ text_of p ++ (step_line n ++ (10 ∷ []))
@@ -24,6 +24,3 @@ module _ (b p : List ℕ) where
   pub one_line_more : (mid out : List ℕ) (i j k : ℕ) → i < length p
       → Wrote b 0 (text_of (take i p)) j mid → Wrote mid j (step_line (get_or p i 0) ++ (10 ∷ [])) k out → Wrote b 0 (text_of (take (i + 1) p)) k out
   one_line_more mid out i j k h v w = rw (add-one i, take-suc p i 0 h, text_snoc (take i p) (get_or p i 0)) (then v w)
-
-  pub all_lines : (out : List ℕ) (i k : ℕ) → length p ≤ i → Wrote b 0 (text_of (take i p)) k out → Filled b (text_of p) k out
-  all_lines out i k h v = from_start (rw (take_all i p h) at v)

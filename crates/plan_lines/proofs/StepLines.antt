@@ -52,14 +52,6 @@ module _ (t : List ℕ) (k n : ℕ) where
             ∙ ap (λ (x : List ℕ). ascii "(a" ++ (x ++ drop (k + 1) t)) (sym more);
       }
 
-  pub closes : k + 2 ≤ length t → get_or t k 0 ≡ 41 → get_or t (k + 1) 0 ≡ 10 → Closes t k n n (k + 2)
-  closes h p q =
-      let one : k + 1 < length t = omega arith in
-      let two : suc (k + 1) ≡ k + 2 = omega arith in
-      let on : drop k t ≡ get_or t k 0 ∷ drop (k + 1) t = drop-cons t k 0 (omega arith) ∙ ap (λ (j : ℕ). get_or t k 0 ∷ drop j t) (sym (add-one k)) in
-      let last : drop (k + 1) t ≡ get_or t (k + 1) 0 ∷ drop (suc (k + 1)) t = drop-cons t (k + 1) 0 one in
-      record { same = refl; ends = on ∙ (λ z. p z ∷ last z) ∙ (λ z. 41 ∷ q z ∷ drop (two z) t); inside = h }
-
   pub line_closed : (s z : ℕ) → Numbered t k n → Closes t k n s z → Begins t s z
   unfolding step_line
   line_closed s z v c =

@@ -2,7 +2,6 @@
 ghost use Rattle.std.specs.Prelude.{◌≡◌, true, ◌+◌, ◌*◌, ◌-◌, ◌^◌, ◌<◌, ◌≤◌, length, IfSome};
 ghost use Rattle.task.specs.Limits.{MAX_TEXT};
 ghost use Rattle.text.specs.Area.{written};
-ghost use Rattle.text.specs.Text.{is_digit};
 ghost use Rattle.plan_lines.specs.PlanText.{as_byte, lines_of, read_lines};
 ghost use Rattle.plan_lines.specs.declared.scan.Mode.TheVariants.{Opening, Letter, Digits};
 ghost use Rattle.plan_lines.specs.Scan.{follow, next_line, advance, is_opening, count as count_of, counted, begun, step_of, step_at, at_line, start, steps_from};

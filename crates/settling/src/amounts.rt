@@ -10,8 +10,8 @@ ghost use Rattle.layout.specs.Counting.{counting, count_at, AMPLE};
 ghost use Rattle.settling.specs.Amounts.{Room, nothing, weighed, as_weights};
 
 use super::Worth;
-use task::{limits, marks};
 use task::rows::Rows;
+use task::{limits, marks};
 
 // So many preferences: the weights of those that are met, and of the others.
 #[derive(Clone, Copy)]

@@ -5,9 +5,8 @@ use mathlib.Core.List.{List, ◌++◌}
 use mathlib.Core.Option.{Option, none, some}
 use Rattle.std.specs.Prelude.{Result, Ok, Err}
 use Prim.Native.Nat.{ℕ, ◌+◌, ◌*◌, ◌≤◌}
-use native.Mathlib.Omega.{arith}
 use lib.Dec.{T, leb}
-use lib.ListN.{length, take, drop, length-take, length-drop}
+use lib.ListN.{length, take, drop}
 use lib.Seq.{take_at}
 use borrow.Author.Tests.{leb-true}
 use Rattle.meaning.specs.Task.{Task}
@@ -21,10 +20,9 @@ use Rattle.task.specs.Check.{check, sizes_allowed}
 use Rattle.task.specs.Answers.{answer as checked, as_sizes, number_of}
 use Rattle.task.specs.declared.Sizes.{Sizes}
 use Rattle.task.specs.declared.Refusal.{Refusal}
-use Rattle.task.specs.Rows.{Rows}
 use Rattle.task.proofs.Bytes.{file_length}
 use Rattle.task.proofs.Spelled.{Spelling, accepted_spelling}
-use Rattle.task.proofs.Answered.{parts_spell, Limited, limited}
+use Rattle.task.proofs.Answered.{parts_spell}
 use Rattle.outcome.specs.Outcome.{written, refused, area_after}
 use Rattle.outcome.specs.Answers.{answer}
 use Rattle.alike.specs.Alike.{Alike}
@@ -122,9 +120,6 @@ module _ (b area : List ℕ) (x : Result Sizes Refusal) (e : checked x ≡ check
     spelling : Spelling b (as_sizes z)
     spelling = accepted_spelling b (as_sizes z) accepted
 
-    sizes_limited : Limited b (as_sizes z)
-    sizes_limited = limited b (as_sizes z) accepted
-
     abbrev ms : List ℕ
     ms = marks_of b z.rows
 
@@ -133,9 +128,6 @@ module _ (b area : List ℕ) (x : Result Sizes Refusal) (e : checked x ≡ check
 
     pub allowed : sizes_allowed (as_sizes z) ≡ true
     allowed = as_true (sizes_allowed (as_sizes z)) spelling.allowed
-
-    pub many : length ms ≡ z.rows
-    many = simp (length-take, length-drop) (omega (arith, sizes_limited.exact))
 
     -- what find_wide answers
     module _ (w : Result ℕ Refusal) (found : (us : List ℕ) (t : Task) → paired ms us ≡ task_rows t → place_in w ≡ first_wide 0 (task_rows t)) where

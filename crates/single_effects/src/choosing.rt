@@ -88,14 +88,7 @@ fn clause_end(marks: &[u8], i: usize, known: Span) -> usize
 }
 
 // Writes a choice of the condition: from each clause the literal that the number's next digit says.
-fn put_literals(
-    out: &mut [u8],
-    c: Cursor,
-    rows: &Rows,
-    s: Span,
-    first: Pick,
-    known: Span,
-) -> Cursor
+fn put_literals(out: &mut [u8], c: Cursor, rows: &Rows, s: Span, first: Pick, known: Span) -> Cursor
     requires room { Room c out.old × Known rows.now.marks.now known }
     requires choosable { (k : Condition) × Choosable rows.now.marks.now rows.now.values.now s first k }
     ensures { (k : Condition) → Choosable rows.now.marks.now rows.now.values.now s first k
@@ -155,13 +148,7 @@ fn rows_of_one(s: Shape) -> usize
 }
 
 // Writes the effect once for each choice; where the file has no room, the rows are counted at once.
-pub fn put_effect(
-    out: &mut [u8],
-    c: Cursor,
-    rows: &Rows,
-    at: usize,
-    s: Shape,
-) -> Cursor
+pub fn put_effect(out: &mut [u8], c: Cursor, rows: &Rows, at: usize, s: Shape) -> Cursor
     requires { Room c out.old × ((e : Effect) × EffectAt rows.now.marks.now rows.now.values.now at s e) }
     ensures { (e : Effect) → EffectAt rows.now.marks.now rows.now.values.now at s e
         → Wrote out.old c (concat_map effect_rows (singled_effect e)) result out.new }

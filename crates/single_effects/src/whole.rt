@@ -12,9 +12,9 @@ ghost use Rattle.single_effects.specs.Whole.{NoEffects, Narrow, Fitted};
 use super::{choosing, shapes};
 use layout::sides::Span;
 use task::refused::Cause;
+use task::rows::Rows;
 use task::{Refusal, Sizes, limits, marks};
 use writer::Cursor;
-use task::rows::Rows;
 
 // Writes the rows of the new task: each effect with several choices by these, and the rows between such effects as they stand, since an
 // effect with one choice stays as it is. None begins from row `last` on.
@@ -59,12 +59,7 @@ fn count_rows(rows: &Rows, last: usize) -> usize
 }
 
 // Writes the file of the new task, where it fits.
-pub fn put_file(
-    out: &mut [u8],
-    rows: &Rows,
-    z: Sizes,
-    last: usize,
-) -> Result<usize, Refusal>
+pub fn put_file(out: &mut [u8], rows: &Rows, z: Sizes, last: usize) -> Result<usize, Refusal>
     requires rows { (last ≤ length rows.now.marks.now) × NoEffects rows.now.marks.now last (length rows.now.marks.now) }
     requires sizes { sizes_allowed (as_sizes z) ≡ true }
     requires narrow { (t : Task) × Narrow rows.now.marks.now rows.now.values.now t }

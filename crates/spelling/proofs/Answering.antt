@@ -2,10 +2,10 @@
 use mathlib.Core.Path.{◌≡◌, sym, ap, ◌∙◌, subst}
 use mathlib.Core.Bool.{true}
 use mathlib.Core.List.{List}
-use Prim.Native.Nat.{ℕ, ◌+◌, ◌-◌, ◌≤◌}
+use Prim.Native.Nat.{ℕ, ◌≤◌}
 use native.Mathlib.Omega.{arith}
 use Rattle.std.specs.Prelude.{Result, Ok, Err}
-use lib.ListN.{length, take, drop}
+use lib.ListN.{length}
 use Rattle.lists.proofs.Tests.{as_true}
 use Rattle.task.specs.TaskRows.{Row, task_rows}
 use Rattle.task.specs.File

@@ -44,12 +44,7 @@ fn put_task(out: &mut [u8], c: Cursor, rows: &Rows) -> Cursor
 
 // Writes the file of the spelling, where it fits. Its rows are written into an area of our own first, since the values stand after all
 // marks, and how many there are is known at the end.
-fn put_through(
-    own: &mut [u8],
-    out: &mut [u8],
-    rows: &Rows,
-    z: Sizes,
-) -> Result<usize, Refusal>
+fn put_through(own: &mut [u8], out: &mut [u8], rows: &Rows, z: Sizes) -> Result<usize, Refusal>
     requires { Shorter rows.now.marks.now rows.now.values.now × (sizes_allowed (as_sizes z) ≡ true)
         × (8 + 5 * length rows.now.marks.now ≤ length own.old) }
     ensures { let spelled = spelled_rows (paired rows.now.marks.now rows.now.values.now) in
@@ -82,11 +77,7 @@ fn put_through(
 }
 
 // Writes the file of the spelling with an area of our own of N bytes.
-fn put_by_area<const N: usize>(
-    out: &mut [u8],
-    rows: &Rows,
-    z: Sizes,
-) -> Result<usize, Refusal>
+fn put_by_area<const N: usize>(out: &mut [u8], rows: &Rows, z: Sizes) -> Result<usize, Refusal>
     requires { Shorter rows.now.marks.now rows.now.values.now × (sizes_allowed (as_sizes z) ≡ true)
         × (8 + 5 * length rows.now.marks.now ≤ N) × (N ≤ MAX_FILE) }
     ensures { let spelled = spelled_rows (paired rows.now.marks.now rows.now.values.now) in

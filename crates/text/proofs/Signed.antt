@@ -37,9 +37,6 @@ module _ (z : ℤ) (f : SFits w64 z) where
   pub below : lt_z (to_z w64 (of_z w64 z)) (pos 0) ≡ true → Below z
   below e = subst (λ (b : Bool). Sign b z) (sym (ap (λ (x : ℤ). lt_z x (pos 0)) (to_z-of_z w64 z f)) ∙ e) (sign z f)
 
-  pub not_below : lt_z (to_z w64 (of_z w64 z)) (pos 0) ≡ false → NotBelow z
-  not_below e = subst (λ (b : Bool). Sign b z) (sym (ap (λ (x : ℤ). lt_z x (pos 0)) (to_z-of_z w64 z f)) ∙ e) (sign z f)
-
   -- m is how far z is from 0
   module _ (m : ℕ) (q : m ≡ nat_abs (to_z w64 (of_z w64 z))) where
     pub minus : Below z → integer z ≡ ascii "-" ++ decimal m

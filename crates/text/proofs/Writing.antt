@@ -1,12 +1,12 @@
 -- Laws of bytes that are written: texts in turn, and a whole text.
-use mathlib.Core.Path.{◌≡◌, refl, sym, ap, ap₂, ◌∙◌}
+use mathlib.Core.Path.{◌≡◌, refl, sym, ap₂, ◌∙◌}
 use mathlib.Core.List.{List, [], ◌∷◌, ◌++◌}
 use Prim.Native.Nat.{ℕ, suc, ◌+◌, ◌/◌, ◌%◌, ◌^◌, ◌<◌, ◌≤◌}
 use native.Mathlib.Nat.{add-zero, zero-add}
 use native.Mathlib.Numerals.{add-one}
 use native.Mathlib.Omega.{arith}
 use lib.ListN.{length, get_or, take, drop, set, length-append}
-use lib.Seq.{sets, sets-eq, length-sets, set_out, take-suc, take_all, take_at}
+use lib.Seq.{sets, sets-eq, set_out, take-suc, take_at}
 use borrow.Rule.Slice.PartMut.{put_mid}
 use Rattle.std.proofs.Common.{append_assoc}
 use Rattle.std.proofs.lemmas.List.Edits.{paste_all}
@@ -25,10 +25,6 @@ pub written-append : (xs ys b : List ℕ) (at : ℕ) → written (xs ++ ys) at b
 unfolding written
 written-append xs ys b at = sets-append xs ys b at
 
-pub length-written : (xs b : List ℕ) (at : ℕ) → length (written xs at b) ≡ length b
-unfolding written
-length-written xs b at = length-sets b at xs
-
 -- a text that fits: the area is the text, and then what stood after
 pub written_whole : (xs b : List ℕ) → length xs ≤ length b → written xs 0 b ≡ xs ++ drop (length xs) b
 unfolding written
@@ -42,9 +38,6 @@ then {b} {mid} {out} {at} {j} {k} {xs} {ys} v w =
       after = omega (arith, v.after, w.after, length-append xs ys);
       area = w.area ∙ ap₂ (λ (i : ℕ) (l : List ℕ). written ys i l) v.after v.area ∙ sym (written-append xs ys b at);
     }
-
-pub same_size : {b out : List ℕ} {at k : ℕ} {xs : List ℕ} → Wrote b at xs k out → length out ≡ length b
-same_size {b} {out} {at} {k} {xs} v = ap length v.area ∙ length-written xs b at
 
 -- From the start of the area on
 
@@ -76,9 +69,6 @@ module _ (b : List ℕ) (at : ℕ) where
   pub one_byte_more : (word mid out : List ℕ) (i j k : ℕ) → i < length word
       → Wrote b at (take i word) j mid → Wrote mid j (get_or word i 0 ∷ []) k out → Wrote b at (take (i + 1) word) k out
   one_byte_more word mid out i j k h v w = rw (add-one i, take-suc word i 0 h) (then v w)
-
-  pub all_bytes : (word out : List ℕ) (i k : ℕ) → length word ≤ i → Wrote b at (take i word) k out → Wrote b at word k out
-  all_bytes word out i k h v = rw (take_all i word h) at v
 
   -- copied at once into the part of the area that begins there
   pub copied : (word part : List ℕ) (k : ℕ) → at + length word ≤ length b → k ≡ length word → part ≡ word

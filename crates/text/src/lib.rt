@@ -2,9 +2,9 @@
 // after what it was to write, so that a place beyond the area's length says how much was missing.
 #![tactic(auto)]
 
-ghost use Rattle.std.specs.Prelude.{◌≡◌, [], ◌∷◌, ◌++◌, ◌+◌, ◌^◌, ◌≤◌, ◌<◌, length, take, nat_abs};
+ghost use Rattle.std.specs.Prelude.{◌≡◌, [], ◌∷◌, ◌++◌, ◌+◌, ◌^◌, ◌≤◌, ◌<◌, length, take};
 ghost use Rattle.text.specs.Text.{decimal, integer, refused_line};
-ghost use Rattle.text.specs.Area.{Wrote, written};
+ghost use Rattle.text.specs.Area.{Wrote};
 
 // The first n elements of an area, or all where it has no more. Unlike `&area[..n]` it asks the caller for no proof.
 pub fn front<T>(area: &[T], n: usize) -> &[T]

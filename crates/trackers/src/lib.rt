@@ -62,14 +62,7 @@ fn trackers_of(
 }
 
 // The trackers of the preference at row `at`. at-end has none but in end, and its rows are not gone through.
-fn trackers_at(
-    out: &mut [u8],
-    c: Cursor,
-    rows: &Rows,
-    at: usize,
-    f: Facts,
-    last: bool,
-) -> Cursor
+fn trackers_at(out: &mut [u8], c: Cursor, rows: &Rows, at: usize, f: Facts, last: bool) -> Cursor
     requires { Room c out.old × Small f }
     ensures { Wrote out.old c (trackers_at rows.now.marks.now rows.now.values.now at f last) result out.new }
 {

@@ -5,8 +5,8 @@ ghost use Rattle.task.specs.File.{paired};
 ghost use Rattle.task.specs.Limits.{MAX_ROWS, DEADLINES};
 ghost use Rattle.translated_rows.specs.Further.{further_row, further_rows};
 
-use task::{limits, marks};
 use task::rows::Rows;
+use task::{limits, marks};
 
 fn count_row(mark: u8, value: u32) -> u32
     ensures { (result ≡ further_row (row mark value)) × (result ≤ DEADLINES) }

@@ -14,19 +14,12 @@ ghost use Rattle.translated_rows.specs.Parts.{translated_rows};
 use layout::sides;
 use layout::sides::Span;
 use places::Places;
+use task::rows::Rows;
 use task::{Sizes, limits, marks};
 use writer::Cursor;
-use task::rows::Rows;
 
 // The opening and the goal.
-fn put_opening(
-    out: &mut [u8],
-    c: Cursor,
-    rows: &Rows,
-    p: Places,
-    facts: u32,
-    normal: u32,
-) -> Cursor
+fn put_opening(out: &mut [u8], c: Cursor, rows: &Rows, p: Places, facts: u32, normal: u32) -> Cursor
     requires { Room c out.old × GoalInside rows.now.marks.now p.goal p.from × (facts ≤ MAX_FACTS) × (normal ≤ MAX_FACTS) }
     ensures { Wrote out.old c (opening_at rows.now.marks.now rows.now.values.now p.goal p.from facts normal) result out.new }
 {
@@ -66,13 +59,7 @@ fn put_all_actions(
 }
 
 // Writes the rows of the translation of the task that the rows spell.
-pub fn put_task(
-    out: &mut [u8],
-    c: Cursor,
-    rows: &Rows,
-    p: Places,
-    z: Sizes,
-) -> Cursor
+pub fn put_task(out: &mut [u8], c: Cursor, rows: &Rows, p: Places, z: Sizes) -> Cursor
     requires { Room c out.old × Found rows.now.marks.now p × Source rows.now.marks.now rows.now.values.now z.facts z.preferences }
     ensures { Wrote out.old c (translated_rows rows.now.marks.now rows.now.values.now z.facts) result out.new }
 {

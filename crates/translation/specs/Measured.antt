@@ -1,5 +1,5 @@
 -- Whether the task in a file can be translated: what translate answers where no area is too short.
-use Rattle.std.specs.Prelude.{◌≡◌, true, List, ℕ, ◌+◌, ◌-◌, Result, Ok, Err, length, take, drop}
+use Rattle.std.specs.Prelude.{◌≡◌, true, List, ℕ, Result, Ok, Err, drop}
 use Rattle.task.specs.File.{Sizes, sizes, paired, marks_of, values_of}
 use Rattle.task.specs.Check.{accepted, check}
 use Rattle.task.specs.Answers.{as_sizes, number_of}

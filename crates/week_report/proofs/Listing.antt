@@ -1,10 +1,10 @@
 -- The lines that a loop over the counts writes.
 use mathlib.Core.Path.{◌≡◌, refl, sym, ap, subst, ◌∙◌}
-use mathlib.Core.List.{List, [], ◌++◌, append_assoc, append-nil}
+use mathlib.Core.List.{List, [], ◌++◌, append_assoc}
 use Prim.Native.Nat.{ℕ, ◌+◌, ◌*◌, ◌≤◌, ◌<◌}
 use native.Mathlib.Numerals.{add-one}
 use native.Mathlib.Omega.{arith}
-use lib.ListN.{length, get_or, drop, drop_of_length-le}
+use lib.ListN.{length, get_or, drop}
 use lib.Seq.{drop-cons}
 use Rattle.lists.specs.Lists.{concat_from}
 use Rattle.text.specs.Area.{Wrote}
@@ -38,12 +38,6 @@ module _ (cs b : List ℕ) (at : ℕ) where
               append_assoc l.lines line (concat_from meeting_line (i + 1) (drop (i + 1) cs))
               ∙ ap (λ (xs : List ℕ). l.lines ++ xs) (sym here) ∙ l.rest;
         }
-
-    pub all_lines : length cs ≤ i → Wrote b at (concat_from meeting_line 0 cs) p out
-    all_lines h =
-        let e : l.lines ≡ concat_from meeting_line 0 cs =
-        sym (append-nil l.lines) ∙ ap (λ (xs : List ℕ). l.lines ++ concat_from meeting_line i xs) (sym (drop_of_length-le cs {i = i} h)) ∙ l.rest in
-        rw (← e) l.wrote
 
 -- the lines of counts that are others by name
 pub same_counts : {b out : List ℕ} {at r : ℕ} (cs ds : List ℕ) → cs ≡ ds → Wrote b at (concat_from meeting_line 0 cs) r out → Wrote b at (concat_from meeting_line 0 ds) r out

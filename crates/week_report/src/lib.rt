@@ -4,7 +4,6 @@
 ghost use Rattle.std.specs.Prelude.{◌≡◌, ◌++◌, ◌+◌, ◌*◌, ◌^◌, ◌≤◌, ◌<◌, length, Some};
 ghost use Rattle.task.specs.Limits.{MAX_PREFERENCES};
 ghost use Rattle.lists.specs.Lists.{concat_from};
-ghost use Rattle.text.specs.Text.{decimal};
 ghost use Rattle.text.specs.Area.{Wrote, written};
 ghost use Rattle.outcome.specs.Answers.{answer};
 ghost use Rattle.weekly.specs.Answers.{figures_as};

@@ -1,7 +1,7 @@
 // Rows, written into a file that has room for them, or only counted where the file has none.
 #![tactic(auto)]
 
-ghost use Rattle.std.specs.Prelude.{◌≡◌, List, [], ◌∷◌, ◌+◌, ◌*◌, ◌-◌, ◌≤◌, ◌<◌, min, length, take, drop};
+ghost use Rattle.std.specs.Prelude.{◌≡◌, List, [], ◌∷◌, ◌+◌, ◌*◌, ◌-◌, ◌≤◌, ◌<◌, min, length};
 ghost use Rattle.std.proofs.lemmas.List.Edits.{sets};
 ghost use Rattle.task.specs.Marks.{CLAUSE};
 ghost use Rattle.task.specs.TaskRows.{Row, row};
@@ -10,8 +10,8 @@ ghost use Rattle.layout.specs.Sides.{part};
 ghost use Rattle.writer.specs.Writer.{row_after, put_row, put_rows, Room, Wrote, Standing, header, Earlier};
 
 use layout::sides::Span;
-use task::{limits, marks};
 use task::rows::Rows;
+use task::{limits, marks};
 
 // One row more than a file may have: a count that has come this far stays, and every loop that counts ends.
 pub const OVERFULL: usize = limits::MAX_ROWS + 1;

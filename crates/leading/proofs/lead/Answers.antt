@@ -1,5 +1,4 @@
 -- What the readers of a condition and of effects give is where the action leads, by `Leading`.
-use borrow.Author.Rules.{rules}
 use borrow.Author.Tests.{not-true, not-false}
 use mathlib.Core.Path.{◌≡◌, ap, ◌∙◌, subst}
 use Prim.Native.Nat.{ℕ, ◌+◌}

@@ -53,8 +53,11 @@ run_list-requires c =
     let steps = c.args.steps.now in
     let z = as_sizes c.args.z in record {
       rows = (search rules, rw c.rows_of.ensures.marks (actions_fit file steps z c.requires (search rules) (omega (arith, c.if-known-steps.false, c.steps_known-known.ensures))));
-      source = (task_of file, rw (c.rows_of.ensures.marks, c.rows_of.ensures.values)
-          (source file steps z c.requires (search rules) (omega (arith, c.if-known-steps.false, c.steps_known-known.ensures))));
+      source = (
+        task_of file,
+        rw (c.rows_of.ensures.marks, c.rows_of.ensures.values)
+            (source file steps z c.requires (search rules) (omega (arith, c.if-known-steps.false, c.steps_known-known.ensures))),
+      );
     }
 
 pub returns : goal.returns

@@ -2,13 +2,10 @@
 use mathlib.Core.Path.{ap, ◌∙◌}
 use Rattle.std.specs.Prelude.{Err}
 use Rattle.std.proofs.lemmas.Result.{err_from_is_err_and}
-use native.Mathlib.Omega.{arith}
-use lib.ListN.{length-take, length-drop}
 use Rattle.task.specs.Answers.{as_sizes}
 use Rattle.task.proofs.Answered.{Limited, answered}
 use Rattle.task.specs.File.{task_of}
 use Rattle.single_effects.proofs.Answering.{turned_down, allowed, too_wide, narrow, put}
-use borrow.Author.Rules.{rules}
 use Rattle.single_effects.proofs.single.Goals as goal
 use Rattle.single_effects.proofs.single.Goals.{In_ok-z}
 

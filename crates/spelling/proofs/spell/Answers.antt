@@ -7,7 +7,6 @@ use lib.ListN.{length-take, length-drop}
 use Rattle.task.specs.Answers.{as_sizes}
 use Rattle.task.proofs.Answered.{Limited, answered}
 use Rattle.spelling.proofs.Answering.{turned_down, allowed, fewer, put}
-use borrow.Author.Rules.{rules}
 use Rattle.spelling.proofs.spell.Goals as goal
 use Rattle.spelling.proofs.spell.Goals.{In_ok-z}
 

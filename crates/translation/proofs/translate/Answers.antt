@@ -1,7 +1,6 @@
 -- A task that can't be translated is refused as it is measured (`not_translated`); any other is written as put_file does (`put`).
 use mathlib.Core.Path.{refl, sym, ap, ◌∙◌, subst⁻¹}
 use Prim.Native.Nat.{ℕ}
-use borrow.Author.Rules.{rules}
 use Rattle.std.specs.Prelude.{Result, Ok, Err}
 use Rattle.std.proofs.lemmas.Result.{err_from_is_err_and}
 use Rattle.task.specs.Answers.{as_sizes}

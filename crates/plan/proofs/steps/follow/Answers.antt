@@ -69,8 +69,10 @@ step-moved-requires c =
     let cost : c.looked_on.result.cost < AMPLE = omega (arith, c.looked_on.ensures.1, c.loop-i.invariant.little, short, c.loop-i.invariant.steps_left) in
     let looked : c.looked_on.result.looked < AMPLE =
     omega (arith, c.looked_on.ensures.2, c.watch-seen.ensures.upper_bound, c.loop-i.invariant.few_literals, short, c.loop-i.invariant.steps_left) in record {
-      rows = (known (length c.args.rows.now.marks.now) c.args.starts.now c.requires.all_below.0 c.step_index.result (entry (goal.at.step-moved-requires c).After-step_index) _ refl,
-        record { cost = cost; looked = looked });
+      rows = (
+        known (length c.args.rows.now.marks.now) c.args.starts.now c.requires.all_below.0 c.step_index.result (entry (goal.at.step-moved-requires c).After-step_index) _ refl,
+        record { cost = cost; looked = looked },
+      );
       some_action = (c.requires.start.0, c.step_index.result, action (goal.at.step-moved-requires c).After-step_index c.requires.start.0 c.requires.start.1);
     }
 
