@@ -65,7 +65,8 @@ pub fn explore(
             nodes: n,
             limit,
         };
-        let Some(more) = expanding::expand(marks, values, starts, turn, &mut *words, &mut *index) else {
+        let Some(more) = expanding::expand(marks, values, starts, turn, &mut *words, &mut *index)
+        else {
             return Ended::Full(limit);
         };
         n = more;

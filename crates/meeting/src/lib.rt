@@ -46,7 +46,13 @@ fn add(words: &mut [u64], index: &mut Index, slot: usize, n: usize, x: Packed)
 }
 
 // A node is met: how many there are then, or none where a new one has no room.
-pub fn meet(words: &mut [u64], index: &mut Index, n: usize, limit: usize, x: Packed) -> Option<usize>
+pub fn meet(
+    words: &mut [u64],
+    index: &mut Index,
+    n: usize,
+    limit: usize,
+    x: Packed,
+) -> Option<usize>
     requires { (n ≤ limit) × (limit ≤ MAX_NODES)
         × ((taken : ℕ → Bool) × Held (nodes_in words.old index.old.table index.old.tree n taken)) }
     ensures met { let before = nodes_in words.old index.old.table index.old.tree n in

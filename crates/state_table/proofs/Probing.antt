@@ -1,16 +1,15 @@
 -- The way of a state through the table.
 use mathlib.Core.Path.{◌≡◌, refl, sym, ◌∙◌, ap, subst}
-use mathlib.Core.Bool.{true, false, ◌&&◌}
+use mathlib.Core.Bool.{true, false}
 use mathlib.Core.List.{List}
-use Prim.Native.Nat.{ℕ, zero, suc, ◌+◌, ◌-◌, ◌*◌, ◌%◌, ◌<◌}
+use Prim.Native.Nat.{ℕ, zero, suc, ◌+◌, ◌-◌, ◌%◌, ◌<◌}
 use native.Mathlib.Decide.{ℕ_discrete, dec_lt}
 use native.Mathlib.Omega.{arith}
 use lib.Dec.{eqb}
-use lib.ListN.{length, get_or}
+use lib.ListN.{length}
 use borrow.Author.Tests.{eqb-true, eq-eqb}
 use Rattle.lists.proofs.Tests.{both_true, not_both}
 use Rattle.state.specs.declared.State.{State}
-use Rattle.node_words.specs.Words.{packed_at}
 use Rattle.state_table.specs.Table.{state_at, home_of, slot_of, entry_at, Way, taken, Tabled, stops_at, Finds, Probed}
 use Rattle.state_table.proofs.Counting.{all-taken}
 

@@ -1,5 +1,5 @@
 use borrow.Author.Rules.{rules}
-use mathlib.Core.Path.{◌≡◌, refl, sym, ◌∙◌, ap, subst}
+use mathlib.Core.Path.{◌≡◌, refl, sym, ap, subst}
 use mathlib.Core.Bool.{Bool}
 use Prim.Native.Nat.{ℕ, suc, ◌<◌, ◌≤◌}
 use native.Mathlib.Omega.{arith}
@@ -8,7 +8,7 @@ use Rattle.meaning.specs.Task.{Task}
 use Rattle.node_words.specs.Words.{packed_at}
 use Rattle.node_words.specs.declared.Packed.{Packed}
 use Rattle.std.specs.Prelude.{Option, IfSome}
-use Rattle.meeting.specs.Meeting.{Nodes, nodes_in, wanted, Held}
+use Rattle.meeting.specs.Meeting.{Nodes, nodes_in, wanted}
 use Rattle.expanding.specs.declared.Trial.{Trial}
 use Rattle.expanding.specs.Expanding.{Listed, Tried, Expanding, Expanded}
 use Rattle.expanding.proofs.Trying.{row_inside, row_opens, tried_first, trial, tried_on, tried_out, tried_all}

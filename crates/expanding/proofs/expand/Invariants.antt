@@ -1,11 +1,9 @@
 -- Action by action, by `Trying`.
-use Prim.Native.Nat.{ℕ, ◌-◌}
+use Prim.Native.Nat.{ℕ}
 use mathlib.Core.Bool.{Bool}
-use lib.ListN.{length}
 use Rattle.meaning.specs.Task.{Task}
 use Rattle.meeting.specs.Meeting.{nodes_in}
 use Rattle.expanding.specs.Expanding.{Listed, Expanding}
-use Rattle.expanding.specs.declared.Turn.{Turn}
 use Rattle.expanding.proofs.Trying.{TriedTo}
 use Rattle.expanding.proofs.expand.Given as goal
 
