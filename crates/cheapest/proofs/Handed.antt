@@ -14,11 +14,11 @@ use Rattle.searching.specs.Search.{node_at}
 use Rattle.node_words.specs.Words.{packed_at, nodes_of}
 use Rattle.node_words.specs.Words
 use Rattle.node_words.proofs.Lists.{nodes_length, node_is}
-use Rattle.searched.specs.Searched.{Answer, found, no_plan, full, refused, Searched, search_file, Lent}
+use Rattle.searched.specs.Searched.{Searched, search_file, Lent}
 use Rattle.searched.specs.Claim.{Claim}
 use Rattle.searched.proofs.Claimed.{search_claim}
 use Rattle.searched.proofs.Small.{Small, kept_small}
-use Rattle.finding.specs.Finding.{as_searched, sought_by, as_sought, plan_after}
+use Rattle.finding.specs.Finding.{as_searched, as_sought, plan_after}
 use Rattle.finding.specs.declared.Sought.{Sought}
 use Rattle.finding.specs.declared.Sought.TheVariants.{Found, NoPlan, Full}
 use Rattle.nodes.specs.declared.Node.{Node}

@@ -1,6 +1,6 @@
 -- The answer is that of `search_file`: a refusal or the search on the two parts of the file, by `Answered`.
 use borrow.Author.Rules.{rules}
-use mathlib.Core.Path.{◌≡◌, refl, ap, ◌∙◌, subst⁻¹}
+use mathlib.Core.Path.{◌≡◌, ap, ◌∙◌}
 use mathlib.Core.Bool.{true}
 use mathlib.Core.List.{List}
 use Prim.Native.Nat.{ℕ}
@@ -9,9 +9,8 @@ use Rattle.lists.proofs.Tests.{as_t}
 use Rattle.task.specs.File.{task_of}
 use Rattle.task.specs.Check
 use Rattle.task.specs.Check.{check}
-use Rattle.std.specs.Prelude.{Result, Ok, Err}
+use Rattle.std.specs.Prelude.{Ok, Err}
 use Rattle.std.proofs.lemmas.Result.{err_from_is_err_and}
-use Rattle.task.specs.declared.Refusal.{Refusal}
 use Rattle.task.specs.declared.refused.Cause.TheVariants.{Preferences, Limit}
 use Rattle.task.specs.declared.Sizes.{Sizes}
 use Rattle.task.specs.Answers.{as_sizes}
@@ -21,7 +20,6 @@ use Rattle.layout.proofs.Parts.{marks_of, values_of, parts_rows, parts_spelled}
 use Rattle.searching.specs.Search.{explore}
 use Rattle.searched.specs.Searched.{limit_allowed, search_file}
 use Rattle.searched.proofs.Made.{Made, made}
-use Rattle.finding.specs.declared.Sought.{Sought}
 use Rattle.finding.specs.Finding.{Ending}
 use Rattle.finding.proofs.Answered.{refused_answers, made_answers, turned_down, accepted, preferred, limited, searches, few_actions}
 use Rattle.finding.proofs.find.Goals as goal
