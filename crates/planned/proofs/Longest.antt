@@ -2,13 +2,13 @@
 use mathlib.Core.Path.{◌≡◌, refl, ap}
 use mathlib.Core.Bool.{true, ◌&&◌, true≢false}
 use mathlib.Core.List.{List, [], ◌∷◌, ◌++◌}
-use Prim.Native.Nat.{ℕ, ◌+◌, ◌≤◌}
+use Prim.Native.Nat.{ℕ, ◌≤◌}
 use native.Mathlib.Omega.{arith}
 use lib.ListN.{length, drop, length-append}
 use borrow.Author.Tests.{lt-ltb}
 use Rattle.lists.proofs.Tests.{as_t, as_true, both_true}
 use Rattle.meaning.specs.Task.{Task}
-use Rattle.meaning.specs.Meaning.{State, opening, after, action_at, applies, runs, final, is_true, keeps_rules, cost, solves}
+use Rattle.meaning.specs.Meaning.{State, opening, after, action_at, applies, runs, final, is_true, keeps_rules, solves}
 use Rattle.meaning.proofs.WellFormed.{action_count}
 use Rattle.task.specs.File.{Sizes, task_of}
 use Rattle.task.specs.Check

@@ -1,5 +1,5 @@
 -- Action by action, by `Trying`.
-use Prim.Native.Nat.{ℕ, ◌-◌}
+use Prim.Native.Nat.{ℕ}
 use mathlib.Core.Bool.{Bool}
 use Rattle.meaning.specs.Task.{Task}
 use Rattle.meeting.specs.Meeting.{nodes_in}

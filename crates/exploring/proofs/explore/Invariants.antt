@@ -1,6 +1,6 @@
 -- Turn by turn, by `Turning`.
 use mathlib.Core.Bool.{Bool}
-use Prim.Native.Nat.{ℕ, ◌-◌}
+use Prim.Native.Nat.{ℕ}
 use Rattle.meaning.specs.Task.{Task}
 use Rattle.meeting.specs.Meeting.{nodes_in}
 use Rattle.expanding.specs.Expanding.{Listed}

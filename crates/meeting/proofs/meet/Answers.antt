@@ -1,7 +1,7 @@
 -- By the entry of the state's slot: `met_known`, `met_full` and `met_new`.
 use borrow.Author.Rules.{rules}
 use mathlib.Core.Path.{◌≡◌, subst}
-use Prim.Native.Nat.{suc, ◌+◌, ◌-◌}
+use Prim.Native.Nat.{suc, ◌+◌}
 use native.Mathlib.Omega.{arith}
 use Rattle.node_words.specs.Words.{state_of}
 use Rattle.state.specs.declared.State.{State}
