@@ -21,10 +21,7 @@ fn settle(rt: &impl Print, file: &[u8], amounts: &[u8; 16]) -> io::Result<()> {
 pub fn settle_next(rt: &impl Print, vectors: &mut impl Read) -> io::Result<bool> {
     let mut task = [0u8; ROOM];
     let mut amounts = [0u8; 16];
-    let Some(n) = records::next_record(&mut *vectors, &mut task) else {
-        return Ok(false);
-    };
-    let Some(m) = records::next_record(vectors, &mut amounts) else {
+    let Some((n, m)) = records::next_two(vectors, &mut task, &mut amounts) else {
         return Ok(false);
     };
     if m < 16 {

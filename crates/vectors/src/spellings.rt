@@ -30,10 +30,7 @@ fn spell_front(rt: &impl Print, file: &[u8], buf: &mut [u8], room: usize) -> io:
 pub fn spell_next(rt: &impl Print, vectors: &mut impl Read) -> io::Result<bool> {
     let mut task = [0u8; ROOM];
     let mut area = [0u8; ROOM];
-    let Some(n) = records::next_record(&mut *vectors, &mut task) else {
-        return Ok(false);
-    };
-    let Some(room) = records::next_record(vectors, &mut area) else {
+    let Some((n, room)) = records::next_two(vectors, &mut task, &mut area) else {
         return Ok(false);
     };
     spell_front(rt, text::front(&task, n), &mut area, room)

@@ -57,10 +57,7 @@ fn write_read(rt: &impl Print, text: &[u8]) -> io::Result<()> {
 pub fn walk_next(rt: &impl Print, vectors: &mut impl Read) -> io::Result<bool> {
     let mut task = [0u8; ROOM];
     let mut text = [0u8; limits::MAX_TEXT + 1];
-    let Some(n) = records::next_record(&mut *vectors, &mut task) else {
-        return Ok(false);
-    };
-    let Some(m) = records::next_record(vectors, &mut text) else {
+    let Some((n, m)) = records::next_two(vectors, &mut task, &mut text) else {
         return Ok(false);
     };
     write_read(rt, text::front(&text, m))?;

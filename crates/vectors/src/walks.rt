@@ -33,10 +33,7 @@ fn write_walked(rt: &impl Print, walked: Result<Walked, Refusal>) -> io::Result<
 pub fn walk_next(rt: &impl Print, vectors: &mut impl Read) -> io::Result<bool> {
     let mut task = [0u8; ROOM];
     let mut plan = [0u8; ROOM];
-    let Some(n) = records::next_record(&mut *vectors, &mut task) else {
-        return Ok(false);
-    };
-    let Some(m) = records::next_record(vectors, &mut plan) else {
+    let Some((n, m)) = records::next_two(vectors, &mut task, &mut plan) else {
         return Ok(false);
     };
     write_walked(rt, plan::walk(text::front(&task, n), text::front(&plan, m)))?;
