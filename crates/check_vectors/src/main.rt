@@ -2,8 +2,8 @@
 #![tactic(auto)]
 
 use std::io;
-use vectors::Family;
+use vectors::checks;
 
 fn main(rt: HostRuntime) -> io::Result<()> {
-    vectors::run(&rt, Family::Checks)
+    vectors::run(&rt, |rt, vectors| checks::check_next(rt, vectors))
 }

@@ -2,8 +2,8 @@
 #![tactic(auto)]
 
 use std::io;
-use vectors::Family;
+use vectors::plans;
 
 fn main(rt: HostRuntime) -> io::Result<()> {
-    vectors::run(&rt, Family::Plans)
+    vectors::run(&rt, |rt, vectors| plans::report_next(rt, vectors))
 }

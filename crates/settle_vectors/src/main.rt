@@ -2,8 +2,8 @@
 #![tactic(auto)]
 
 use std::io;
-use vectors::Family;
+use vectors::amounts;
 
 fn main(rt: HostRuntime) -> io::Result<()> {
-    vectors::run(&rt, Family::Amounts)
+    vectors::run(&rt, |rt, vectors| amounts::settle_next(rt, vectors))
 }

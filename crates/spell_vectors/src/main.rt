@@ -2,8 +2,8 @@
 #![tactic(auto)]
 
 use std::io;
-use vectors::Family;
+use vectors::spellings;
 
 fn main(rt: HostRuntime) -> io::Result<()> {
-    vectors::run(&rt, Family::Spellings)
+    vectors::run(&rt, |rt, vectors| spellings::spell_next(rt, vectors))
 }

@@ -2,8 +2,8 @@
 #![tactic(auto)]
 
 use std::io;
-use vectors::Family;
+use vectors::texts;
 
 fn main(rt: HostRuntime) -> io::Result<()> {
-    vectors::run(&rt, Family::Texts)
+    vectors::run(&rt, |rt, vectors| texts::walk_next(rt, vectors))
 }

@@ -2,8 +2,8 @@
 #![tactic(auto)]
 
 use std::io;
-use vectors::Family;
+use vectors::walks;
 
 fn main(rt: HostRuntime) -> io::Result<()> {
-    vectors::run(&rt, Family::Walks)
+    vectors::run(&rt, |rt, vectors| walks::walk_next(rt, vectors))
 }
