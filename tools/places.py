@@ -14,7 +14,7 @@ ROOT = os.path.dirname(os.path.dirname(os.path.abspath(__file__)))
 PLACES = [
     (1, 'own enums with a case for a failure or for nothing',
      r'enum \w+ \{[^}]*\b(Refused|Stopped|Missing|Nothing|Unsolved|NoneSolves|None|NoPlan)\b[^}]*\}'),
-    (1, 'numbers for refusals', r'refused::[A-Z_]+|number: u8'),
+    (1, 'numbers for refusals', r'refused::[A-Z_]{2,}|number: u8'),
     (1, 'numbers for marks', r'marks::[A-Z_]+ =>|marks::[A-Z_]+\.\.=marks'),
     (1, 'a flag or a size of 0 beside a value', r'pub allowed: bool|step: 0, size: 0|0 < l\.size|pub wide: usize'),
     (2, 'functions that make a refusal', r'\bfn refuse\('),

@@ -37,13 +37,6 @@ fn put_fact(
     put_if(&mut *out, k, b, fact, in_second)
 }
 
-fn test_bit(w: u64, i: u32) -> bool
-    requires { i ≤ 63 }
-    ensures { result ≡ bit w i }
-{
-    (w >> i) & 1 == 1
-}
-
 // Writes the rows of the facts from `base` on that are bits of two words, from bit to bit.
 fn put_word(out: &mut [u8], c: Cursor, a: u8, b: u8, base: u32, first: u64, second: u64) -> Cursor
     requires { Room c out.old × (base ≤ 64) }
@@ -53,8 +46,8 @@ fn put_word(out: &mut [u8], c: Cursor, a: u8, b: u8, base: u32, first: u64, seco
     let mut rest = first | second;
     while rest != 0 {
         let n = u64::trailing_zeros(rest);
-        let in_first = test_bit(first, n);
-        let in_second = test_bit(second, n);
+        let in_first = state::test_bit(first, n);
+        let in_second = state::test_bit(second, n);
         k = put_fact(&mut *out, k, a, b, base + n, in_first, in_second);
         rest = rest & !(1 << n);
     }
