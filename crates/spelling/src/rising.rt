@@ -1,5 +1,5 @@
 // Rows of two sets of facts, written by rising fact.
-ghost use Rattle.std.specs.Prelude.{◌≡◌, ◌≤◌};
+ghost use Rattle.std.specs.Prelude.{◌≤◌};
 ghost use Rattle.task.specs.TaskRows.{row};
 ghost use Rattle.state.specs.Member.{bit, member};
 ghost use Rattle.writer.specs.Writer.{Room, Wrote};
