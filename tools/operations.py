@@ -118,9 +118,9 @@ def families(name):
     tests/compare holds the library to."""
     for path in files('crates/vectors/src/*.rt'):
         if called(name) and calls(path, called(name)):
-            family = re.search(rf'Family::(\w+) => {os.path.basename(path)[:-3]}::', code('crates/vectors/src/lib.rt'))
+            step = rf'vectors::run\(&rt, \|rt, vectors\| {os.path.basename(path)[:-3]}::\w+\('  # what a program hands to the loop
             yield from (os.path.relpath(main, 'crates').split('/')[0] for main in files('crates/*/src/main.rt')
-                        if family and calls(main, 'vectors::run') and f'Family::{family[1]})' in code(main))
+                        if calls(main, 'vectors::run') and re.search(step, code(main)))
     for path in files('tests/compare/src/*.rs'):
         if re.search(rf'\bhold\("{name}",', code(path)) and run_by_compare(path, 'vectors'):
             yield f'../tests/{name}'
