@@ -118,9 +118,10 @@ def families(name):
     tests/compare holds the library to."""
     for path in files('crates/vectors/src/*.rt'):
         if called(name) and calls(path, called(name)):
-            step = rf'vectors::run\(&rt, \|rt, vectors\| {os.path.basename(path)[:-3]}::\w+\('  # what a program hands to the loop
+            step = rf'Family::(\w+) => run_by\(rt, \|rt, vectors\| {os.path.basename(path)[:-3]}::\w+\('  # what is handed to the loop
+            family = re.search(step, code('crates/vectors/src/lib.rt'))
             yield from (os.path.relpath(main, 'crates').split('/')[0] for main in files('crates/*/src/main.rt')
-                        if calls(main, 'vectors::run') and re.search(step, code(main)))
+                        if family and f'vectors::run(&rt, Family::{family[1]})' in code(main))
     for path in files('tests/compare/src/*.rs'):
         if re.search(rf'\bhold\("{name}",', code(path)) and run_by_compare(path, 'vectors'):
             yield f'../tests/{name}'

@@ -1,13 +1,12 @@
 -- A list of words after a search.
 use Rattle.std.specs.Prelude.{◌≡◌, List, ℕ, ◌*◌, length, drop, Result, Ok, Err}
-use Rattle.task.specs.declared.Refusal.{Refusal}
 use Rattle.searching.specs.Search.{Node}
 use Rattle.node_words.specs.Words.{nodes_of}
 use Rattle.finding.specs.declared.Sought.{Sought}
 use Rattle.finding.specs.declared.Sought.TheVariants.{Found, NoPlan, Full}
 
--- how many nodes are kept
-abbrev pub nodes_in : Result Sought Refusal → ℕ
+-- how many nodes are kept, none after a refusal of any kind
+abbrev pub nodes_in : {E : Type 0} → Result Sought E → ℕ
 nodes_in (Ok (Found r n)) = n
 nodes_in (Ok (NoPlan n)) = n
 nodes_in (Ok (Full n)) = n

@@ -11,8 +11,8 @@ use finding::Sought;
 use node_words::limits;
 use task::Refusal;
 
-// How many nodes are kept.
-pub fn nodes_in(sought: Result<Sought, Refusal>) -> usize
+// How many nodes are kept; none after any refusal.
+pub fn nodes_in<E: Drop>(sought: Result<Sought, E>) -> usize
     ensures { result ≡ nodes_in sought }
 {
     match sought {

@@ -3,6 +3,7 @@
 
 ghost use Rattle.std.specs.Prelude.{◌≤◌, length, IfSome};
 
+use refusals::Told;
 use std::fs::{File, OpenOptions};
 use std::io::{Read, Write};
 use std::rt::Files;
@@ -138,9 +139,10 @@ pub fn write_or_say(rt: &(impl Files + Print), name: &[u8], bytes: &[u8]) -> io:
 }
 
 // Prints the line of a refusal.
-pub fn say_refused(rt: &impl Print, f: Refusal) -> io::Result<()> {
+pub fn say_refused(rt: &impl Print, f: impl Told) -> io::Result<()> {
     let mut line = [0u8; 64];
-    let k = text::put_refused(&mut line, 0, f.cause.number() as u64, f.place as u64);
+    let told = f.told();
+    let k = text::put_refused(&mut line, 0, told.number as u64, told.place as u64);
     rt.write_all(text::front(&line, k))
 }
 
@@ -156,8 +158,9 @@ pub fn say_written(
     }
 }
 
-// Prints what `make` makes of the file `task` and another file, whose bytes are read into a buffer, in an area. The buffer of the task
-// has room for more than any accepted file, so a longer one gets the answer of the whole file.
+// Prints what `make` makes of the file `task` and another file, whose bytes are read into a buffer, in an area. Both files are read
+// before either is found missing. The buffer of the task has room for more than any accepted file, so a longer one gets the answer of
+// the whole file.
 pub fn say_made<F>(
     rt: &(impl Files + Print),
     name: &[u8],
@@ -170,10 +173,9 @@ where
     requires { F.IsAlwaysCallable make }
 {
     let mut task = [0u8; LARGE];
-    let Some(n) = read(rt, b"task", &mut task) else {
-        return say_missing(rt);
-    };
-    let Some(m) = read(rt, name, &mut *buf) else {
+    let of_task = read(rt, b"task", &mut task);
+    let of_other = read(rt, name, &mut *buf);
+    let (Some(n), Some(m)) = (of_task, of_other) else {
         return say_missing(rt);
     };
     let written = make(text::front(&task, n), text::front(&*buf, m), &mut *out);

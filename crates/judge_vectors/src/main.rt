@@ -2,8 +2,8 @@
 #![tactic(auto)]
 
 use std::io;
-use vectors::plans;
+use vectors::Family;
 
 fn main(rt: HostRuntime) -> io::Result<()> {
-    vectors::run(&rt, |rt, vectors| plans::report_next(rt, vectors))
+    vectors::run(&rt, Family::Plans)
 }

@@ -2,8 +2,8 @@
 #![tactic(auto)]
 
 use std::io;
-use vectors::texts;
+use vectors::Family;
 
 fn main(rt: HostRuntime) -> io::Result<()> {
-    vectors::run(&rt, |rt, vectors| texts::walk_next(rt, vectors))
+    vectors::run(&rt, Family::Texts)
 }

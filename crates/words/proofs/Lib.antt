@@ -8,3 +8,5 @@ pub mod Done
 pub mod Bits
 pub mod Counts
 pub mod Sought
+-- What callers are told of a refusal
+pub mod Told

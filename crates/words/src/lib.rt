@@ -2,24 +2,22 @@
 #![tactic(auto)]
 
 ghost use Rattle.std.specs.Prelude.{◌≡◌, ◌<◌, ◌≤◌, get_or, take, Some, Ok};
-ghost use Rattle.task.specs.Answers.{number_of, answer as of_checked};
 ghost use Rattle.task.specs.Limits.{MAX_PREFERENCES};
-ghost use Rattle.plan.specs.Answers.{as_verdict, walked_as};
+ghost use Rattle.plan.specs.Answers.{as_verdict};
 ghost use Rattle.settling.specs.Answers.{settled_as};
 ghost use Rattle.plan.specs.declared.Verdict.TheVariants.{Solved};
 ghost use Rattle.lost_run.specs.Run.{run_as};
-ghost use Rattle.lost.specs.Answers.{losses_as};
-ghost use Rattle.outcome.specs.Answers.{answer as as_outcome};
-ghost use Rattle.pddl_text.specs.Answers.{answer as as_texts};
-ghost use Rattle.weekly.specs.Answers.{figures_as, reckoned_as};
-ghost use Rattle.words.specs.Numbers.{call, refusal_in, answered, of_check, of_outcome, of_texts, of_verdict, of_walk, of_settle, of_figures, of_week, of_lost, of_losses, of_sought};
+ghost use Rattle.weekly.specs.Answers.{figures_as};
+ghost use Rattle.words.specs.Numbers.{call, refusal_in, answered, of_verdict, of_settle, of_figures, of_lost, of_sought};
+ghost use Rattle.words.specs.Told.{of_result, of_sizes, of_length, of_lengths, of_walked, of_worth, of_reckoned, of_run, of_end};
 
 use finding::Sought;
 use lost_run::Run;
 use pddl_text::Lengths;
 use plan::{Solution, Verdict, Walked};
+use refusals::{Numbered, Told};
 use settling::Worth;
-use task::{Refusal, Sizes, limits};
+use task::{Sizes, limits};
 use weekly::Amounts;
 
 // Word 1 of a verdict.
@@ -42,13 +40,13 @@ const NONE: u64 = 2;
 const FULL: u64 = 3;
 
 // Writes a refusal into an answer of N words, and returns its number.
-fn put_refusal<const N: usize>(f: Refusal, answer: &mut [u64; N]) -> u32
+fn put_refusal<const N: usize>(f: Numbered, answer: &mut [u64; N]) -> u32
     requires { 1 ≤ N }
-    ensures { call result answer.new ≡ refusal_in N (number_of f.cause) f.place }
+    ensures { call result answer.new ≡ refusal_in N f.number f.place }
 {
     answer.fill(0);
     answer[0] = f.place as u64;
-    f.cause.number() as u32
+    f.number as u32
 }
 
 // Writes up to six values of an answer that is no refusal.
@@ -59,8 +57,8 @@ fn put_values(answer: &mut [u64; 8], a: u64, b: u64, c: u64, d: u64, e: u64, f: 
     0
 }
 
-pub fn put_checked(c: Result<Sizes, Refusal>, answer: &mut [u64; 8]) -> u32
-    ensures { call result answer.new ≡ of_check (of_checked c) }
+pub fn put_checked<E: Told>(c: Result<Sizes, E>, answer: &mut [u64; 8]) -> u32
+    ensures { call result answer.new ≡ of_result 8 of_sizes E.told c }
 {
     match c {
         Ok(z) => put_values(
@@ -72,25 +70,25 @@ pub fn put_checked(c: Result<Sizes, Refusal>, answer: &mut [u64; 8]) -> u32
             0,
             0,
         ),
-        Err(f) => put_refusal(f, answer),
+        Err(f) => put_refusal(f.told(), answer),
     }
 }
 
-pub fn put_outcome(o: Result<usize, Refusal>, answer: &mut [u64; 8]) -> u32
-    ensures { call result answer.new ≡ of_outcome (as_outcome o) }
+pub fn put_outcome<E: Told>(o: Result<usize, E>, answer: &mut [u64; 8]) -> u32
+    ensures { call result answer.new ≡ of_result 8 of_length E.told o }
 {
     match o {
         Ok(n) => put_values(answer, n as u64, 0, 0, 0, 0, 0),
-        Err(f) => put_refusal(f, answer),
+        Err(f) => put_refusal(f.told(), answer),
     }
 }
 
-pub fn put_texts(o: Result<Lengths, Refusal>, answer: &mut [u64; 8]) -> u32
-    ensures { call result answer.new ≡ of_texts (as_texts o) }
+pub fn put_texts<E: Told>(o: Result<Lengths, E>, answer: &mut [u64; 8]) -> u32
+    ensures { call result answer.new ≡ of_result 8 of_lengths E.told o }
 {
     match o {
         Ok(n) => put_values(answer, n.domain as u64, n.problem as u64, 0, 0, 0, 0),
-        Err(f) => put_refusal(f, answer),
+        Err(f) => put_refusal(f.told(), answer),
     }
 }
 
@@ -112,12 +110,12 @@ fn put_verdict(v: Verdict, looked: u64, answer: &mut [u64; 8]) -> u32
     }
 }
 
-pub fn put_walked(w: Result<Walked, Refusal>, answer: &mut [u64; 8]) -> u32
-    ensures { call result answer.new ≡ of_walk (walked_as w) }
+pub fn put_walked<E: Told>(w: Result<Walked, E>, answer: &mut [u64; 8]) -> u32
+    ensures { call result answer.new ≡ of_result 8 of_walked E.told w }
 {
     match w {
         Ok(x) => put_verdict(x.verdict, x.looked, answer),
-        Err(f) => put_refusal(f, answer),
+        Err(f) => put_refusal(f.told(), answer),
     }
 }
 
@@ -128,12 +126,12 @@ fn put_worth(w: Worth, answer: &mut [u64; 8]) -> u32
     put_values(answer, w.metric, w.utility.cast_unsigned(), 0, 0, 0, 0)
 }
 
-pub fn put_settled(s: Result<Worth, Refusal>, answer: &mut [u64; 8]) -> u32
-    ensures { call result answer.new ≡ of_settle (settled_as s) }
+pub fn put_settled<E: Told>(s: Result<Worth, E>, answer: &mut [u64; 8]) -> u32
+    ensures { call result answer.new ≡ of_result 8 of_worth E.told s }
 {
     match s {
         Ok(w) => put_worth(w, answer),
-        Err(f) => put_refusal(f, answer),
+        Err(f) => put_refusal(f.told(), answer),
     }
 }
 
@@ -161,8 +159,8 @@ fn put_amounts(a: Amounts, answer: &mut [u64; 24]) -> u32
     0
 }
 
-pub fn put_week(r: Result<Option<Amounts>, Refusal>, answer: &mut [u64; 24]) -> u32
-    ensures { call result answer.new ≡ of_week (reckoned_as r) }
+pub fn put_week<E: Told>(r: Result<Option<Amounts>, E>, answer: &mut [u64; 24]) -> u32
+    ensures { call result answer.new ≡ of_result 24 of_reckoned E.told r }
 {
     match r {
         Ok(Some(a)) => put_amounts(a, answer),
@@ -170,7 +168,7 @@ pub fn put_week(r: Result<Option<Amounts>, Refusal>, answer: &mut [u64; 24]) -> 
             *answer = [0; 24];
             0
         }
-        Err(f) => put_refusal(f, answer),
+        Err(f) => put_refusal(f.told(), answer),
     }
 }
 
@@ -184,12 +182,12 @@ fn put_run(x: Run, answer: &mut [u64; 8]) -> u32
     }
 }
 
-pub fn put_losses(l: Result<Run, Refusal>, answer: &mut [u64; 8]) -> u32
-    ensures { call result answer.new ≡ of_losses (losses_as l) }
+pub fn put_losses<E: Told>(l: Result<Run, E>, answer: &mut [u64; 8]) -> u32
+    ensures { call result answer.new ≡ of_result 8 of_run E.told l }
 {
     match l {
         Ok(x) => put_run(x, answer),
-        Err(f) => put_refusal(f, answer),
+        Err(f) => put_refusal(f.told(), answer),
     }
 }
 
@@ -204,11 +202,11 @@ fn put_found(s: Sought, answer: &mut [u64; 8]) -> u32
     }
 }
 
-pub fn put_sought(s: Result<Sought, Refusal>, answer: &mut [u64; 8]) -> u32
-    ensures { call result answer.new ≡ of_sought s }
+pub fn put_sought<E: Told>(s: Result<Sought, E>, answer: &mut [u64; 8]) -> u32
+    ensures { call result answer.new ≡ of_result 8 of_end E.told s }
 {
     match s {
         Ok(x) => put_found(x, answer),
-        Err(f) => put_refusal(f, answer),
+        Err(f) => put_refusal(f.told(), answer),
     }
 }

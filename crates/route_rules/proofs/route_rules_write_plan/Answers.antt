@@ -1,12 +1,13 @@
 -- The words are put_outcome's of what plan_text::write answers, and the area is as it leaves it.
 use mathlib.Core.Path.{ap, ◌∙◌}
 use Rattle.words.specs.Numbers.{of_outcome}
+use Rattle.words.proofs.Told.{outcome_told}
 use Rattle.route_rules.proofs.route_rules_write_plan.Goals as goal
 
 pub returns : goal.returns
 returns c =
     let t = c.write in
     record {
-      answer_after = c.put_outcome.ensures ∙ ap of_outcome t.ensures.result_value;
+      answer_after = c.put_outcome.ensures ∙ outcome_told t.result ∙ ap of_outcome t.ensures.result_value;
       out_after = t.ensures.out_after;
     }
