@@ -35,9 +35,9 @@ fn past_false(rows: &Rows, at: usize, low: u64, high: u64) -> usize
     ensures lower_bound { (at ≤ result) × (result ≤ length rows.now.marks.now) }
     ensures past_false { PastFalse (member (record { low = low; high = high })) rows.now.marks.now rows.now.values.now at result }
 {
-    for i in at..rows.marks.len() {
-        if rows.marks[i] != false_mark(low, high, rows.value(i)) {
-            return i;
+    for (n, mark) in rows.marks[at..].iter().enumerate() {
+        if *mark != false_mark(low, high, rows.value(at + n)) {
+            return at + n;
         }
     }
     rows.marks.len()

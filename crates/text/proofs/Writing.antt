@@ -6,11 +6,7 @@ use native.Mathlib.Nat.{add-zero, zero-add}
 use native.Mathlib.Numerals.{add-one}
 use native.Mathlib.Omega.{arith}
 use lib.ListN.{length, get_or, take, drop, set, length-append}
-use lib.Seq.{sets, sets-eq, set_out, take-suc, take_at}
-use borrow.Rule.Slice.PartMut.{put_mid}
-use Rattle.std.proofs.Common.{append_assoc}
-use Rattle.std.proofs.lemmas.List.Edits.{paste_all}
-use Rattle.std.proofs.lemmas.Slice.{put_mid-paste}
+use lib.Seq.{sets, sets-eq, length-sets, set_out, take-suc, take_at, length-take-le}
 use Rattle.text.specs.Text.{digit, decimal}
 use Rattle.text.specs.Area.{written, Wrote, Filled}
 use Rattle.text.proofs.Decimal.{decimal_one, decimal_more, few_digits, nineteen_digits}
@@ -24,6 +20,10 @@ sets-append (x ∷ xs) ys b at =
 pub written-append : (xs ys b : List ℕ) (at : ℕ) → written (xs ++ ys) at b ≡ written ys (at + length xs) (written xs at b)
 unfolding written
 written-append xs ys b at = sets-append xs ys b at
+
+pub length-written : (xs b : List ℕ) (at : ℕ) → length (written xs at b) ≡ length b
+unfolding written
+length-written xs b at = length-sets b at xs
 
 -- a text that fits: the area is the text, and then what stood after
 pub written_whole : (xs b : List ℕ) → length xs ≤ length b → written xs 0 b ≡ xs ++ drop (length xs) b
@@ -70,18 +70,14 @@ module _ (b : List ℕ) (at : ℕ) where
       → Wrote b at (take i word) j mid → Wrote mid j (get_or word i 0 ∷ []) k out → Wrote b at (take (i + 1) word) k out
   one_byte_more word mid out i j k h v w = rw (add-one i, take-suc word i 0 h) (then v w)
 
-  -- copied at once into the part of the area that begins there
-  pub copied : (word part : List ℕ) (k : ℕ) → at + length word ≤ length b → k ≡ length word → part ≡ word
-      → Wrote b at word (at + length word) (put_mid at k b part)
-  unfolding written
-  copied word part k h n e =
-      record {
-        after = refl;
-        area = put_mid-paste at k b part word (length word) e (sym n) refl
-            ∙ paste_all b at word (length word) refl
-            ∙ sym (append_assoc (take at b) word (drop (at + length word) b))
-            ∙ sym (sets-eq word b at h);
-      }
+  -- its bytes stored one by one
+  pub stored_more : (word out : List ℕ) (i : ℕ) → i < length word → out ≡ written (take i word) at b
+      → set out (at + i) (get_or word i 0) ≡ written (take (i + 1) word) at b
+  stored_more word out i h e =
+      let n : length (take i word) ≡ i = length-take-le i word (omega arith) in
+      let x : ℕ = get_or word i 0 in
+      (one_byte_more word out (set out (at + i) x) i (at + i) (at + i + 1) h (record { after = omega (arith, n); area = e })
+      (stored out (at + i) x (set out (at + i) x) refl)).area
 
 -- A number: its last digit after the others
 

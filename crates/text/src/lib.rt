@@ -4,7 +4,7 @@
 
 ghost use Rattle.std.specs.Prelude.{◌≡◌, [], ◌∷◌, ◌++◌, ◌+◌, ◌^◌, ◌≤◌, ◌<◌, length, take};
 ghost use Rattle.text.specs.Text.{decimal, integer, refused_line};
-ghost use Rattle.text.specs.Area.{Wrote};
+ghost use Rattle.text.specs.Area.{written, Wrote};
 
 // The first n elements of an area, or all where it has no more. Unlike `&area[..n]` it asks the caller for no proof.
 pub fn front<T>(area: &[T], n: usize) -> &[T]
@@ -22,6 +22,17 @@ pub fn put_byte(out: &mut [u8], at: usize, byte: u8) -> usize
         out[at] = byte;
     }
     at + 1
+}
+
+// Copies a word, for which there is room. The library's copy would have the archive for C call memmove, and a short word be tested for
+// an overlap.
+fn copy_bytes(out: &mut [u8], at: usize, word: &[u8])
+    requires { at + length word.now ≤ length out.old }
+    ensures { out.new ≡ written word.now at out.old }
+{
+    for i in 0..word.len() {
+        out[at + i] = word[i];
+    }
 }
 
 // Writes the bytes of a word one by one, those that fit. It goes through the whole word: in a caller whose word is written out
@@ -44,7 +55,7 @@ pub fn put_bytes(out: &mut [u8], at: usize, word: &[u8]) -> usize
 {
     let end = at + word.len();
     if end <= out.len() {
-        out[at..end].copy_from_slice(word);
+        copy_bytes(&mut *out, at, word);
         return end;
     }
     put_each(out, at, word)

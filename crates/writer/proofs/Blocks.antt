@@ -3,9 +3,10 @@ use mathlib.Core.Path.{◌≡◌, refl, sym, ap, ◌∙◌}
 use mathlib.Core.List.{List, [], ◌∷◌, ◌++◌, append_assoc}
 use Prim.Native.Nat.{ℕ, suc, ◌+◌, ◌*◌, ◌<◌, ◌≤◌}
 use native.Mathlib.Nat.{add-zero}
+use native.Mathlib.Numerals.{add-one}
 use native.Mathlib.Omega.{arith}
-use lib.ListN.{length, take, drop, set, length-map, length-drop}
-use lib.Seq.{sets, sets-eq, paste, set-set, set_comm, drop_at, take_all, take-append_seam, length-take-le}
+use lib.ListN.{length, get_or, take, drop, set, length-map, length-drop}
+use lib.Seq.{sets, sets-eq, length-sets, set-set, set_comm, get_or-set_other, get_or-drop, drop_at, take-suc, take_all, take-append_seam, length-take-le}
 use borrow.Rule.Slice.PartMut.{put_mid}
 use Rattle.std.proofs.lemmas.Slice.{put_mid-paste}
 use borrow.Author.Tests.{lt-ltb}
@@ -49,6 +50,11 @@ sets_read vs l k h =
     ∙ ap (take (length vs)) (drop_at (take k l) (vs ++ rest) k (length-take-le k l (omega arith)))
     ∙ take-append_seam vs rest
 
+-- and below it, what stood there
+pub sets_below : (vs l : List ℕ) (k i : ℕ) → i < k → get_or (sets l k vs) i 0 ≡ get_or l i 0
+sets_below [] l k i h = refl
+sets_below (v ∷ vs) l k i h = sets_below vs (set l k v) (suc k) i (omega arith) ∙ get_or-set_other l k i v 0 (λ e. omega arith)
+
 -- Bytes copied at once
 
 -- into a part of the area
@@ -57,20 +63,41 @@ sets_part a k xs ys zs e n h =
     let l : a + length zs ≤ length xs = omega arith in
     put_mid-paste a k xs ys zs k e refl (sym n) ∙ (λ i. (take a xs ++ take_all k zs (omega arith) i) ++ drop (a + sym n i) xs) ∙ sym (sets-eq zs xs a l)
 
--- k bytes of a source, from `from` on
-pub copied_in : (a from m n k : ℕ) (xs ys source : List ℕ) → ys ≡ take n (drop from source) → m ≡ k → n ≡ k → from + k ≤ length source → a + k ≤ length xs
-    → put_mid a m xs ys ≡ sets xs a (take k (drop from source))
-copied_in a from m n k xs ys source e p q h l =
-    let d : length (take k (drop from source)) ≡ k = length-take-le k (drop from source) (omega (arith, length-drop from source)) in
-    sets_part a m xs ys (take k (drop from source)) (e ∙ ap (λ (j : ℕ). take j (drop from source)) q) (d ∙ sym p) (omega arith)
+-- Bytes copied in turn
 
--- k bytes of the area itself
-pub pasted_in : (a from n k : ℕ) (xs : List ℕ) → n ≡ k → from + k ≤ length xs → a + k ≤ length xs → paste xs a (drop from xs) n ≡ sets xs a (take k (drop from xs))
-pasted_in a from n k xs q h l =
-    let s : List ℕ = take k (drop from xs) in
-    let d : length s ≡ k = length-take-le k (drop from xs) (omega (arith, length-drop from xs)) in
-    let f : a + length s ≤ length xs = omega arith in
-    (λ i. (take a xs ++ take (q i) (drop from xs)) ++ drop (a + (q ∙ sym d) i) xs) ∙ sym (sets-eq s xs a f)
+-- one byte more of those that stand from `from` on
+one_more : (l source : List ℕ) (at from j : ℕ) → from + j < length source
+    → set (sets l at (take j (drop from source))) (at + j) (get_or source (from + j) 0) ≡ sets l at (take (j + 1) (drop from source))
+one_more l source at from j h =
+    let xs : List ℕ = drop from source in
+    let v : ℕ = get_or source (from + j) 0 in
+    let m : j < length xs = omega (arith, length-drop from source) in
+    let e : take (j + 1) xs ≡ take j xs ++ (v ∷ []) =
+    ap (λ (n : ℕ). take n xs) (add-one j) ∙ take-suc xs j 0 m ∙ ap (λ (u : ℕ). take j xs ++ (u ∷ [])) (get_or-drop from source j 0) in
+    sym (ap (sets l at) e
+    ∙ sets-append (take j xs) (v ∷ []) l at
+    ∙ ap (λ (n : ℕ). set (sets l at (take j xs)) (at + n) v) (length-take-le j xs (omega arith)))
+
+-- j bytes of so many are copied
+pub record Copying (l source : List ℕ) (at from many : ℕ) (out : List ℕ) (j : ℕ) : Type 0 where
+  pub few : j ≤ many
+  pub so_far : out ≡ sets l at (take j (drop from source))
+
+module _ {l source : List ℕ} {at from many : ℕ} {out : List ℕ} {j : ℕ} (t : Copying l source at from many out j) where
+  pub size : length out ≡ length l
+  size = ap length t.so_far ∙ length-sets l at (take j (drop from source))
+
+  pub copied_on : j < many → from + j < length source → (v : ℕ) → v ≡ get_or source (from + j) 0 → Copying l source at from many (set out (at + j) v) (j + 1)
+  copied_on h m v e =
+      record {
+        few = omega arith;
+        so_far = (λ z. set (t.so_far z) (at + j) (e z)) ∙ one_more l source at from j m;
+      }
+
+  pub copied_all : many ≤ j → out ≡ sets l at (take many (drop from source))
+  copied_all h =
+      let e : j ≡ many = omega (arith, t.few) in
+      t.so_far ∙ ap (λ (n : ℕ). sets l at (take n (drop from source))) e
 
 -- Rows put in turn
 

@@ -1,7 +1,7 @@
 // Rows, written into a file that has room for them, or only counted where the file has none.
 #![tactic(auto)]
 
-ghost use Rattle.std.specs.Prelude.{◌≡◌, List, [], ◌∷◌, ◌+◌, ◌*◌, ◌-◌, ◌≤◌, ◌<◌, min, length};
+ghost use Rattle.std.specs.Prelude.{◌≡◌, List, [], ◌∷◌, ◌+◌, ◌*◌, ◌-◌, ◌≤◌, ◌<◌, min, length, take, drop};
 ghost use Rattle.std.proofs.lemmas.List.Edits.{sets};
 ghost use Rattle.task.specs.Marks.{CLAUSE};
 ghost use Rattle.task.specs.TaskRows.{Row, row};
@@ -56,6 +56,16 @@ pub fn put_row(out: &mut [u8], c: Cursor, mark: u8, value: u32) -> Cursor
     advance_by(c, 1)
 }
 
+// Copies so many bytes, from byte `from` of the source to byte `at`. The library's copy would have the archive for C call memmove.
+fn copy_bytes(out: &mut [u8], at: usize, source: &[u8], from: usize, many: usize)
+    requires { (at + many ≤ length out.old) × (from + many ≤ length source.now) }
+    ensures { out.new ≡ sets out.old at (take many (drop from source.now)) }
+{
+    for j in 0..many {
+        out[at + j] = source[from + j];
+    }
+}
+
 // Writes rows of the source, for the first of which there is room.
 fn store_rows(out: &mut [u8], c: Cursor, rows: &Rows, s: Span)
     requires { (c.next < c.rows) × Room c out.old × (s.from ≤ s.to) × (s.to ≤ length rows.now.marks.now) }
@@ -65,9 +75,9 @@ fn store_rows(out: &mut [u8], c: Cursor, rows: &Rows, s: Span)
     let from = s.from;
     let many = usize::min(s.to - from, c.rows - i);
     let at = 8 + i;
-    out[at..at + many].copy_from_slice(&rows.marks[from..from + many]);
+    copy_bytes(&mut *out, at, rows.marks, from, many);
     let beside = 8 + c.rows + 4 * i;
-    out[beside..beside + 4 * many].copy_from_slice(&rows.values[4 * from..4 * (from + many)]);
+    copy_bytes(&mut *out, beside, rows.values, 4 * from, 4 * many);
 }
 
 // Copies rows of the source.
@@ -86,6 +96,16 @@ pub fn copy_rows(out: &mut [u8], c: Cursor, rows: &Rows, s: Span) -> Cursor
     advance_by(c, many)
 }
 
+// Copies so many bytes of the area itself, from byte `from` to byte `at`, which lies after them.
+fn repeat_bytes(out: &mut [u8], at: usize, from: usize, many: usize)
+    requires { (from + many ≤ at) × (at + many ≤ length out.old) }
+    ensures { out.new ≡ sets out.old at (take many (drop from out.old)) }
+{
+    for j in 0..many {
+        out[at + j] = out[from + j];
+    }
+}
+
 // Writes rows of the file once more, for the first of which there is room.
 fn store_again(out: &mut [u8], c: Cursor, s: Span)
     requires { (c.next < c.rows) × Room c out.old × Earlier c s }
@@ -94,10 +114,9 @@ fn store_again(out: &mut [u8], c: Cursor, s: Span)
     let i = c.next;
     let from = s.from;
     let many = usize::min(s.to - from, c.rows - i);
-    let to = from + many;
+    repeat_bytes(&mut *out, 8 + i, 8 + from, many);
     let values = 8 + c.rows;
-    out.copy_within(8 + from..8 + to, 8 + i);
-    out.copy_within(values + 4 * from..values + 4 * to, values + 4 * i);
+    repeat_bytes(&mut *out, values + 4 * i, values + 4 * from, 4 * many);
 }
 
 // Writes rows again that were written before.

@@ -7,9 +7,9 @@ use Rattle.state.specs.Member.{member}
 use Rattle.reading.specs.Conditions.{reading, evaluate_at}
 use Rattle.reading.proofs.conditions.past_false.Given as goal
 
-abbrev pub invariant-loop-i : goal.invariant-loop-i
-invariant-loop-i l =
-    (l.at ≤ l.i) × (l.i ≤ length l.rows.marks.now)
-    × ((n : ℕ)
-    → evaluate_at (member (record { low = l.low; high = l.high })) (reading true false n) l.rows.marks.now l.rows.values.now l.at
-    ≡ evaluate_at (member (record { low = l.low; high = l.high })) (reading true false (n + (l.i - l.at))) l.rows.marks.now l.rows.values.now l.i)
+abbrev pub invariant-loop-n : goal.invariant-loop-n
+invariant-loop-n l =
+    (l.at + l.n ≤ length l.rows.marks.now)
+    × ((m : ℕ)
+    → evaluate_at (member (record { low = l.low; high = l.high })) (reading true false m) l.rows.marks.now l.rows.values.now l.at
+    ≡ evaluate_at (member (record { low = l.low; high = l.high })) (reading true false (m + (l.at + l.n - l.at))) l.rows.marks.now l.rows.values.now (l.at + l.n))
