@@ -58,10 +58,9 @@ fn main(rt: HostRuntime) -> io::Result<()> {
     // file.
     let mut task = [0u8; files::LARGE];
     let mut planned = [0u8; limits::MAX_TEXT + 1];
-    let Some(n) = files::read(&rt, b"task", &mut task) else {
-        return files::say_missing(&rt);
-    };
-    let Some(m) = files::read(&rt, b"planned", &mut planned) else {
+    let of_task = files::read(&rt, b"task", &mut task);
+    let of_planned = files::read(&rt, b"planned", &mut planned);
+    let (Some(n), Some(m)) = (of_task, of_planned) else {
         return files::say_missing(&rt);
     };
     let mut compiled = [0u8; files::LARGE];

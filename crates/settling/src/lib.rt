@@ -44,6 +44,10 @@ pub fn settle_on(file: &[u8], z: Sizes, cost: u64, met: u64) -> Result<Worth, Re
 pub fn settle(file: &[u8], cost: u64, met: u64) -> Result<Worth, Refusal>
     ensures { settled_as result ≡ settled file.now cost (bit met) }
 {
-    let z = task::check(file)?;
+    // Document 01 names let .. else, and not ?, as the form of this place.
+    let checked = task::check(file);
+    let Ok(z) = checked else {
+        return Err(checked.unwrap_err());
+    };
     settle_on(file, z, cost, met)
 }
